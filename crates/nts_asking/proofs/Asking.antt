@@ -8,7 +8,7 @@ use Rattle.nts_search.specs.Kinds.{goal_kind_of}
 use Rattle.nts_model.specs.declared.labels.ClauseHead.TheVariants as clause_head
 use Rattle.nts_model.specs.declared.labels.ListHead.TheVariants as list
 use Rattle.nts_model.specs.declared.labels.Label.TheVariants as label
-use Rattle.nts_model.specs.Terms.Trees.{Tree, empty, more, node, children, row_length, row_at, IsInRow, IsRow, any_label, is_canonical, IsClosed}
+use Rattle.nts_model.specs.Terms.Trees.{Tree, empty, more, node, children, row_length, row_at, IsInRow, IsRow, any_label, is_canonical, is_alias, IsClosed}
 use Rattle.nts_model.specs.Terms.Scoping.{IsWellBound}
 use Rattle.nts_model.specs.Derivations.Related.{no_sorts, unbound}
 use Rattle.nts_model.specs.Derivations.Sequents.{HasClosedStatement, HasClosedStatements}
@@ -30,6 +30,7 @@ use Rattle.nts_table.specs.Tables.{IsTable}
 use Rattle.nts_unify.specs.Lawful.{content_of-extended}
 use Rattle.nts_table.specs.TableLaws.{IsTable-extended}
 use Rattle.nts_delegate.specs.ClausesKept.{AreClausesReady-kept}
+use Rattle.nts_theory.specs.Telling.{IsTraitStatement, IsTraitGoal}
 use Rattle.nts_asking.specs.Evaluation.{IsAdmitted, IsAskedGoal}
 use Rattle.nts_delegate.specs.Candidates.{IsAskedIn}
 use Rattle.nts_terms.specs.Handles.{HoldsGoal}
@@ -73,6 +74,8 @@ pub record AreTests (ts : List Tree) (g : Goal) (b : Binder PredicateKind) (r : 
   pub args_facts : args ≡ flags_of (tree_at ts r.args.node)
   pub env_closed : is_some env.escaping ≡ false
   pub args_closed : is_some args.escaping ≡ false
+  pub env_plain : env.has_alias ≡ false
+  pub goal_plain : goal.has_alias ≡ false
   pub env_names : env.has_canonical ≡ false
   pub goal_names : goal.has_canonical ≡ false
   pub env_well_bound : IsWellBound (tree_at ts g.param_env.node)
@@ -105,14 +108,25 @@ trait_is_asked ts g b r env goal args t =
       };
     }
 
-trait_kind : (x : Bool) → (if x then coinductive_trait else other_goal) ≡ normalization → ⊥
+pub trait_kind : (x : Bool) → (if x then coinductive_trait else other_goal) ≡ normalization → ⊥
 trait_kind true e = cc e
 trait_kind false e = cc e
+
+-- no alias stands in it
+trait_plain : (ts : List Tree) (g : Goal) (b : Binder PredicateKind) (r : TraitRef) (env goal args : TypeFlags) → AreTests ts g b r env goal args → IsTraitGoal (tree_at ts g.param_env.node) (tree_at ts g.predicate.node)
+trait_plain ts g b r env goal args t =
+    let env_none : any_label is_alias (tree_at ts g.param_env.node) ≡ false = sym (ap (λ f. f.has_alias) t.env_facts) ∙ t.env_plain in
+    let goal_none : any_label is_alias (tree_at ts g.predicate.node) ≡ false = sym (ap (λ f. f.has_alias) t.goal_facts) ∙ t.goal_plain in
+    record {
+      statement = subst (λ v. IsTraitStatement (statement_of v)) (sym (t.says ∙ ap (λ v. node (label.List list.Binder) (more (tree_at ts b.vars.node) (more (tree_of_statement ts v) empty))) t.is_trait)) tt;
+      no_alias = or_false (any_label is_alias (tree_at ts g.param_env.node)) (any_label is_alias (tree_at ts g.predicate.node) || false) env_none (or_false (any_label is_alias (tree_at ts g.predicate.node)) false goal_none refl);
+    }
 
 pub trait_asked : (ts : List Tree) (g : Goal) (b : Binder PredicateKind) (r : TraitRef) (env goal args : TypeFlags) → AreTests ts g b r env goal args → IsAskedGoal ts g
 trait_asked ts g b r env goal args t =
     record {
       asked = trait_is_asked ts g b r env goal args t;
+      trait_goal = trait_plain ts g b r env goal args t;
       plain = λ z. subst (λ v. statement_kind z (statement_of v) ≢ normalization) (sym (t.says ∙ ap (λ v. node (label.List list.Binder) (more (tree_at ts b.vars.node) (more (tree_of_statement ts v) empty))) t.is_trait)) (trait_kind (z r.def_id.number));
     }
 
@@ -130,6 +144,7 @@ IsAskedGoal-extended {a} {b} {g} e h =
     let k = h.asked.holds in
     record {
       asked = IsAskedIn-extended e h.asked;
+      trait_goal = rw (e.kept g.param_env.node k.env.within, e.kept g.predicate.node k.predicate.within) h.trait_goal;
       plain = λ z. subst (λ v. statement_kind z (statement_of v) ≢ normalization) (sym (e.kept g.predicate.node k.predicate.within)) (h.plain z);
     }
 

@@ -13,3 +13,6 @@ pub mod Searching
 pub mod Unchanged
 pub mod BackEdges
 pub mod Rounds
+pub mod ClauseRules
+pub mod FirstTables
+pub mod Cuts

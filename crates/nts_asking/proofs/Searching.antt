@@ -156,7 +156,7 @@ later_push [] (z ∷ ys) x y h k = absurd h
 later_push (z ∷ xs) [] x y h k = absurd h
 later_push (z ∷ xs) (w ∷ ys) x y h k = (h.0, later_push xs ys x y h.1 k)
 
-later_reversed : (xs ys : List StackEntry) → AreLater xs ys → AreLater (reverse xs) (reverse ys)
+pub later_reversed : (xs ys : List StackEntry) → AreLater xs ys → AreLater (reverse xs) (reverse ys)
 later_reversed [] [] h = tt
 later_reversed [] (y ∷ ys) h = absurd h
 later_reversed (x ∷ xs) [] h = absurd h

@@ -14,6 +14,7 @@ use Rattle.nts_model.specs.Tables.Resolving.{Knows, deeply_resolved, IsSound}
 use Rattle.nts_model.specs.Tables.Holding.{Continues}
 use Rattle.nts_model.specs.Derivations.Handlers.{AreValuesOf}
 use Rattle.nts_model.specs.Lists.{Among}
+use Rattle.nts_theory.specs.Telling.{IsTraitGoal}
 use Rattle.nts_model.specs.Derivations.Rules.{normalization, statement_kind, statement_of}
 use Rattle.nts_model.specs.Tables.Passing.{TreePasses, PassesQueries}
 use Rattle.nts_store.specs.declared.nodes.NodeId.{NodeId}
@@ -79,9 +80,10 @@ asked_terms ts g = tree_at ts g.param_env.node ∷ tree_at ts g.predicate.node �
 pub record AsksOnly (a b : List Tree) (g h : Goal) : Type 0 where
   pub labels : (P : Label → Bool) → PassesQueries P → ((t : Tree) → Among (asked_terms a g) t → TreePasses P t) → (t : Tree) → Among (asked_terms b h) t → TreePasses P t
 
--- a goal that is asked of a handler, and that normalizes no alias
+-- a goal that is asked of a handler: a trait goal without aliases. It normalizes none
 pub record IsAskedGoal (ts : List Tree) (g : Goal) : Type 0 where
   pub asked : IsAskedIn ts g
+  pub trait_goal : IsTraitGoal (tree_at ts g.param_env.node) (tree_at ts g.predicate.node)
   pub plain : (is_coinductive : ℕ → Bool) → statement_kind is_coinductive (statement_of (tree_at ts g.predicate.node)) ≢ normalization
 
 -- a type variable

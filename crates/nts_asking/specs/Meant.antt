@@ -29,14 +29,14 @@ use Rattle.nts_response.specs.Forms.{response_at}
 use Rattle.nts_model.specs.Canonical.Inputs.{PositionKind}
 use Rattle.nts_model.specs.Answers.Responses.{answer_sequent}
 use Rattle.nts_delegate.specs.Offered.{source_of, candidate_of, candidates_of}
-use Rattle.nts_asking.specs.Telling.{StandsForAll, Tells, Refutes, Outcomes, Replies, Fails, Reaches, RefusesOne, Asked, Refused, QueryTells, QueryRefutes}
+use Rattle.nts_asking.specs.Telling.{Tells, Refutes, Outcomes, Replies, Fails, Reaches, RefusesOne, Asked, Refused, QueryTells, QueryRefutes}
 use Rattle.nts_theory.specs.Telling.{IsPlainResponse, goals_with, IsBegun}
 use Rattle.nts_asking.specs.Evaluation.{goals_at}
 use Rattle.nts_asking.specs.Running.{StaysProved}
 use Rattle.nts_certainty.specs.declared.certainty.Certainty.{Certainty}
 use Rattle.nts_certainty.specs.declared.sources.HasChanged.{HasChanged}
 use Rattle.nts_asking.specs.Answering.{Evaluates, is_yes, verdict_at}
-use Rattle.nts_theory.specs.Telling.{Verdict}
+use Rattle.nts_theory.specs.Telling.{Verdict, StandsForAll}
 
 -- what a handler means: where its terms stand, and what its rules are there
 pub record Rules : Type 1 where
@@ -151,7 +151,7 @@ HaveOutcomes h mode a t g qs xs vs = Outcomes h (mode_of mode) (content_of a t.e
 
 abbrev pub CandidatesTell : Handler → TypingMode → List Tree → Table → Goal → List GenericArg → List CandidateData → List Tree → Canonical Response → Type 0
 CandidatesTell h mode a t g qs xs b r =
-    ((vs : List Verdict) × HaveOutcomes h mode a t g qs xs vs × ((ks : List PositionKind) → StandsForAll ks vs (verdict_at b r)))
+    ((vs : List Verdict) × HaveOutcomes h mode a t g qs xs vs × StandsForAll (trees_of a qs) vs (verdict_at b r))
     ⊎ (is_yes r.value.certainty ≡ false) × IsPlainResponse (content_of a t.entries) (trees_of a qs) (response_at b r)
 
 -- .. by one of them

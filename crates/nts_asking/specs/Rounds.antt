@@ -2,6 +2,7 @@
 use Rattle.std.specs.Global.{Box}
 use Rattle.std.specs.Prelude.{◌≡◌, ◌≢◌, List, [], ◌∷◌, ◌++◌, All, Option, Some, None, Result, Ok, Err}
 use Rattle.nts_model.specs.Terms.Trees.{Tree}
+use Rattle.nts_certainty.specs.declared.certainty.Certainty.TheVariants as certainty
 use Rattle.nts_store.specs.declared.fault.EvalError.{EvalError}
 use Rattle.nts_store.specs.declared.fault.EvalError.TheVariants as error
 use Rattle.nts_store.specs.Growth.{tree_at}
@@ -36,13 +37,14 @@ pub record BeginsQuery (a b : List Tree) (i : CanonicalInput) (t : Table) (g : G
   pub args : All (IsArgOf b t.entries) qs
   pub values : trees_of b qs ≡ first_values (kinds_of i)
 
--- a query before its first round: a cycle back to it is answered something that says nothing
+-- a query before its first round: a cycle back to it is answered a yes that says nothing
 pub record IsFirstRound (ts : List Tree) (i : CanonicalInput) (x : Round) : Type 0 where
   pub input : x.input ≡ i
   pub answer : Canonical Response
   pub is : x.provisional ≡ Some answer
   pub fits : IsAnswerTo ts (kinds_of i) answer
   pub nothing : SaysNothing (kinds_of i) (response_at ts answer)
+  pub certain : answer.value.certainty ≡ certainty.Yes
 
 -- the entry was the newest one, and is taken off the stack
 pub record IsTakenOff (g h : SearchGraph) (x : StackEntry) : Type 0 where

@@ -10,12 +10,9 @@ use Rattle.nts_theory.specs.Telling as tells
 use Rattle.nts_theory.specs.Telling.{Queries, Verdict}
 use Rattle.nts_asking.specs.Asking.{first_table, first_values}
 
--- nothing is said yet of the kinds that the positions of an answer have which changes nothing
+-- the first tables of queries
 abbrev pub queries : Queries
-queries = record { table = first_table; values = first_values; agrees = λ ks ls. Unit {0} }
-
-abbrev pub StandsForAll : List PositionKind → List Verdict → Verdict → Type 0
-StandsForAll ks vs v = tells.StandsForAll queries ks vs v
+queries = record { table = first_table; values = first_values }
 
 abbrev pub Tells : Handler → Mode → List PositionKind → Content → Tree → Tree → List Tree → Verdict → Type 0
 Tells h mode ks c e g qs v = tells.Tells queries h mode ks c e g qs v

@@ -8,3 +8,5 @@ pub mod DecidingExamples
 pub mod ErasingExamples
 pub mod OpenGoalExample
 pub mod ToldExamples
+pub mod RefutationExamples
+pub mod SolutionExamples

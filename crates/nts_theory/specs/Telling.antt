@@ -1,9 +1,15 @@
 -- What the answers to goals rest on: the candidates of a goal, each tried to its end, and below them the goals that they ask
 -- for, each in a query of its own. A cycle is answered what an earlier round of its head found, which is told likewise, or nothing.
-use Rattle.std.specs.Prelude.{◌≡◌, ◌⊎◌, ◌↔◌, ℕ, ◌+◌, ◌≤◌, Bool, true, false, List, [], ◌∷◌, ◌++◌, map, length, get_or}
+use Rattle.std.specs.Prelude.{◌≡◌, ◌⊎◌, ◌↔◌, ℕ, ◌+◌, ◌≤◌, Bool, true, false, List, [], ◌∷◌, ◌++◌, map, length, get_or, Some}
 use Rattle.nts_model.specs.declared.labels.Relation.TheVariants as relation
 use Rattle.nts_model.specs.declared.labels.Sort.{Sort}
-use Rattle.nts_model.specs.Terms.Trees.{Tree, empty}
+use Rattle.nts_model.specs.declared.labels.VariableKind.TheVariants as variable
+use Rattle.nts_model.specs.declared.labels.Leaf.{Leaf}
+use Rattle.nts_model.specs.declared.labels.Leaf.TheVariants as leaf
+use Rattle.nts_model.specs.declared.labels.ClauseHead.TheVariants as clause
+use Rattle.nts_model.specs.declared.labels.Label.{Label}
+use Rattle.nts_model.specs.declared.labels.Label.TheVariants as label
+use Rattle.nts_model.specs.Terms.Trees.{Tree, empty, node, label_of, any_label, is_alias}
 use Rattle.nts_model.specs.Tables.Contents.{Content}
 use Rattle.nts_model.specs.Tables.Resolving.{Knows, IsSound, deeply_resolved}
 use Rattle.nts_model.specs.Tables.Levels.{AreCurrent}
@@ -13,15 +19,15 @@ use Rattle.nts_model.specs.Tables.SubUnifying.{SharesSubRoot}
 use Rattle.nts_model.specs.Derivations.Related.{Constraint, pair}
 use Rattle.nts_model.specs.Lists.{Among}
 use Rattle.nts_model.specs.Derivations.Sequents.{Source, type_relating, normalize_goal, inductive, Premise}
-use Rattle.nts_model.specs.Derivations.Rules.{Mode, coherence}
+use Rattle.nts_model.specs.Derivations.Rules.{Mode, coherence, statement_of}
 use Rattle.nts_model.specs.Terms.Substitutions.{leaf_tree, filled}
 use Rattle.nts_model.specs.Canonical.Numbered.{position}
 use Rattle.nts_model.specs.Derivations.Handlers.{Handler, Candidate, IsAsked, constraint_by, premise_by}
 use Rattle.nts_model.specs.Refutation.Choosing.{Freshens, EquatesAll, IsCandidateMet}
 use Rattle.nts_model.specs.Refutation.Forcing.{Adds, AddsAll}
-use Rattle.nts_model.specs.Refutation.Opening.{entered_table, opened_in}
+use Rattle.nts_model.specs.Refutation.Opening.{entered_table, opened_in, placeholder_in}
 use Rattle.nts_model.specs.Searching.Driving.{unconstrained}
-use Rattle.nts_model.specs.Canonical.Inputs.{Input, IsInput, CanonicalInput, PositionKind, canonical_of, originals}
+use Rattle.nts_model.specs.Canonical.Inputs.{Input, IsInput, CanonicalInput, PositionKind, type_variable, integer_variable, float_variable, const_variable, region_variable, placeholder, canonical_of, originals}
 use Rattle.nts_model.specs.Answers.Applying.{IsProperContent}
 use Rattle.nts_model.specs.Derivations.Proving.{HoldsTerms, AreConstraintsOf}
 use Rattle.nts_model.specs.Answers.Responses.{Findings, AreFindings, Response, response_of, IsResponseTo, Applies, RefusesResponse}
@@ -31,12 +37,10 @@ pub record Verdict : Type 0 where
   pub response : Response
   pub is_yes : Bool
 
--- the table of a query at first, where its input has these kinds, and what stands for the positions there; and which kinds
--- the positions of an answer may have that changes nothing
-pub record Queries : Type 1 where
+-- the table of a query at first, where its input has these kinds, and what stands for the positions there
+pub record Queries : Type 0 where
   pub table : List PositionKind → Content
   pub values : List PositionKind → List Tree
-  pub agrees : List PositionKind → List PositionKind → Type 0
 
 -- these are the sub roots of a table: two variables have one exactly if they are of one class
 abbrev pub AreClassesOf : Content → (ℕ → ℕ) → Type 0
@@ -79,10 +83,37 @@ pub record IsIdentityAnswer (r : Response) : Type 0 where
   pub hidden : (let x = r.findings in x.hidden ≡ [])
   pub open_goals : (let x = r.findings in x.open_goals ≡ [])
 
--- one of the verdicts stands for all: it is a yes that changes nothing, or all are equal to it
-abbrev pub StandsForAll : Queries → List PositionKind → List Verdict → Verdict → Type 0
-StandsForAll Q ks vs v =
-    Among vs v × ((v.is_yes ≡ true) × IsIdentityAnswer v.response × (let r = v.response in Q.agrees ks r.kinds) ⊎ ((w : Verdict) → Among vs w → w ≡ v))
+-- the leaf may stand for a position of this kind: a variable of that kind, or the placeholder
+abbrev pub IsLeafOfKind : PositionKind → Leaf → Type 0
+IsLeafOfKind (type_variable u r) l = (n : ℕ) × (l ≡ leaf.Variable variable.Ty n)
+IsLeafOfKind integer_variable l = (n : ℕ) × (l ≡ leaf.Variable variable.Int n)
+IsLeafOfKind float_variable l = (n : ℕ) × (l ≡ leaf.Variable variable.Float n)
+IsLeafOfKind (const_variable u) l = (n : ℕ) × (l ≡ leaf.Variable variable.Const n)
+IsLeafOfKind (region_variable u) l = (n : ℕ) × (l ≡ leaf.Variable variable.Region n)
+IsLeafOfKind (placeholder s u n) l = l ≡ placeholder_in u s n
+
+abbrev pub IsLabelOfKind : PositionKind → Label → Type 0
+IsLabelOfKind k l = (x : Leaf) × (l ≡ label.Leaf x) × IsLeafOfKind k x
+
+abbrev pub IsTermOfKind : PositionKind → Tree → Type 0
+IsTermOfKind k t = (l : Label) × (label_of t ≡ Some l) × IsLabelOfKind k l
+
+-- terms that stand for positions of these kinds, one for each
+abbrev pub AreTermsOfKinds : List PositionKind → List Tree → Type 0
+AreTermsOfKinds [] [] = Unit {0}
+AreTermsOfKinds (k ∷ ks) (t ∷ ts) = IsTermOfKind k t × AreTermsOfKinds ks ts
+AreTermsOfKinds ks ts = ⊥
+
+-- a certain verdict that changes nothing, where these terms stand for the positions: it says no more of them than that they are
+-- variables of their kinds, or placeholders
+pub record ChangesNothing (qs : List Tree) (v : Verdict) : Type 0 where
+  pub certain : v.is_yes ≡ true
+  pub same : IsIdentityAnswer v.response
+  pub kinds : (let r = v.response in AreTermsOfKinds r.kinds qs)
+
+-- one of the verdicts stands for all: it changes nothing, or all are equal to it
+abbrev pub StandsForAll : List Tree → List Verdict → Verdict → Type 0
+StandsForAll qs vs v = Among vs v × (ChangesNothing qs v ⊎ ((w : Verdict) → Among vs w → w ≡ v))
 
 -- constraint by constraint, until the sides of an equality are not related
 abbrev pub FailsToAdd : List Tree → List Constraint → Content → Type 0
@@ -127,9 +158,20 @@ pub record CanAsk (c : Content) : Type 0 where
   pub sound : IsSound c
   pub current : AreCurrent c
 
+-- what a trait says of its arguments
+abbrev pub IsTraitStatement : Tree → Type 0
+IsTraitStatement (node (label.Clause (clause.Trait i)) ts) = Unit {0}
+IsTraitStatement t = ⊥
+
+-- a trait goal in whose terms no alias stands
+pub record IsTraitGoal (e g : Tree) : Type 0 where
+  pub statement : IsTraitStatement (statement_of g)
+  pub no_alias : any_label is_alias (pair e g) ≡ false
+
 -- a goal that the handler is asked for, opened if it binds variables: it is known to the table in which it is answered
 pub record IsReady (c : Content) (e g : Tree) : Type 0 where
   pub asked : IsAsked e (opened_in c g)
+  pub trait_goal : IsTraitGoal e (opened_in c g)
   pub knows : Knows (entered_table c g) (pair e (opened_in c g))
   pub proper : IsProperContent (entered_table c g)
 
@@ -157,7 +199,7 @@ mutual
   pub data Tells (Q : Queries) (h : Handler) (mode : Mode) : List PositionKind → Content → Tree → Tree → List Tree → Verdict → Type 0 where
     tells_nothing : {ks : List PositionKind} {c : Content} {e g : Tree} {qs : List Tree} {v : Verdict} (d : Content) → (d ≡ c) ⊎ (d ≡ entered_table c g) → v.is_yes ≡ false → IsPlainResponse d qs v.response → Tells Q h mode ks c e g qs v
     says_nothing : {ks : List PositionKind} {c : Content} {e g : Tree} {qs : List Tree} {v : Verdict} → SaysNothing ks v.response → Tells Q h mode ks c e g qs v
-    tells_one : {ks : List PositionKind} {c : Content} {e g : Tree} {qs : List Tree} {v : Verdict} (vs : List Verdict) → IsReady c e g → Outcomes Q h mode (entered_table c g) e (opened_in c g) qs (h.offers mode e (opened_in c g)) vs → StandsForAll Q ks vs v
+    tells_one : {ks : List PositionKind} {c : Content} {e g : Tree} {qs : List Tree} {v : Verdict} (vs : List Verdict) → IsReady c e g → Outcomes Q h mode (entered_table c g) e (opened_in c g) qs (h.offers mode e (opened_in c g)) vs → StandsForAll qs vs v
         → Tells Q h mode ks c e g qs v
 
   -- each candidate fails

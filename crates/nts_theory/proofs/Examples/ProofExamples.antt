@@ -56,13 +56,17 @@ auto_list = unbound (node (label.Clause (clause.Trait 0)) (arguments (more (cons
 abbrev pub auto_goal : Premise
 auto_goal = record { source = impl_where_bound; environment = nowhere; predicate = auto_list }
 
+-- impl Auto(List) where these goals and constraints hold
+abbrev pub clause_under : List Premise → List Constraint → Application
+clause_under gs xs = record { environment = nowhere; conclusion = auto_list; values = []; equations = []; goals = gs; constraints = xs; hidden = [] }
+
 -- impl Auto(List) <- Auto(List)
-abbrev auto_clause : Application
-auto_clause = record { environment = nowhere; conclusion = auto_list; values = []; equations = []; goals = auto_goal ∷ []; constraints = []; hidden = [] }
+abbrev pub auto_clause : Application
+auto_clause = clause_under (auto_goal ∷ []) []
 
 -- impl Auto(List)
 abbrev pub fact_clause : Application
-fact_clause = record { environment = nowhere; conclusion = auto_list; values = []; equations = []; goals = []; constraints = []; hidden = [] }
+fact_clause = clause_under [] []
 
 abbrev pub by_clause : Application → (ℕ → Bool) → Meaning
 by_clause a is_coinductive = meaning_of (λ mode x. x ≡ a) is_coinductive (λ i. [])
@@ -97,65 +101,46 @@ auto_instance =
       open_goals = λ g i. absurd i;
     }
 
+-- what the clause says follows by it from what is at hand, where that are its goals and its constraints
+pub auto_plain : (m : Meaning) (mode : Mode) (G : Tree → Type 0) (H : Constraint → Type 0) (D : Hidden → Type 0) (P : Premise → Type 0) (gs : List Premise) (xs : List Constraint)
+    → m.applies mode (clause_under gs xs) → ((g : Premise) → Among gs g → Stands G P (goal_kind m auto_list) g) → ((x : Constraint) → Among xs x → H x) → IsPlainRule m mode G H D P nowhere (statement_of auto_list)
+auto_plain m mode G H D P gs xs applies stand granted =
+    inl (
+      tt,
+      record {
+        use_of = clause_under gs xs;
+        applies = applies;
+        environment = refl;
+        conclusion = refl;
+        values = λ v i. absurd i;
+        equations = λ q i. absurd i;
+        goals = stand;
+        constraints = granted;
+        hidden = λ o i. absurd i;
+        item_bounds = λ o g i j. absurd i;
+      },
+    )
+
+pub auto_rule : (m : Meaning) (mode : Mode) (G : Tree → Type 0) (H : Constraint → Type 0) (D : Hidden → Type 0) (P : Premise → Type 0) (gs : List Premise) (xs : List Constraint)
+    → m.applies mode (clause_under gs xs) → ((g : Premise) → Among gs g → Stands G P (goal_kind m auto_list) g) → ((x : Constraint) → Among xs x → H x) → IsRule m mode G H D P nowhere auto_list
+auto_rule m mode G H D P gs xs applies stand granted = inl (_, refl, auto_plain m mode G H D P gs xs applies stand granted)
+
+pub auto_stands : (G : Tree → Type 0) (P : Premise → Type 0) (k : GoalKind) → P auto_goal → (g : Premise) → Among (auto_goal ∷ []) g → Stands G P k g
+auto_stands G P k p g (inl e) = subst (Stands G P k) (sym e) (inr ((λ x. x), (auto_list, replaced_plain _ auto_list refl, p)))
+auto_stands G P k p g (inr h) = absurd h
+
 -- a fact has a proof
 fact_derived : Derives (by_clause fact_clause (λ i. false)) coherence [] auto_sequent
-fact_derived =
-    by_rule [] auto_terms
-    (inl (
-      _,
-      refl,
-      inl (
-        tt,
-        record {
-          use_of = fact_clause;
-          applies = refl;
-          environment = refl;
-          conclusion = refl;
-          values = λ v i. absurd i;
-          equations = λ q i. absurd i;
-          goals = λ g i. absurd i;
-          constraints = λ x i. absurd i;
-          hidden = λ o i. absurd i;
-          item_bounds = λ o g i j. absurd i;
-        },
-      ),
-    ))
-    all_derived
+fact_derived = by_rule [] auto_terms (auto_rule (by_clause fact_clause (λ i. false)) coherence _ _ _ _ [] [] refl (λ g i. absurd i) (λ x i. absurd i)) all_derived
 
 pub fact_proof : HasProof (by_clause fact_clause (λ i. false)) coherence auto_sequent
 fact_proof = derivation_proof (by_clause fact_clause (λ i. false)) coherence auto_sequent auto_sequent itself fact_derived auto_instance
 
 -- a coinductive cycle has a proof
-abbrev Rests : Premise → Type 0
-Rests q = Among (auto_goal ∷ []) q ⊎ (IsNormalization (by_clause auto_clause (λ i. true)) auto_list × Among [] q)
-
-auto_stands : (k : GoalKind) (g : Premise) → Among (auto_goal ∷ []) g → Stands (λ t. Unit {0}) Rests k g
-auto_stands k g (inl e) =
-    subst (Stands (λ t. Unit {0}) Rests k) (sym e) (inr ((λ x. x), (auto_list, replaced_plain _ auto_list refl, inl (inl refl))))
-auto_stands k g (inr h) = absurd h
-
 coinductive_cycle : Derives (by_clause auto_clause (λ i. true)) post_analysis [] auto_sequent
 coinductive_cycle =
     by_cycle (by_rule (auto_goal ∷ []) auto_terms
-    (inl (
-      _,
-      refl,
-      inl (
-        tt,
-        record {
-          use_of = auto_clause;
-          applies = refl;
-          environment = refl;
-          conclusion = refl;
-          values = λ v i. absurd i;
-          equations = λ q i. absurd i;
-          goals = auto_stands coinductive_trait;
-          constraints = λ x i. absurd i;
-          hidden = λ o i. absurd i;
-          item_bounds = λ o g i j. absurd i;
-        },
-      ),
-    ))
+    (auto_rule (by_clause auto_clause (λ i. true)) post_analysis _ _ _ _ (auto_goal ∷ []) [] refl (auto_stands _ _ coinductive_trait (inl (inl refl))) (λ x i. absurd i))
     (by_assumption itself 0 (record { sequent = auto_sequent; is_behind = true }) refl refl
     (record { environment = auto_instance.environment; predicate = auto_instance.predicate; constraints = λ x i. absurd i; hidden = λ o i. absurd i; open_goals = λ g i. absurd i })
     all_derived))
@@ -238,7 +223,7 @@ not_coinductive (node (label.Clause (clause.Trait i)) ts) e = cc e
 not_coinductive t e = cc e
 
 -- the cycle of an ordinary trait has no ranked proof
-module _ (nodes : List Node) (ranked : IsRankedProof (by_clause auto_clause (λ i. false)) post_analysis nodes) where
+module _ (mode : Mode) (nodes : List Node) (ranked : IsRankedProof (by_clause auto_clause (λ i. false)) mode nodes) where
   stood : (n : Node) (k : GoalKind) → Stands (λ t. Unit {0}) (RestsOn (by_clause auto_clause (λ i. false)) n) k auto_goal → RestsOn (by_clause auto_clause (λ i. false)) n auto_goal
   stood n k (inl (keeps, holds)) = absurd keeps
   stood n k (inr (loose, (u, replaced, holds))) =
@@ -259,14 +244,14 @@ module _ (nodes : List Node) (ranked : IsRankedProof (by_clause auto_clause (λ 
         one_leafless n.sequent.constraints _ _ (rw (ap (λ q. q.predicate) same) refl) serves.predicate ∙ ap (λ q. q.predicate) same,
       )
 
-  no_node : (r : ℕ) (n : Node) (ι : Instance) → Among nodes n → n.rank < r → instance_of ι n.sequent.predicate ≡ auto_list → ⊥
+  pub no_node : (r : ℕ) (n : Node) (ι : Instance) → Among nodes n → n.rank < r → instance_of ι n.sequent.predicate ≡ auto_list → ⊥
   no_node zero n ι found low x = omega (arith, low)
   no_node (suc r) n ι found low x =
       let j = ranked.justified n found in
-      let u = rule_uses (by_clause auto_clause (λ i. false)) post_analysis _ _ _ ι _ _ j.rule x in
+      let u = rule_uses (by_clause auto_clause (λ i. false)) mode _ _ _ ι _ _ j.rule x in
       let goal : Among u.use_of.goals auto_goal = subst (λ y. Among y.goals auto_goal) (sym u.applies) (inl refl) in
       let (k, κ, here, less, y) = next_node n found u.no_normalization (stood n u.kind (u.goals auto_goal goal)) in
       no_node r k κ here (omega (arith, low, less)) y
 
 pub no_inductive_cycle : (s : Sequent) → s.predicate ≡ auto_list → HasProof (by_clause auto_clause (λ i. false)) post_analysis s → ⊥
-no_inductive_cycle s same p = no_node p.nodes p.ranked (suc p.first.rank) p.first p.instance p.found (omega arith) (one_leafless s.constraints _ _ (rw same refl) p.is_instance.predicate ∙ same)
+no_inductive_cycle s same p = no_node post_analysis p.nodes p.ranked (suc p.first.rank) p.first p.instance p.found (omega arith) (one_leafless s.constraints _ _ (rw same refl) p.is_instance.predicate ∙ same)

@@ -1,8 +1,13 @@
 -- What is told binds: responses that say nothing, verdicts that stand for others, and goals that are refuted, with what is none.
-use Rattle.std.proofs.Common.{subst, zero, suc, ◌≡◌, inl, inr, ℕ, zero, ◌+◌, ◌≤◌, true, false, List, [], ◌∷◌, ◌++◌, length, refl, sym, ap, ◌∙◌, arith}
+use Rattle.std.proofs.Common.{subst, zero, suc, ◌≡◌, inl, inr, ℕ, zero, ◌+◌, ◌≤◌, true, false, List, [], ◌∷◌, ◌++◌, length, Some, refl, sym, ap, ◌∙◌, arith}
 use Rattle.std.specs.Prelude.{◌⊎◌}
 use Rattle.nts_model.specs.declared.labels.Sort.{Sort}
 use Rattle.nts_model.specs.declared.labels.Sort.TheVariants as sort
+use Rattle.nts_model.specs.declared.labels.VariableKind.TheVariants as variable
+use Rattle.nts_model.specs.declared.labels.Leaf.{Leaf}
+use Rattle.nts_model.specs.declared.labels.Leaf.TheVariants as leaf
+use Rattle.nts_model.specs.declared.labels.Label.{Label}
+use Rattle.nts_model.specs.declared.labels.Label.TheVariants as label
 use Rattle.nts_model.specs.Terms.Trees.{Tree}
 use Rattle.nts_model.specs.Tables.Contents.{Content}
 use Rattle.nts_model.specs.Lists.{Among}
@@ -13,9 +18,11 @@ use Rattle.nts_model.specs.Refutation.Choosing.{IsCandidateMet}
 use Rattle.nts_model.specs.Refutation.Opening.{entered_table, opened_in}
 use Rattle.nts_model.specs.Searching.Driving.{unconstrained}
 use Rattle.nts_model.specs.Canonical.Numbered.{position}
-use Rattle.nts_model.specs.Canonical.Inputs.{PositionKind, type_variable, placeholder}
+use Rattle.nts_model.specs.Canonical.Inputs.{PositionKind, type_variable, integer_variable, placeholder}
 use Rattle.nts_model.specs.Answers.Responses.{Response}
-use Rattle.nts_theory.specs.Telling.{Verdict, Queries, IsReady, SaysNothing, StandsForAll, FailsToAdd, goals_with, Refutes, all_fail, Outcomes, no_outcome, then_fails, then_replies, Fails, is_unmet, breaks_off, is_refused, RefusesOne, refuses_one, cuts_one}
+use Rattle.nts_model.specs.Terms.Substitutions.{leaf_tree}
+use Rattle.nts_theory.proofs.Refutation.Agreeing.{nothing_is_identity}
+use Rattle.nts_theory.specs.Telling.{Verdict, Queries, IsReady, SaysNothing, ChangesNothing, StandsForAll, FailsToAdd, goals_with, Refutes, all_fail, Outcomes, no_outcome, then_fails, then_replies, Fails, is_unmet, breaks_off, is_refused, RefusesOne, refuses_one, cuts_one}
 
 -- the answer without constraints says nothing, in each universe
 unconstrained_says_nothing : (ks : List PositionKind) → SaysNothing ks (unconstrained ks)
@@ -77,6 +84,27 @@ fact_is_not_refuted Q h mode c e g qs x offered met constraints goals (all_fail 
 pub no_candidate_is_refuted : (Q : Queries) (h : Handler) (mode : Mode) (c : Content) (e g : Tree) (qs : List Tree) → IsReady c e g → h.offers mode e (opened_in c g) ≡ [] → Refutes Q h mode c e g qs
 no_candidate_is_refuted Q h mode c e g qs ready none = all_fail ready (rw none no_outcome)
 
+-- a yes over one type variable changes nothing, if its position is a type variable's; not if it is an integer variable's, which would
+-- say that the type is an integer type
+abbrev one_type_variable : List Tree
+one_type_variable = leaf_tree (leaf.Variable variable.Ty 0) ∷ []
+
+abbrev yes_over : PositionKind → Verdict
+yes_over k = record { response = unconstrained (k ∷ []); is_yes = true }
+
+type_position_changes_nothing : ChangesNothing one_type_variable (yes_over (type_variable 0 0))
+type_position_changes_nothing =
+    record { certain = refl; same = nothing_is_identity (type_variable 0 0 ∷ []) (unconstrained (type_variable 0 0 ∷ [])) refl; kinds = ((label.Leaf (leaf.Variable variable.Ty 0), refl, (leaf.Variable variable.Ty 0, refl, (0, refl))), tt) }
+
+integer_position_says_something : ChangesNothing one_type_variable (yes_over integer_variable) → ⊥
+integer_position_says_something h =
+    let k = h.kinds in
+    let t = k.0 in
+    no_integer t.0 t.2.0 t.2.2.0 t.1 t.2.1 t.2.2.1
+  where
+    no_integer : (l : Label) (x : Leaf) (n : ℕ) → Some (label.Leaf (leaf.Variable variable.Ty 0)) ≡ Some l → l ≡ label.Leaf x → x ≡ leaf.Variable variable.Int n → ⊥
+    no_integer l x n e f g = cc (e, f, g)
+
 -- a yes stands for a doubt beside it only if it changes nothing
 abbrev certain_one : Verdict
 certain_one = record { response = both_one; is_yes = true }
@@ -84,16 +112,17 @@ certain_one = record { response = both_one; is_yes = true }
 abbrev doubtful_one : Verdict
 doubtful_one = record { response = without_values; is_yes = false }
 
-doubt_stands_for_no_yes : (Q : Queries) → StandsForAll Q two_variables (certain_one ∷ doubtful_one ∷ []) doubtful_one → ⊥
-doubt_stands_for_no_yes Q (i, inl (sure, identity, agrees)) = cc sure
-doubt_stands_for_no_yes Q (i, inr same) = (let e : true ≡ false = ap (λ (v : Verdict). v.is_yes) (same certain_one (inl refl)) in cc e)
+doubt_stands_for_no_yes : (qs : List Tree) → StandsForAll qs (certain_one ∷ doubtful_one ∷ []) doubtful_one → ⊥
+doubt_stands_for_no_yes qs (i, inl same) = (let e : false ≡ true = same.certain in cc e)
+doubt_stands_for_no_yes qs (i, inr same) = (let e : true ≡ false = ap (λ (v : Verdict). v.is_yes) (same certain_one (inl refl)) in cc e)
 
-equality_stands_for_no_doubt : (Q : Queries) → StandsForAll Q two_variables (certain_one ∷ doubtful_one ∷ []) certain_one → ⊥
-equality_stands_for_no_doubt Q (i, inl (sure, identity, agrees)) =
+equality_stands_for_no_doubt : (qs : List Tree) → StandsForAll qs (certain_one ∷ doubtful_one ∷ []) certain_one → ⊥
+equality_stands_for_no_doubt qs (i, inl same) =
+    let identity = same.same in
     let p = identity.values 1 (omega arith) in
     let e : zero ≡ suc zero = number_of p.0 (p.1) in
     omega (arith, e)
   where
     number_of : (s : Sort) → position sort.Ty 0 ≡ position s 1 → zero ≡ suc zero
     number_of s q = cc q
-equality_stands_for_no_doubt Q (i, inr same) = (let e : false ≡ true = ap (λ (v : Verdict). v.is_yes) (same doubtful_one (inr (inl refl))) in cc e)
+equality_stands_for_no_doubt qs (i, inr same) = (let e : false ≡ true = ap (λ (v : Verdict). v.is_yes) (same doubtful_one (inr (inl refl))) in cc e)

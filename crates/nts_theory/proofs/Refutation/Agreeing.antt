@@ -1,6 +1,10 @@
 -- Kinds of positions that say as little as those of an input, and answers that change nothing: these contain each solution.
-use Rattle.std.proofs.Common.{ℕ, ◌≡◌, zero, suc, ◌+◌, ◌≤◌, List, [], ◌∷◌, map, get_or, length, refl, sym, ap, subst, ◌∙◌, arith}
+use Rattle.std.proofs.Common.{ℕ, ◌≡◌, zero, suc, ◌+◌, ◌≤◌, List, [], ◌∷◌, map, get_or, length, Option, Some, None, refl, sym, ap, subst, ◌∙◌, arith}
 use Rattle.nts_model.specs.declared.labels.Sort.{Sort}
+use Rattle.nts_model.specs.declared.labels.Sort.TheVariants as sort
+use Rattle.nts_model.specs.declared.labels.Leaf.{Leaf}
+use Rattle.nts_model.specs.declared.labels.Leaf.TheVariants as leaf
+use Rattle.nts_model.specs.declared.labels.Label.TheVariants as label
 use Rattle.nts_model.specs.declared.labels.VariableKind.{VariableKind}
 use Rattle.nts_model.specs.declared.labels.VariableKind.TheVariants as kind
 use Rattle.nts_model.specs.Terms.Trees.{Tree, empty}
@@ -8,11 +12,12 @@ use Rattle.nts_model.specs.Terms.Placeholders.{leaf_level}
 use Rattle.nts_model.specs.Terms.Substitutions.{filled}
 use Rattle.nts_model.specs.Canonical.Numbered.{position}
 use Rattle.nts_model.specs.Canonical.Inputs.{PositionKind, type_variable, integer_variable, float_variable, const_variable, region_variable, placeholder}
+use Rattle.nts_model.specs.Refutation.Opening.{placeholder_in}
 use Rattle.nts_model.specs.Searching.Driving.{sort_at, positions_from}
 use Rattle.nts_model.specs.Answers.Responses.{Response}
 use Rattle.nts_model.specs.Refutation.Containing.{Truth, IsRootValue, IsOwnValue, IsInputValue, AreInputValues, IsAnswerValue, AreAnswerValues, ContainsSolution}
 use Rattle.nts_model.proofs.Tables.Solving.{NamesAll-more}
-use Rattle.nts_theory.specs.Telling.{SaysNothing, IsIdentityAnswer}
+use Rattle.nts_theory.specs.Telling.{SaysNothing, IsIdentityAnswer, IsLeafOfKind, AreTermsOfKinds}
 
 -- in an input's kinds a placeholder is one of the root, named by its place
 abbrev pub IsNumberedKind : ℕ → PositionKind → Type 0
@@ -74,6 +79,75 @@ agree_themselves (float_variable ∷ ks) = (tt, agree_themselves ks)
 agree_themselves (const_variable u ∷ ks) = (tt, agree_themselves ks)
 agree_themselves (region_variable u ∷ ks) = (tt, agree_themselves ks)
 agree_themselves (placeholder s u n ∷ ks) = (refl, agree_themselves ks)
+
+-- two kinds of positions for which one leaf may stand agree
+abbrev variable_kind_of : Leaf → Option VariableKind
+variable_kind_of (leaf.Variable k n) = Some k
+variable_kind_of l = None
+
+abbrev kind_code : PositionKind → Option VariableKind
+kind_code (type_variable u r) = Some kind.Ty
+kind_code integer_variable = Some kind.Int
+kind_code float_variable = Some kind.Float
+kind_code (const_variable u) = Some kind.Const
+kind_code (region_variable u) = Some kind.Region
+kind_code (placeholder s u n) = None
+
+placeholder_code : (u : ℕ) (s : Sort) (n : ℕ) → variable_kind_of (placeholder_in u s n) ≡ None
+placeholder_code u sort.Ty n = refl
+placeholder_code u sort.Const n = refl
+placeholder_code u sort.Region n = refl
+
+leaf_code : (k : PositionKind) (l : Leaf) → IsLeafOfKind k l → variable_kind_of l ≡ kind_code k
+leaf_code (type_variable u r) l h = ap variable_kind_of h.1
+leaf_code integer_variable l h = ap variable_kind_of h.1
+leaf_code float_variable l h = ap variable_kind_of h.1
+leaf_code (const_variable u) l h = ap variable_kind_of h.1
+leaf_code (region_variable u) l h = ap variable_kind_of h.1
+leaf_code (placeholder s u n) l h = ap variable_kind_of h ∙ placeholder_code u s n
+
+one_placeholder : (u : ℕ) (s : Sort) (n v : ℕ) (r : Sort) (m : ℕ) → placeholder_in u s n ≡ placeholder_in v r m → placeholder r v m ≡ placeholder s u n
+one_placeholder u sort.Ty n v sort.Ty m e = cc e
+one_placeholder u sort.Ty n v sort.Const m e = cc e
+one_placeholder u sort.Ty n v sort.Region m e = cc e
+one_placeholder u sort.Const n v sort.Ty m e = cc e
+one_placeholder u sort.Const n v sort.Const m e = cc e
+one_placeholder u sort.Const n v sort.Region m e = cc e
+one_placeholder u sort.Region n v sort.Ty m e = cc e
+one_placeholder u sort.Region n v sort.Const m e = cc e
+one_placeholder u sort.Region n v sort.Region m e = cc e
+
+code_agrees : (k l : PositionKind) (x : Leaf) → IsLeafOfKind k x → IsLeafOfKind l x → kind_code k ≡ kind_code l → AgreesWith k l
+code_agrees (type_variable u r) (type_variable v s) x h i e = tt
+code_agrees integer_variable integer_variable x h i e = tt
+code_agrees float_variable float_variable x h i e = tt
+code_agrees (const_variable u) (const_variable v) x h i e = tt
+code_agrees (region_variable u) (region_variable v) x h i e = tt
+code_agrees (placeholder s u n) (placeholder r v m) x h i e = one_placeholder u s n v r m (sym h ∙ i)
+code_agrees k l x h i e = cc e
+
+one_leaf : (x y : Leaf) → Some (label.Leaf x) ≡ Some (label.Leaf y) → x ≡ y
+one_leaf x y e = cc e
+
+pub kinds_agree : (ks ls : List PositionKind) (ts : List Tree) → AreTermsOfKinds ks ts → AreTermsOfKinds ls ts → AllAgree ks ls
+kinds_agree [] [] [] h i = tt
+kinds_agree [] (l ∷ ls) [] h i = absurd i
+kinds_agree (k ∷ ks) ls [] h i = absurd h
+kinds_agree [] ls (t ∷ ts) h i = absurd h
+kinds_agree (k ∷ ks) [] (t ∷ ts) h i = absurd i
+kinds_agree (k ∷ ks) (l ∷ ls) (t ∷ ts) h i =
+    let a = h.0 in
+    let b = i.0 in
+    let x = a.2.0 in
+    let same : b.2.0 ≡ x = one_leaf b.2.0 x (sym (ap Some b.2.1) ∙ sym b.1 ∙ a.1 ∙ ap Some a.2.1) in
+    let there : IsLeafOfKind l x = subst (IsLeafOfKind l) same b.2.2 in
+    (code_agrees k l x a.2.2 there (sym (leaf_code k x a.2.2) ∙ leaf_code l x there), kinds_agree ks ls ts h.1 i.1)
+
+pub terms_long : (ks : List PositionKind) (ts : List Tree) → AreTermsOfKinds ks ts → length ts ≡ length ks
+terms_long [] [] h = refl
+terms_long [] (t ∷ ts) h = absurd h
+terms_long (k ∷ ks) [] h = absurd h
+terms_long (k ∷ ks) (t ∷ ts) h = (let e = terms_long ks ts h.1 in omega (arith, e))
 
 -- the values of an input: one for each kind
 pub values_long : (ks : List PositionKind) (vs : List Tree) → AreInputValues ks vs → length vs ≡ length ks

@@ -27,8 +27,8 @@ use Rattle.nts_theory.proofs.Refutation.Entering.{IsBegun as Begins}
 use Rattle.nts_theory.proofs.Refutation.Responding.{ArePlaced, answer_contains}
 use Rattle.nts_model.specs.Tables.Passing.{AllLabels}
 use Rattle.nts_model.specs.Answers.Responses.{IsLabelIn, positioned}
-use Rattle.nts_theory.specs.Telling.{Queries, IsInputFor, without_constraints, IsResponseOf, IsFound}
-use Rattle.nts_theory.proofs.Refutation.Agreeing.{AreNumberedKinds, AllAgree}
+use Rattle.nts_theory.specs.Telling.{Queries, AreTermsOfKinds, IsInputFor, without_constraints, IsResponseOf, IsFound}
+use Rattle.nts_theory.proofs.Refutation.Agreeing.{AreNumberedKinds}
 use Rattle.nts_theory.proofs.Refutation.QueryLabels.{entered_query, opened_labels, query_goes_on}
 
 -- the table that a query begins with, of which the terms qs stand for the positions; its goal is the input's there
@@ -38,14 +38,13 @@ pub record IsFirst (f : CanonicalInput) (q : Content) (qs : List Tree) : Type 0 
   pub current : AreCurrent q
   pub knows : Knows q (pair (filled qs f.environment) (filled qs f.predicate))
   pub table : IsQueryTable f.kinds q qs
-  pub many : length qs ≡ length f.kinds
+  pub kinds : AreTermsOfKinds f.kinds qs
   pub environment : AllLabels (IsLabelIn f.kinds) (filled qs f.environment)
   pub predicate : AllLabels (IsLabelIn f.kinds) (filled qs f.predicate)
 
--- a goal that its table knows is asked in the first table of a query; and an answer that changes nothing has the input's kinds
+-- a goal that its table knows is asked in the first table of a query
 pub record BeginsEach (Q : Queries) : Type 0 where
   pub first : (c : Content) (e g : Tree) (i : Input) → IsInputFor c e g i → Knows c (pair e g) → IsFirst (canonical_of i) (Q.table (canonical_of i).kinds) (Q.values (canonical_of i).kinds)
-  pub agrees : (ks ls : List PositionKind) → Q.agrees ks ls → AllAgree ks ls
 
 -- what an asked goal leads to
 pub record Leads (truth : Truth) (Proves : Tree → Tree → Type 0) (c d : Content) (e g : Tree) : Type 0 where
@@ -68,7 +67,7 @@ pub record IsSolved (truth : Truth) (Proves : Tree → Tree → Type 0) (ks : Li
 pub record IsQuery (ks : List PositionKind) (c : Content) (e g : Tree) (qs : List Tree) : Type 0 where
   pub numbered : AreNumberedKinds 0 ks
   pub placed : ArePlaced ks qs
-  pub many : length qs ≡ length ks
+  pub kinds : AreTermsOfKinds ks qs
   pub current : AreCurrent c
   pub knows : Knows c (pair e g)
   pub table : IsQueryTable ks c qs
@@ -77,7 +76,7 @@ pub record IsQuery (ks : List PositionKind) (c : Content) (e g : Tree) (qs : Lis
 
 pub first_query : (f : CanonicalInput) (q : Content) (qs : List Tree) → IsFirst f q qs → IsQuery f.kinds q (filled qs f.environment) (filled qs f.predicate) qs
 first_query f q qs h =
-    record { numbered = (let b = h.begins in b.numbered); placed = h.placed; many = h.many; current = h.current; knows = h.knows; table = h.table; environment = h.environment; predicate = h.predicate }
+    record { numbered = (let b = h.begins in b.numbered); placed = h.placed; kinds = h.kinds; current = h.current; knows = h.knows; table = h.table; environment = h.environment; predicate = h.predicate }
 
 -- the table in which its candidates are tried
 pub record IsTried (ks : List PositionKind) (c : Content) (e g : Tree) (qs : List Tree) : Type 0 where

@@ -33,10 +33,7 @@ use Rattle.nts_theory.proofs.Refutation.Covering.{not_built_in}
 use Rattle.nts_variance_model.specs.Variances.Judging.{AllStand}
 use Rattle.nts_theory.proofs.Refutation.UsedRules.{uses_unbound, uses_binding}
 use Rattle.nts_theory.proofs.Derivations.ProofInstances.{HasOneSide-under as one_side_under}
-
--- no rule of the handler normalizes an alias: a store without declared aliases has none
-pub record HasNoAliases (h : Handler) : Type 0 where
-  pub none : (mode : Mode) (a : Application) → h.applies mode a → goal_kind (meaning h (λ i. [])) a.conclusion ≡ normalization → ⊥
+use Rattle.nts_theory.specs.Refutation.Refutation.{HasNoAliases}
 
 normal_handlers : (f : ℕ → Bool) (s : Tree) → statement_kind f s ≡ normalization → IsHandlers s
 normal_handlers f (node (label.Predicate (predicate.NormalizesTo i)) ts) e = tt

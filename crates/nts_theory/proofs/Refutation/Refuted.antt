@@ -14,10 +14,10 @@ use Rattle.nts_model.specs.Derivations.Handlers.{Handler, meaning, IsLawfulHandl
 use Rattle.nts_model.specs.Refutation.Containing.{Truth, IsTrueBy, IsSolution, AnswerContains, HasNoSolution}
 use Rattle.nts_model.specs.Refutation.Coherence.{RulesAreOffered}
 use Rattle.nts_model.specs.Canonical.Inputs.{CanonicalInput}
-use Rattle.nts_theory.specs.Refutation.Refutation.{IsFair, IsTheory, HasMetProof, HasNoSolutionIn, KeepsSolutionsOf}
+use Rattle.nts_theory.specs.Refutation.Refutation.{HasNoAliases, IsFair, IsTheory, HasMetProof, HasNoSolutionIn, KeepsSolutionsOf}
 use Rattle.nts_theory.proofs.Refutation.Entering.{entered as enters}
 use Rattle.nts_theory.proofs.Refutation.Theories.{Carried, carried_itself, carried_theory}
-use Rattle.nts_theory.proofs.Refutation.ReachedGoals.{HasNoAliases, InSettledProof, settled_used, root_reached, ground_proof}
+use Rattle.nts_theory.proofs.Refutation.ReachedGoals.{InSettledProof, settled_used, root_reached, ground_proof}
 use Rattle.nts_theory.specs.Telling.{Verdict, Queries, Asked, Refused, QueryTells, QueryRefutes}
 use Rattle.nts_theory.proofs.Refutation.Queried.{BeginsEach, IsFirst, first_query}
 use Rattle.nts_theory.proofs.Refutation.Witnesses.{asked_leads, tells_contain, refutes_none, refused_none}
@@ -53,6 +53,13 @@ module _ (Q : Queries) (begins : BeginsEach Q) (h : Handler) (V : ℕ → List V
   refuted_has_none f first t ts s =
       let e = enters truth Proves f (Q.table f.kinds) (Q.values f.kinds) ts first.begins s in
       refutes_none Q begins h truth Proves theory fair lawful law t (first_query f (Q.table f.kinds) (Q.values f.kinds) first) ts e.world (record { values = s.values; solution = e.solution; images = e.images; proved = e.proved })
+
+  -- .. so each solution in which the goal has a settled proof
+  pub answer_contains_each : (f : CanonicalInput) (v : Verdict) → IsFirst f (Q.table f.kinds) (Q.values f.kinds) → QueryTells Q h coherence f v → AnswerContains truth (HasMetProof (meaning h V) truth) f v.response
+  answer_contains_each f v first t ts s = answer_contains_all f v first t ts (record { values = s.values; proved = proved _ _ s.proved })
+
+  pub refuted_has_none_met : (f : CanonicalInput) → IsFirst f (Q.table f.kinds) (Q.values f.kinds) → QueryRefutes Q h coherence f → HasNoSolution (HasMetProof (meaning h V) truth) f
+  refuted_has_none_met f first t ts s = refuted_has_none f first t ts (record { values = s.values; proved = proved _ _ s.proved })
 
 -- what is refused as the table knows it has no solution, and what was asked so loses none
 module _ (Q : Queries) (begins : BeginsEach Q) (h : Handler) (lawful : IsLawfulHandler h) (law : RulesAreOffered h) (none : HasNoAliases h) (c : Content) (sound : IsSound c) (current : AreCurrent c) (e g : Tree) (known : Knows c (pair e g)) where

@@ -129,7 +129,7 @@ stays_region region.Erased = true
 stays_region region.Error = true
 stays_region r = false
 
-abbrev stays : Leaf → Bool
+abbrev pub stays : Leaf → Bool
 stays (leaf.Variable k n) = true
 stays (leaf.Region r) = stays_region r
 stays l = false
@@ -159,7 +159,7 @@ stay_carried ρ k (leaf.Region r) h = k.plain r (region_stays r h)
 stay_carried ρ k (leaf.TyConstant a) h = cc h
 stay_carried ρ k (leaf.ConstConstant a) h = cc h
 
-movable_by : (xs : List Leaf) → ((l : Leaf) → Among xs l → stays l ≡ false) → AreMovable xs
+pub movable_by : (xs : List Leaf) → ((l : Leaf) → Among xs l → stays l ≡ false) → AreMovable xs
 movable_by xs h = record {
   no_variables = λ k n i. (let e = h (leaf.Variable k n) i in cc e);
   no_fixed = λ r s i. (let e = h (leaf.Region r) i in let q = fixed_stays r s in let z : true ≡ false = sym q ∙ e in cc z);

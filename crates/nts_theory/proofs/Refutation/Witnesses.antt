@@ -25,11 +25,11 @@ use Rattle.nts_model.proofs.Lists.{among_left, among_right}
 use Rattle.nts_theory.proofs.Refutation.Answered.{AreTermsOf, askable, asked_solution, asked_refuses, asked_extends, kept_same, among_split}
 use Rattle.nts_theory.proofs.Refutation.Entering.{entered as enters}
 use Rattle.nts_theory.proofs.Refutation.Trying.{same_positions}
-use Rattle.nts_theory.proofs.Refutation.Agreeing.{AreNumberedKinds, identity_contains, nothing_contains}
+use Rattle.nts_theory.proofs.Refutation.Agreeing.{AreNumberedKinds, identity_contains, nothing_contains, kinds_agree, terms_long}
 use Rattle.nts_theory.proofs.Refutation.Carriers.{carrier}
 use Rattle.nts_theory.proofs.Refutation.Opening.{CanBegin}
 use Rattle.nts_theory.proofs.Refutation.Readying.{some_begins}
-use Rattle.nts_theory.specs.Telling.{Verdict, Queries, StandsForAll, SaysOf, IsFound, without_constraints, IsPlainResponse, goals_with, Tells, tells_nothing, says_nothing, tells_one, Refutes, all_fail, Outcomes, no_outcome, then_fails, then_replies, Replies, replies, Fails, is_unmet, breaks_off, is_refused, Reaches, asks_nothing, then_asks, RefusesOne, refuses_one, cuts_one, Asked, asked_by, Refused, by_query, by_response}
+use Rattle.nts_theory.specs.Telling.{Verdict, Queries, AreTermsOfKinds, StandsForAll, SaysOf, IsFound, without_constraints, IsPlainResponse, goals_with, Tells, tells_nothing, says_nothing, tells_one, Refutes, all_fail, Outcomes, no_outcome, then_fails, then_replies, Replies, replies, Fails, is_unmet, breaks_off, is_refused, Reaches, asks_nothing, then_asks, RefusesOne, refuses_one, cuts_one, Asked, asked_by, Refused, by_query, by_response}
 use Rattle.nts_theory.proofs.Refutation.Queried.{BeginsEach, Leads, Reached, IsSolved, IsQuery, first_query, IsTried, tried, tried_knows, found_table, solution_without, entered_solution, says_contains, says_long}
 use Rattle.nts_theory.proofs.Refutation.Begun.{asked_from, BegunAt, begun_at, never_breaks, asks_more, goal_known, goal_there}
 use Rattle.nts_theory.proofs.Refutation.QueryLabels.{entered_query, query_without}
@@ -76,10 +76,11 @@ module _ (Q : Queries) (begins : BeginsEach Q) (h : Handler) (truth : Truth) (Pr
           subst (ContainsSolution truth v.response) images (says_contains truth ks (without_constraints found) qs v.response t.placed (query_without ks found qs table) r there.world (solution_without truth 0 found there.world there.solves.solution))
       by_case (inr (y, inr r)) = says_contains truth ks (without_constraints c) qs v.response t.placed (query_without ks c qs t.table) r w (solution_without truth 0 c w s)
 
-  stands_contains : (ks : List PositionKind) (vs : List Verdict) (v : Verdict) (ts : List Tree) → AreNumberedKinds 0 ks → AreInputValues ks ts → ((u : Verdict) → Among vs u → (let r = u.response in let x = r.findings in length x.values ≡ length ks))
-      → StandsForAll Q ks vs v → OneContains truth vs ts → ContainsSolution truth v.response ts
-  stands_contains ks vs v ts n values long (a, inl (y, same, agree)) one = (let r = v.response in identity_contains truth ks r ts n same (long v a) (begins.agrees ks r.kinds agree) values)
-  stands_contains ks vs v ts n values long (a, inr same) one = subst (λ (z : Verdict). ContainsSolution truth z.response ts) (same one.verdict one.among) one.contains
+  stands_contains : (ks : List PositionKind) (qs : List Tree) (vs : List Verdict) (v : Verdict) (ts : List Tree) → AreNumberedKinds 0 ks → AreTermsOfKinds ks qs → AreInputValues ks ts → ((u : Verdict) → Among vs u → (let r = u.response in let x = r.findings in length x.values ≡ length qs))
+      → StandsForAll qs vs v → OneContains truth vs ts → ContainsSolution truth v.response ts
+  stands_contains ks qs vs v ts n terms values long (a, inl same) one =
+      (let r = v.response in identity_contains truth ks r ts n same.same (long v a ∙ terms_long ks qs terms) (kinds_agree ks r.kinds qs terms same.kinds) values)
+  stands_contains ks qs vs v ts n terms values long (a, inr same) one = subst (λ (z : Verdict). ContainsSolution truth z.response ts) (same one.verdict one.among) one.contains
 
   mutual
     pub tells_contain : {ks : List PositionKind} {c : Content} {e g : Tree} {qs : List Tree} {v : Verdict} → Tells Q h coherence ks c e g qs v → IsQuery ks c e g qs → (ts : List Tree) (w : World) → IsSolved truth Proves ks c e g qs ts w
@@ -95,7 +96,7 @@ module _ (Q : Queries) (begins : BeginsEach Q) (h : Handler) (truth : Truth) (Pr
     tells_contain {ks} {c} {e} {g} {qs} {v} (tells_one vs ready all stands) q ts w s =
         let x = some_begins h truth Proves theory lawful law c e g w s.solution q.current q.knows s.proved ready in
         let one = outcomes_contain all (tried ks c e g qs q) w x.solution x.candidate x.offered x.begins in
-        stands_contains ks vs v ts q.numbered s.values (λ u i. outcome_long all u i ∙ q.many) stands (subst (OneContains truth vs) s.images one)
+        stands_contains ks qs vs v ts q.numbered q.kinds s.values (outcome_long all) stands (subst (OneContains truth vs) s.images one)
 
     pub refutes_none : {ks : List PositionKind} {c : Content} {e g : Tree} {qs : List Tree} → Refutes Q h coherence c e g qs → IsQuery ks c e g qs → (ts : List Tree) (w : World) → IsSolved truth Proves ks c e g qs ts w → ⊥
     refutes_none {ks} {c} {e} {g} {qs} (all_fail ready all) q ts w s =

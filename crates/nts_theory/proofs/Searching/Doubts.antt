@@ -43,5 +43,5 @@ outcome_leaves_none {c = c} {qs = qs} (then_replies {vs = vs} {v = u} before (re
 pub doubt_leaves_none : {Q : Queries} {h : Handler} {mode : Mode} {ks : List PositionKind} {c : Content} {e g : Tree} {qs : List Tree} {v : Verdict} → Tells Q h mode ks c e g qs v → v.is_yes ≡ false → LeavesNone v
 doubt_leaves_none {qs = qs} {v = v} (tells_nothing d is unsure says) n = plain_leaves_none d qs v says
 doubt_leaves_none (says_nothing says) n = ap (λ (z : Response). (let y = z.findings in y.constraints)) says
-doubt_leaves_none {v = v} (tells_one vs ready all (i, inl (sure, identity, agrees))) n = (let z : true ≡ false = sym sure ∙ n in cc z)
+doubt_leaves_none {v = v} (tells_one vs ready all (i, inl same)) n = (let z : true ≡ false = sym same.certain ∙ n in cc z)
 doubt_leaves_none {v = v} (tells_one vs ready all (i, inr same)) n = outcome_leaves_none all v i n

@@ -1,5 +1,5 @@
 -- What is proved in coherence, where no aliases are declared.
-use Rattle.std.specs.Prelude.{List, length, ◌≡◌, ℕ, ◌+◌}
+use Rattle.std.specs.Prelude.{List, [], length, ◌≡◌, ℕ, ◌+◌}
 use Rattle.nts_model.specs.declared.labels.VariableKind.{VariableKind}
 use Rattle.nts_model.specs.declared.labels.Sort.{Sort}
 use Rattle.nts_model.specs.declared.labels.Leaf.{Leaf}
@@ -11,7 +11,7 @@ use Rattle.nts_model.specs.Terms.Substitutions.{Instance, Renaming, rename, IsPl
 use Rattle.nts_model.specs.Derivations.Related.{Constraint, pair, unbound}
 use Rattle.nts_model.specs.Lists.{Among}
 use Rattle.nts_model.specs.Derivations.Sequents.{Premise}
-use Rattle.nts_model.specs.Derivations.Rules.{coherence, Meaning, AreFresh, Equation, Application, IsHandlers, opened, bound}
+use Rattle.nts_model.specs.Derivations.Rules.{Mode, coherence, Meaning, goal_kind, normalization, AreFresh, Equation, Application, IsHandlers, opened, bound}
 use Rattle.nts_model.specs.Refutation.Opening.{placeholder_in}
 use Rattle.nts_model.specs.Refutation.Choosing.{left_of, right_of}
 use Rattle.nts_model.specs.Derivations.Handlers.{Handler, meaning}
@@ -21,6 +21,10 @@ use Rattle.nts_model.specs.declared.labels.Variance.{Variance}
 use Rattle.nts_model.specs.Refutation.Containing.{Truth, IsTrueBy, IsSolution, IsGroundLabel, AreGround}
 use Rattle.nts_model.specs.Tables.Passing.{AllLabels}
 use Rattle.nts_variance_model.specs.Variances.SettledProofs.{HasSettledProof}
+
+-- no rule of the handler says what an alias normalizes to. Where no alias is declared there is none
+pub record HasNoAliases (h : Handler) : Type 0 where
+  pub none : (mode : Mode) (a : Application) → h.applies mode a → goal_kind (meaning h (λ i. [])) a.conclusion ≡ normalization → ⊥
 
 -- a renaming that keeps variables, and the regions that stay
 pub record IsCarrying (ρ : Renaming) : Type 0 where

@@ -11,4 +11,5 @@ returns-clause-first c =
       is = ap (λ (x : Round). x.provisional) c.in_ok-asked.ensures.ok ∙ search rules;
       fits = rw c.deref.ensures at u.fits;
       nothing = rw c.deref.ensures at u.nothing;
+      certain = u.certainty;
     }
