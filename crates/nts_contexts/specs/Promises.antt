@@ -13,19 +13,20 @@ use Rattle.nts_terms.specs.declared.handles.Goal.{Goal}
 use Rattle.nts_terms.specs.declared.handles.ParamEnv.{ParamEnv}
 use Rattle.nts_terms.specs.Signatures.{variances_in}
 use Rattle.nts_solver_relating.specs.Sides.{ArePlainIn, AreMadeEqualIn, AreUnrelatedIn, IsRelatedIn, RefusesIn}
-use Rattle.nts_asking.specs.Meant.{Rules, Always, IsProvedSince, ReachesBy, RefusesOneOf}
+use Rattle.nts_asking.specs.Meant.{Rules, Always, IsProvedSince, ReachesBy}
+use Rattle.nts_trying.specs.Stopping.{RefusesAmong}
 use Rattle.nts_trying.specs.Stepping.{AreLeft, AreSettled}
 use Rattle.nts_contexts.specs.declared.context.EvalCtxt.{EvalCtxt}
-use Rattle.nts_contexts.specs.Contexts.{KeepsContext, EvaluatedNothing, IsGoalOfContext}
+use Rattle.nts_contexts.specs.Contexts.{KeepsContext, EvaluatedNothing, IsGoalOfContext, content_in}
 use Rattle.nts_contexts.specs.Faults.{fault_after}
 use Rattle.nts_contexts.specs.Related.{AddsRelated, AreEquatedIn}
 
--- the goals that were added to a context were asked, in any order and more than once; and one of them is refused
+-- the goals that were added to a context were asked, in any order and more than once; and one of them is refused after that
 abbrev pub ReachesAdded : {H : Type 0} → Handler → EvalCtxt H → EvalCtxt H → Type 0
 ReachesAdded h a b = ReachesBy h a.table.now.mode a.cx.now.nodes a.table.now b.cx.now.nodes b.table.now a.state.now.nested_goals.items
 
 abbrev pub RefusesOneAdded : {H : Type 0} → Handler → EvalCtxt H → Type 0
-RefusesOneAdded h a = RefusesOneOf h a.table.now.mode a.cx.now.nodes a.table.now a.state.now.nested_goals.items
+RefusesOneAdded h a = RefusesAmong h a.table.now.mode a.cx.now.nodes (content_in a) a.state.now.nested_goals.items
 
 -- the goals that were added to the context are evaluated in steps: some are left, and each other one is proved
 pub record EvaluatesAdded {H : Type 0} {X : Type 0} (R : Rules) (a b : EvalCtxt H) (r : Result X EvalError) : Type 0 where

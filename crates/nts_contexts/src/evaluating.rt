@@ -1,5 +1,5 @@
 //! Goals of a context are evaluated.
-ghost use Rattle.std.specs.Prelude.{◌≡◌, ◌≤◌, ◌+◌, true, false, [], None, Ok, Err, IfOk, OnOk};
+ghost use Rattle.std.specs.Prelude.{◌≡◌, ◌≤◌, ◌+◌, true, false, [], None, Ok, Err, IfOk};
 ghost use Rattle.nts_certainty.specs.declared.certainty.Certainty.TheVariants as certainty;
 ghost use Rattle.nts_response.specs.Forms.{response_at, HoldsResponse};
 ghost use Rattle.nts_theory.specs.Telling.{IsResponseOf};
@@ -31,8 +31,7 @@ impl<H: GoalHandler> EvalCtxt<'_, H> {
             self.new.state.now.last_steps ≤ self.old.cx.now.step_limit }
         ensures sure { result ≡ Ok certainty.Yes → self.new.state.now.nested_goals.items ≡ [] }
         ensures told { Always (rules_of H.ready H.handler self.old.handler.now) self.old.cx.now
-            (λ s. OnOk result
-            (ReachesAdded (H.handler s.base self.old.handler.now) self.old self.new)) }
+            (λ s. ReachesAdded (H.handler s.base self.old.handler.now) self.old self.new) }
         ensures refuted { Always (rules_of H.ready H.handler self.old.handler.now) self.old.cx.now
             (λ s. result ≡ Err EvalError.NoSolution →
             RefusesOneAdded (H.handler s.base self.old.handler.now) self.old) }
@@ -80,8 +79,7 @@ impl<H: GoalHandler> EvalCtxt<'_, H> {
         ensures steps { self.old.state.now.fault ≡ None → self.old.state.now.is_tainted ≡ false →
             self.new.state.now.last_steps ≤ self.old.cx.now.step_limit }
         ensures told { Always (rules_of H.ready H.handler self.old.handler.now) self.old.cx.now
-            (λ s. OnOk result
-            (ReachesAdded (H.handler s.base self.old.handler.now) self.old self.new)) }
+            (λ s. ReachesAdded (H.handler s.base self.old.handler.now) self.old self.new) }
         ensures refuted { Always (rules_of H.ready H.handler self.old.handler.now) self.old.cx.now
             (λ s. self.old.state.now.is_tainted ≡ false → result ≡ Err EvalError.NoSolution →
             RefusesOneAdded (H.handler s.base self.old.handler.now) self.old) }

@@ -19,7 +19,7 @@ use Rattle.nts_response.specs.declared.types.Response.{Response}
 use Rattle.nts_response.specs.Forms.{response_at}
 use Rattle.nts_delegate.specs.Offered.{path_kind_of}
 use Rattle.nts_search.specs.declared.stack.SearchGraph.{SearchGraph}
-use Rattle.nts_asking.specs.Meant.{Since, Rules, Always, meaning_since, IsQueryTold, IsQueryRefuted, AreOffered, IsOffered, IsServedSince, IsProvedNow, IsProvedFromSince, IsNestedSince, EvaluatesGoal, IsRefusedIn, EvaluatesUnder, IsRefusedUnder, IsTold, IsRefuted, HaveOutcomes, CandidatesTell, RepliesWith, FailsIn, HasRunTo, ReachesBy, RefusesOneOf}
+use Rattle.nts_asking.specs.Meant.{Since, Rules, Always, meaning_since, IsQueryTold, IsQueryRefuted, AreOffered, IsOffered, IsServedSince, IsProvedNow, IsProvedFromSince, IsNestedSince, EvaluatesGoal, IsRefusedIn, EvaluatesUnder, IsRefusedUnder, IsTold, IsRefuted, HaveOutcomes, CandidatesTell, RepliesWith, FailsIn, HasRunTo, ReachesBy}
 use Rattle.nts_asking.specs.Searching.{Searches, HeadsTell, IsCut, assumed_in, IsHeadAnswer, IsAnswerTold, IsGoalCut}
 use Rattle.nts_asking.specs.Answering.{IsAnswerTo, IfAnswered, IfCertain, IfSure}
 use Rattle.nts_model.specs.Tables.Passing.{BringsOnly}
@@ -38,6 +38,7 @@ use Rattle.nts_trying.specs.declared.steps.Step.{Step}
 use Rattle.nts_asking.specs.declared.round.Round.{Round}
 use Rattle.nts_asking.specs.declared.round.Ended.{Ended}
 use Rattle.nts_trying.specs.Found.{Found}
+use Rattle.nts_trying.specs.Stopping.{StopsIn}
 use Rattle.nts_trying.specs.Stepping.{ArePosed, AreLeft, AreSettled, terms_of, bound_of}
 use Rattle.nts_trying.specs.declared.steps.AvailableDepth.{AvailableDepth}
 use Rattle.nts_asking.specs.Evaluation.{Runs, asked_terms}
@@ -86,6 +87,7 @@ pub record AsksGoal (R : Rules) (a b : Cx) (g h : SearchGraph) (t u : Table) (go
 pub record AsksAdded (R : Rules) (a b : Cx) (g h : SearchGraph) (t u : Table) (goal : Goal) (step : PathKind) (depth : AvailableDepth) (r : Result Evaluated EvalError) : Type 0 where
   pub runs : Runs a b t u
   pub searches : Searches a b g h
+  pub err : OnErr r (u ≡ t)
   pub labels : OnOk r (BringsOnlyOf (asked_terms a.nodes goal) a t b u)
   pub proved : Always R a (λ s. IfSure r (IsProvedFromSince R.handler s t.mode (assumed_behind step b h) b.nodes u goal))
   pub told : WhereTold R a g (λ m. IfOk r (λ e. EvaluatesUnder m t.mode a.nodes t b.nodes u goal e.certainty e.has_changed ⊎ (bound_of depth ≡ 0) × (u.entries ≡ t.entries)))
@@ -138,7 +140,7 @@ pub record RunsOne (R : Rules) (a b : Cx) (g h : SearchGraph) (t u : Table) (goa
   pub told : WhereTold R a g (λ m. OnOk r (HasRunTo m t.mode a.nodes t b.nodes u x))
   pub refuted : WhereTold R a g (λ m. r ≡ Err error.NoSolution → FailsIn m t.mode a.nodes t x)
 
--- goals are asked in steps: `left` are those that are left
+-- goals are asked in steps: `left` are those that are left. After an error too the table is one that asking some of them leaves
 pub record StepsGoals (R : Rules) (a b : Cx) (g h : SearchGraph) (t u : Table) (given gone : List (GoalSource × Goal)) (kind : CurrentGoalKind) (n : ℕ) (r : Result Certainty EvalError) : Type 0 where
   pub runs : Runs a b t u
   pub searches : Searches a b g h
@@ -148,8 +150,8 @@ pub record StepsGoals (R : Rules) (a b : Cx) (g h : SearchGraph) (t u : Table) (
   pub labels : OnOk r (BringsOnlyOf (terms_of a.nodes given) a t b u)
   pub proved : Always R a (λ s. OnOk r (AreSettled (IsNestedSince R.handler s t.mode (goal_kind_of kind) (assumed_in b.nodes h) b.nodes u) given gone))
   pub sure : r ≡ Ok certainty.Yes → gone ≡ []
-  pub told : WhereTold R a g (λ m. OnOk r (ReachesBy m t.mode a.nodes t b.nodes u given))
-  pub refuted : WhereTold R a g (λ m. kind ≢ kinds.NormalizesTo → r ≡ Err error.NoSolution → RefusesOneOf m t.mode a.nodes t given)
+  pub told : WhereTold R a g (λ m. ReachesBy m t.mode a.nodes t b.nodes u given)
+  pub refuted : WhereTold R a g (λ m. r ≡ Err error.NoSolution → StopsIn g kind m t.mode a.nodes (content_of a.nodes t.entries) given)
 
 -- .. and each of them once
 pub record StepsOnce (R : Rules) (a b : Cx) (g h : SearchGraph) (t u : Table) (given : List (GoalSource × Goal)) (kind : CurrentGoalKind) (r : Result Step EvalError) : Type 0 where
@@ -160,5 +162,5 @@ pub record StepsOnce (R : Rules) (a b : Cx) (g h : SearchGraph) (t u : Table) (g
   pub labels : OnOk r (BringsOnlyOf (terms_of a.nodes given) a t b u)
   pub proved : Always R a (λ s. IfOk r (λ z. AreSettled (IsNestedSince R.handler s t.mode (goal_kind_of kind) (assumed_in b.nodes h) b.nodes u) given z.left.items))
   pub sure : IfOk r (λ z. z.certainty ≡ certainty.Yes → z.left.items ≡ [])
-  pub told : WhereTold R a g (λ m. OnOk r (ReachesBy m t.mode a.nodes t b.nodes u given))
-  pub refuted : WhereTold R a g (λ m. kind ≢ kinds.NormalizesTo → r ≡ Err error.NoSolution → RefusesOneOf m t.mode a.nodes t given)
+  pub told : WhereTold R a g (λ m. ReachesBy m t.mode a.nodes t b.nodes u given)
+  pub refuted : WhereTold R a g (λ m. r ≡ Err error.NoSolution → StopsIn g kind m t.mode a.nodes (content_of a.nodes t.entries) given)

@@ -9,6 +9,9 @@ ghost use Rattle.nts_canonical.specs.Building.{kinds_of};
 ghost use Rattle.nts_asking.specs.Answering.{IsQueryInput, IsAnswerTo};
 ghost use Rattle.nts_asking.specs.Searching.{IsSearch, Searches};
 ghost use Rattle.nts_asking.specs.Meant.{IsInputProved, IsQueryTold, IsQueryRefuted};
+ghost use Rattle.nts_canonical.specs.Forms.{form_of};
+ghost use Rattle.nts_response.specs.Forms.{response_at};
+ghost use Rattle.nts_evaluation.specs.Solutions.{IsCoherenceOf, ContainsEach, HasNoInputSolution};
 
 use crate::evaluate::search;
 use nts_canonical::CanonicalInput;
@@ -20,7 +23,8 @@ use nts_store::{EvalError, Fault};
 use nts_terms::Cx;
 
 /// Answers a canonical goal that a step of that kind asks, in a search whose stack is empty: at its root depth. `None` is no
-/// solution: each candidate failed. A certain answer has a ranked proof of what it says of the input. Afterwards the stack is
+/// solution: each candidate failed. In coherence, where no rule normalizes an alias, the answer contains each solution of the
+/// input, and `None` says that it has none. A certain answer has a ranked proof of what it says of the input. Afterwards the stack is
 /// empty again, no query took more rounds than the store's limit says, and the counts of the search did not fall.
 pub fn evaluate_input<H: GoalHandler>(
     graph: &mut SearchGraph,
@@ -42,6 +46,12 @@ pub fn evaluate_input<H: GoalHandler>(
         (mode_of input.typing_mode) cx.old.nodes input cx.new.nodes)) }
     ensures refuted { IfOk result (λ o. IsNone o → IsQueryRefuted
         (H.handler cx.old.nodes handler.now) (mode_of input.typing_mode) cx.old.nodes input) }
+    ensures contains { (let h = H.handler cx.old.nodes handler.now in IsCoherenceOf h
+        input.typing_mode → IfOk result (λ o. IfSome o (λ r. ContainsEach h
+        (form_of cx.old.nodes input) (response_at cx.new.nodes r)))) }
+    ensures none { (let h = H.handler cx.old.nodes handler.now in IsCoherenceOf h
+        input.typing_mode → IfOk result (λ o. IsNone o → HasNoInputSolution h
+        (form_of cx.old.nodes input))) }
 {
     cx.terms_are_formed();
     let depth = graph.root_depth;

@@ -11,6 +11,7 @@ ghost use Rattle.nts_asking.specs.Evaluation.{Runs, IsAdmitted, IsPosed, IsGoalU
 ghost use Rattle.nts_asking.specs.Meant.{rules_of, Always, IsProvedSince, EvaluatesUnder, IsRefusedUnder};
 ghost use Rattle.nts_certainty.specs.declared.certainty.Certainty.TheVariants as certainty;
 ghost use Rattle.nts_terms.specs.Rest.{Grows};
+ghost use Rattle.nts_evaluation.specs.Solutions.{IsCoherenceOf, HasNoSolutionUnder, KeepsSolutionsUnder};
 
 use crate::evaluate::evaluate_goal;
 use nts_asking::{is_asked, is_root_term, is_settled_env, resolve_goal};
@@ -94,20 +95,28 @@ pub fn evaluate_root_goal<H: GoalHandler>(
         cx.old.declarations)) (mode_of table.old.mode) cx.new.nodes table.new goal)) }
     ensures refuted { result ≡ Err EvalError.NoSolution → IsRefusedUnder
         (H.handler cx.old.nodes handler.now) table.old.mode cx.old.nodes table.old goal }
+    ensures none { result ≡ Err EvalError.NoSolution → IsCoherenceOf
+        (H.handler cx.old.nodes handler.now) table.old.mode → HasNoSolutionUnder
+        (H.handler cx.old.nodes handler.now) cx.old.nodes table.old goal }
+    ensures keeps { IsCoherenceOf (H.handler cx.old.nodes handler.now) table.old.mode →
+        OnOk result (KeepsSolutionsUnder (H.handler cx.old.nodes handler.now) cx.old.nodes table.old
+        cx.new.nodes table.new goal) }
 {
     let _ = (span, stalled_on);
     cx.terms_are_formed();
-    let evaluated = evaluate_root(table, cx, handler, goal);
+    let depth = cx.recursion_limit();
+    let evaluated = evaluate_root(table, cx, handler, goal, depth);
     cx.terms_are_formed();
     evaluated
 }
 
-/// Evaluates a goal, resolved, at the recursion limit.
-fn evaluate_root<H: GoalHandler>(
+/// Evaluates a goal, resolved, at that depth.
+pub(crate) fn evaluate_root<H: GoalHandler>(
     table: &mut InferCtxt,
     cx: &mut Cx,
     handler: &H,
     goal: Goal,
+    depth: usize,
 ) -> Result<GoalEvaluation, EvalError>
     requires posed { IsPosed cx.old.nodes table.old goal }
     requires ready { H.ready cx.old.nodes handler.now }
@@ -126,7 +135,6 @@ fn evaluate_root<H: GoalHandler>(
         table.old.mode cx.old.nodes table.old goal) }
 {
     let asked = resolve_goal(table, cx, goal)?;
-    let depth = cx.recursion_limit();
     let mut graph = SearchGraph::new(cx.alloc, depth);
     let evaluated = evaluate_goal(
         table,

@@ -34,8 +34,9 @@ use Rattle.nts_response.specs.Forms.{response_at}
 use Rattle.nts_asking.specs.Evaluation.{IsPosed}
 use Rattle.nts_trying.specs.Choices.{EquatesCandidate, KeepsMet}
 use Rattle.nts_trying.specs.Choices.KeepsMet.{none, kept, dropped}
+use Rattle.nts_asking.specs.Answering.{verdict_at}
 use Rattle.nts_asking.specs.Telling.{Outcomes, Replies, Fails}
-use Rattle.nts_theory.specs.Telling.{IsPlainResponse, Verdict}
+use Rattle.nts_theory.specs.Telling.{IsPlainResponse, StandsForAll, Verdict}
 use Rattle.nts_theory.specs.Telling.Outcomes.{no_outcome, then_fails, then_replies}
 use Rattle.nts_theory.specs.Telling.Fails.{is_unmet}
 use Rattle.nts_asking.specs.Meant.{HaveOutcomes, CandidatesTell}
@@ -142,6 +143,7 @@ kept_outcomes {a} {b} {t} g {xs} {ys} {rs} h mode qs held m e w args all o =
     all_outcomes m (candidates_of a ys) rs refl there
 
 pub kept_tell : {a b : List Tree} {t : Table} (e : List Tree) (g : Goal) {xs ys : List CandidateData} (h : Handler) (mode : TypingMode) (qs : List GenericArg) (r : Canonical Response) → HoldsGoal a g → KeepsMet a (content_of a t.entries) xs ys → Extends a b → IsTable a t → All (IsArgOf a t.entries) qs → AreCandidates a g xs → CandidatesTell h mode b t g qs ys e r → CandidatesTell h mode a t g qs xs e r
-kept_tell e g h mode qs r held m up w args all (inl (vs, o, s)) = inl (vs, kept_outcomes g h mode qs held m up w args all o, s)
+kept_tell {a} {b} {t} e g h mode qs r held m up w args all (inl (vs, o, s)) =
+    inl (vs, kept_outcomes g h mode qs held m up w args all o, subst (λ z. StandsForAll z vs (verdict_at e r)) (trees_kept a b t.entries qs up args) s)
 kept_tell {a} {b} {t} e g h mode qs r held m up w args all (inr (n, p)) =
     inr (n, subst (λ z. IsPlainResponse z (trees_of a qs) (response_at e r)) (content_of-extended up w.now) (subst (λ z. IsPlainResponse (content_of b t.entries) z (response_at e r)) (trees_kept a b t.entries qs up args) p))

@@ -1,6 +1,10 @@
 -- The response that stands for those of all candidates.
-use Rattle.std.proofs.Common.{◌≡◌, false, inl, inr, ℕ, zero, suc, ◌<◌, List, [], ◌∷◌, map, length, get_or, Some, None, refl, sym, ap, ◌∙◌, subst, arith}
-use Rattle.nts_model.specs.Terms.Trees.{Tree}
+use Rattle.std.proofs.Common.{◌≡◌, false, inl, inr, ⊎_elim, ℕ, zero, suc, ◌+◌, ◌<◌, List, [], ◌∷◌, map, length, get_or, Some, None, refl, sym, ap, ◌∙◌, subst, arith}
+use Rattle.std.proofs.lemmas.List.{get_or_default}
+use Rattle.nts_model.proofs.Tables.Under.{same_or_other}
+use Rattle.nts_model.specs.declared.labels.Label.{Label}
+use Rattle.nts_model.specs.Canonical.Inputs.{PositionKind}
+use Rattle.nts_model.specs.Terms.Trees.{Tree, node, children, label_of}
 use Rattle.nts_model.specs.Tables.Contents.{Content}
 use Rattle.nts_model.specs.Lists.{Among}
 use Rattle.nts_certainty.specs.declared.certainty.Certainty.{Certainty}
@@ -11,7 +15,7 @@ use Rattle.nts_terms.specs.declared.handles.GenericArg.{GenericArg}
 use Rattle.nts_unify.specs.Reading.{content_of}
 use Rattle.nts_table.specs.Tables.{Table}
 use Rattle.nts_delegate.specs.Offered.{hidden_of}
-use Rattle.nts_canonical.specs.Forms.{trees_of}
+use Rattle.nts_canonical.specs.Forms.{trees_of, kind_of_var}
 use Rattle.nts_canonical.specs.declared.types.Canonical.{Canonical}
 use Rattle.nts_response.specs.declared.types.Response.{Response}
 use Rattle.nts_response.specs.Forms.{response_at, recorded_at, premise_at, HoldsResponse}
@@ -20,10 +24,10 @@ use Rattle.nts_merging.specs.declared.merging.MergeCandidateInfo.TheVariants as 
 use Rattle.nts_merging.specs.Merging.{AppliesAlways, Merges, doubt_of}
 use Rattle.nts_theory.specs.Telling.{without_constraints, IsResponseOf}
 use Rattle.nts_asking.specs.Answering.{told_in, is_yes, verdict_at}
-use Rattle.nts_trying.specs.Found.{IsMerged}
-use Rattle.nts_asking.specs.Telling.{StandsForAll}
-use Rattle.nts_theory.specs.Telling.{IsIdentityAnswer}
-use Rattle.nts_model.specs.Canonical.Inputs.{PositionKind}
+use Rattle.nts_trying.specs.Found.{IsMerged, IsTaken, StandsForThem}
+use Rattle.nts_theory.specs.Telling.{IsIdentityAnswer, IsLabelOfKind, IsTermOfKind, AreTermsOfKinds, StandsForAll}
+use Rattle.nts_store.specs.Growth.{tree_at}
+use Rattle.nts_canonical.specs.declared.types.CanonicalVarKind.{CanonicalVarKind}
 use Rattle.nts_response.specs.Same.{AreOneResponse}
 
 -- an answer that is not certain
@@ -89,12 +93,48 @@ identity_answer a r (sure, positions, nothing) =
       open_goals = ap (map (premise_at a)) nothing.2;
     }
 
+-- a term stands for a position of a kind exactly if its label does
+some_label : (x y : Label) → Some x ≡ Some y → x ≡ y
+some_label x y e = cc e
+
+label_of_kind : (k : PositionKind) (t : Tree) (l : Label) → t ≡ node l (children t) → IsTermOfKind k t → IsLabelOfKind k l
+label_of_kind k t l e h = subst (IsLabelOfKind k) (some_label h.0 l (sym h.1 ∙ ap label_of e)) h.2
+
+module _ (ts : List Tree) (qs : List GenericArg) (ks : List CanonicalVarKind) (i : ℕ) (d : GenericArg) (x : CanonicalVarKind) (l : Label) (many : length qs ≡ length ks) (below : i < length qs) (kind : x ≡ get_or ks i x)
+    (label : tree_at ts (get_or qs i d).node ≡ node l (children (tree_at ts (get_or qs i d).node))) where
+  kind_at : (k : CanonicalVarKind) → x ≡ get_or ks i k
+  kind_at k = kind ∙ get_or_default ks i x k (omega (arith, below, many))
+
+  -- one more term stands for its position
+  pub over_more : IsLabelOfKind (kind_of_var x) l → ((j : ℕ) (q : GenericArg) (k : CanonicalVarKind) → j < i → IsTermOfKind (kind_of_var (get_or ks j k)) (tree_at ts (get_or qs j q).node))
+      → (j : ℕ) (q : GenericArg) (k : CanonicalVarKind) → j < i + 1 → IsTermOfKind (kind_of_var (get_or ks j k)) (tree_at ts (get_or qs j q).node)
+  over_more h old j q k less = ⊎_elim (λ e. subst (λ n. IsTermOfKind (kind_of_var (get_or ks n k)) (tree_at ts (get_or qs n q).node)) (sym e) here) (λ n. old j q k (omega (arith, less, n))) (same_or_other j i)
+    where
+      here : IsTermOfKind (kind_of_var (get_or ks i k)) (tree_at ts (get_or qs i q).node)
+      here =
+          subst (λ z. IsTermOfKind (kind_of_var z) (tree_at ts (get_or qs i q).node)) (kind_at k)
+          (subst (λ (z : GenericArg). IsTermOfKind (kind_of_var x) (tree_at ts z.node)) (get_or_default qs i d q below) (l, ap label_of label, h))
+
+  -- .. and so does its label, where all do
+  pub label_over : ((j : ℕ) (q : GenericArg) (k : CanonicalVarKind) → j < length qs → IsTermOfKind (kind_of_var (get_or ks j k)) (tree_at ts (get_or qs j q).node)) → IsLabelOfKind (kind_of_var x) l
+  label_over all = label_of_kind (kind_of_var x) (tree_at ts (get_or qs i d).node) l label (subst (λ z. IsTermOfKind (kind_of_var z) (tree_at ts (get_or qs i d).node)) (sym (kind_at x)) (all i d x below))
+
+-- terms that stand for positions, one by one
+over_each : (ts : List Tree) (qs : List GenericArg) (ks : List CanonicalVarKind) → length qs ≡ length ks → ((i : ℕ) (q : GenericArg) (k : CanonicalVarKind) → i < length qs → IsTermOfKind (kind_of_var (get_or ks i k)) (tree_at ts (get_or qs i q).node))
+    → AreTermsOfKinds (map kind_of_var ks) (trees_of ts qs)
+over_each ts [] [] m h = tt
+over_each ts [] (k ∷ ks) m h = absurd (omega (arith, m))
+over_each ts (q ∷ qs) [] m h = absurd (omega (arith, m))
+over_each ts (q ∷ qs) (k ∷ ks) m h = (h 0 q k (omega arith), over_each ts qs ks (omega (arith, m)) (λ i p j l. h (suc i) p j (omega (arith, l))))
+
 -- the merged response stands for all
-pub merged_stands : (a : List Tree) (rs : List (Canonical Response)) (r : Canonical Response) (m : MergeCandidateInfo) → Merges a rs (Some (r, m)) → (ks : List PositionKind) → StandsForAll ks (map (verdict_at a) rs) (verdict_at a r)
-merged_stands a rs r (info.AlwaysApplicable i) h ks =
-    let always = subst (AppliesAlways a) h.1 (h.0.is r) in
-    (merged_form_among a rs r (info.AlwaysApplicable i) h, inl (ap is_yes always.0, identity_answer a r always, tt))
-merged_stands a rs r info.EqualResponse h ks = (
+merged_by : (a : List Tree) (qs : List GenericArg) (rs : List (Canonical Response)) (r : Canonical Response) (m : MergeCandidateInfo) → Merges a rs (Some (r, m)) → IsTaken a qs m r → StandsForAll (trees_of a qs) (map (verdict_at a) rs) (verdict_at a r)
+merged_by a qs rs r (info.AlwaysApplicable i) h over =
+    let always = subst (AppliesAlways a) h.1 (h.0.is r) in (
+      merged_form_among a rs r (info.AlwaysApplicable i) h,
+      inl (record { certain = ap is_yes always.0; same = identity_answer a r always; kinds = over_each a qs r.var_kinds.items over.many over.each }),
+    )
+merged_by a qs rs r info.EqualResponse h over = (
   merged_form_among a rs r info.EqualResponse h,
   inr (λ q i.
       let p = place_among (verdict_at a) rs q r i in
@@ -104,16 +144,18 @@ merged_stands a rs r info.EqualResponse h ks = (
     one_verdict : (x y : Canonical Response) → AreOneResponse a x y → verdict_at a x ≡ verdict_at a y
     one_verdict x y e = (let form = e.form in let sure = e.certainty in λ i. record { response = form i; is_yes = is_yes (sure i) })
 
+pub merged_stands : (a : List Tree) (qs : List GenericArg) (rs : List (Canonical Response)) (r : Canonical Response) → StandsForThem a qs rs r → StandsForAll (trees_of a qs) (map (verdict_at a) rs) (verdict_at a r)
+merged_stands a qs rs r h = merged_by a qs rs r h.why h.merges h.taken
+
 -- a response that was taken out of its place
-pub merged_kept : (a : List Tree) (rs ss : List (Canonical Response)) (i : ℕ) (r : Canonical Response) → ss ≡ rs → (m : MergeCandidateInfo) × Merges a ss (Some (get_or ss i r, m)) → r ≡ get_or rs i r → (m : MergeCandidateInfo) × Merges a rs (Some (r, m))
-merged_kept a rs ss i r same h is =
-    let here : (m : MergeCandidateInfo) × Merges a rs (Some (get_or rs i r, m)) = subst (λ z. (m : MergeCandidateInfo) × Merges a z (Some (get_or z i r, m))) same h in
-    subst (λ z. (m : MergeCandidateInfo) × Merges a rs (Some (z, m))) (sym is) here
+pub merged_kept : (a : List Tree) (qs : List GenericArg) (rs ss : List (Canonical Response)) (i : ℕ) (r : Canonical Response) → ss ≡ rs → StandsForThem a qs ss (get_or ss i r) → r ≡ get_or rs i r → StandsForThem a qs rs r
+merged_kept a qs rs ss i r same h is =
+    subst (StandsForThem a qs rs) (sym is) (subst (λ z. StandsForThem a qs z (get_or z i r)) same h)
 
 -- what a table says that is in doubt, where no response stands for all
-pub merged_doubt : (a b : List Tree) (t : Table) (qs : List GenericArg) (rs ss us : List (Canonical Response)) (r : Canonical Response) (q : Certainty) → ss ≡ rs → us ≡ rs → Merges a ss None → q ≡ doubt_of (map (λ c. c.value.certainty) us) → r.value.certainty ≡ q
+pub merged_doubt : (a b : List Tree) (t : Table) (qs : List GenericArg) (rs ss us : List (Canonical Response)) (r : Canonical Response) (q : Certainty) → ss ≡ rs → us ≡ rs → ((s : Canonical Response) → StandsForThem a qs ss s → ⊥) → q ≡ doubt_of (map (λ c. c.value.certainty) us) → r.value.certainty ≡ q
     → IsResponseOf (told_in q (content_of a t.entries)) (trees_of a qs) (response_at b r) → HoldsResponse b r.value → (r.value.external_constraints.opaque_types.items ≡ []) × (r.value.external_constraints.normalization_nested_goals.items ≡ []) → IsMerged a b t qs rs r
 merged_doubt a b t qs rs ss us r q here there none doubt sure says holds nothing =
     let doubt_here : q ≡ doubt_of (map (λ c. c.value.certainty) rs) = subst (λ z. q ≡ doubt_of (map (λ c. c.value.certainty) z)) there doubt in
     let plain = told_unsure q (content_of a t.entries) (λ yes. doubt_unsure (map (λ c. c.value.certainty) rs) (sym doubt_here ∙ yes)) in
-    inr (subst (λ z. Merges a z None) here none, sure ∙ doubt_here, subst (λ z. IsResponseOf z (trees_of a qs) (response_at b r)) plain says, holds, record { no_hidden = nothing.0; no_goals = nothing.1 })
+    inr (subst (λ z. (s : Canonical Response) → StandsForThem a qs z s → ⊥) here none, sure ∙ doubt_here, subst (λ z. IsResponseOf z (trees_of a qs) (response_at b r)) plain says, holds, record { no_hidden = nothing.0; no_goals = nothing.1 })

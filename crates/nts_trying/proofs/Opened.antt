@@ -41,13 +41,13 @@ use Rattle.nts_delegate.specs.Offered.{candidates_of}
 use Rattle.nts_delegate.specs.Relevant.{LeavesOut}
 use Rattle.nts_trying.proofs.LeftOut.{all_outcomes}
 use Rattle.nts_terms.specs.Handles.{HoldsGoal}
-use Rattle.nts_asking.specs.Evaluation.{Goes, IsPosed, asked_terms}
+use Rattle.nts_asking.specs.Evaluation.{Goes, IsPosed, IsAskedGoal, asked_terms}
 use Rattle.nts_trying.specs.Opening.{IsOpenedTo}
 use Rattle.nts_asking.specs.Meant.{IsServed, offers_of, IsTold, IsRefuted, CandidatesTell}
 use Rattle.nts_asking.proofs.Evaluating.{Knows-goes, offers-kept}
 use Rattle.nts_asking.proofs.Running.{term_table}
-use Rattle.nts_asking.specs.Telling.{StandsForAll, Outcomes}
-use Rattle.nts_theory.specs.Telling.{IsPlainResponse, Verdict, IsReady}
+use Rattle.nts_asking.specs.Telling.{Outcomes}
+use Rattle.nts_theory.specs.Telling.{IsPlainResponse, Verdict, IsReady, IsTraitGoal, StandsForAll}
 use Rattle.nts_theory.specs.Telling.Tells.{tells_nothing, tells_one}
 use Rattle.nts_theory.specs.Telling.Refutes.{all_fail}
 use Rattle.nts_asking.specs.Answering.{is_yes, verdict_at}
@@ -79,10 +79,10 @@ goal_closed c e g h asked = by_test (binds g) refl
 
 -- what the candidates tell, in terms of what is offered for the goal
 pub told_offered : {b d : List Tree} (h : Handler) (mode : TypingMode) (u : Table) (o : Goal) (qs : List GenericArg) (xs : List CandidateData) (e : List Tree) (r : Canonical Response) → Extends b d → IsTable b u → HoldsGoal b o → trees_of d qs ≡ trees_of b qs → LeavesOut (offers_of h (mode_of mode) d o) (candidates_of d xs) → CandidatesTell h mode d u o qs xs e r
-    → ((vs : List Verdict) × Outcomes h (mode_of mode) (content_of b u.entries) (tree_at b o.param_env.node) (tree_at b o.predicate.node) (trees_of b qs) (offers_of h (mode_of mode) b o) vs × ((ks : List PositionKind) → StandsForAll ks vs (verdict_at e r)))
+    → ((vs : List Verdict) × Outcomes h (mode_of mode) (content_of b u.entries) (tree_at b o.param_env.node) (tree_at b o.predicate.node) (trees_of b qs) (offers_of h (mode_of mode) b o) vs × StandsForAll (trees_of b qs) vs (verdict_at e r))
     ⊎ (is_yes r.value.certainty ≡ false) × IsPlainResponse (content_of b u.entries) (trees_of b qs) (response_at e r)
 told_offered {b} {d} h mode u o qs xs e r up w holds trees those (inl (rs, x, y)) =
-    inl (rs, rw (content_of-extended up w.now, trees, offers-kept h (mode_of mode) up holds, up.kept o.param_env.node holds.env.within, up.kept o.predicate.node holds.predicate.within) at (all_outcomes those (candidates_of d xs) rs refl x), y)
+    inl (rs, rw (content_of-extended up w.now, trees, offers-kept h (mode_of mode) up holds, up.kept o.param_env.node holds.env.within, up.kept o.predicate.node holds.predicate.within) at (all_outcomes those (candidates_of d xs) rs refl x), subst (λ z. StandsForAll z rs (verdict_at e r)) trees y)
 told_offered {b} {d} h mode u o qs xs e r up w holds trees those (inr (n, x)) =
     inr (n, subst (λ z. IsPlainResponse z (trees_of b qs) (response_at e r)) (content_of-extended up w.now) (subst (λ z. IsPlainResponse (content_of d u.entries) z (response_at e r)) trees x))
 
@@ -108,29 +108,30 @@ module _ {a b : List Tree} {t u : Table} {g o : Goal} (posed : IsPosed a t g) (o
       (subst (λ z. Outcomes h (mode_of mode) there e z qs (offers e z) vs) opens.predicate (subst (λ z. Outcomes h (mode_of mode) there z (tree_at b o.predicate.node) qs (offers z (tree_at b o.predicate.node)) vs) environment_same x))
 
   -- the goal, opened, is known to the table, and may be asked
-  ready_opened : IsPosed b u o → IsAskedIn b o → IsReady before (tree_at a g.param_env.node) (tree_at a g.predicate.node)
+  ready_opened : IsPosed b u o → IsAskedGoal b o → IsReady before (tree_at a g.param_env.node) (tree_at a g.predicate.node)
   ready_opened p asked =
       let k = p.knows in
       let w = p.table in
       let same = environment_same in
       record {
-        asked = subst (λ z. handlers.IsAsked (tree_at a g.param_env.node) z) opens.predicate (subst (λ z. handlers.IsAsked z (tree_at b o.predicate.node)) environment_same asked.asked);
+        asked = subst (λ z. handlers.IsAsked (tree_at a g.param_env.node) z) opens.predicate (subst (λ z. handlers.IsAsked z (tree_at b o.predicate.node)) environment_same asked.asked.asked);
+        trait_goal = subst (λ z. IsTraitGoal (tree_at a g.param_env.node) z) opens.predicate (subst (λ z. IsTraitGoal z (tree_at b o.predicate.node)) environment_same asked.trait_goal);
         knows = subst (λ z. Knows z (pair (tree_at a g.param_env.node) (opened_in before (tree_at a g.predicate.node)))) opens.table
             (subst (λ z. Knows there (pair (tree_at a g.param_env.node) z)) opens.predicate (subst (λ z. Knows there (pair z (tree_at b o.predicate.node))) same (k.env, (k.predicate, tt))));
         proper = subst IsProperContent opens.table (proper_content w);
       }
 
   -- what its candidates are answered the goal is answered
-  pub told_through : IsPosed b u o → IsAskedIn b o → (h : Handler) (mode : TypingMode) (qs : List GenericArg) (e : List Tree) (r : Canonical Response) → trees_of b qs ≡ trees_of a qs
-      → ((vs : List Verdict) × Outcomes h (mode_of mode) there (tree_at b o.param_env.node) (tree_at b o.predicate.node) (trees_of b qs) (offers_of h (mode_of mode) b o) vs × ((ks : List PositionKind) → StandsForAll ks vs (verdict_at e r)))
+  pub told_through : IsPosed b u o → IsAskedGoal b o → (h : Handler) (mode : TypingMode) (qs : List GenericArg) (e : List Tree) (r : Canonical Response) → trees_of b qs ≡ trees_of a qs
+      → ((vs : List Verdict) × Outcomes h (mode_of mode) there (tree_at b o.param_env.node) (tree_at b o.predicate.node) (trees_of b qs) (offers_of h (mode_of mode) b o) vs × StandsForAll (trees_of b qs) vs (verdict_at e r))
       ⊎ (is_yes r.value.certainty ≡ false) × IsPlainResponse there (trees_of b qs) (response_at e r) → IsTold h mode a t g qs e r
   told_through p ask h mode qs e r same (inl (vs, x, y)) ks =
       let there_told : Outcomes h (mode_of mode) there (tree_at b o.param_env.node) (tree_at b o.predicate.node) (trees_of a qs) (offers_of h (mode_of mode) b o) vs =
       subst (λ z. Outcomes h (mode_of mode) there (tree_at b o.param_env.node) (tree_at b o.predicate.node) z (offers_of h (mode_of mode) b o) vs) same x in
-      tells_one vs (ready_opened p ask) (opened_outcomes h mode (trees_of a qs) vs there_told) (y ks)
+      tells_one vs (ready_opened p ask) (opened_outcomes h mode (trees_of a qs) vs there_told) (subst (λ z. StandsForAll z vs (verdict_at e r)) same y)
   told_through p ask h mode qs e r same (inr (n, x)) ks = tells_nothing there (inr opens.table) n (subst (λ z. IsPlainResponse there z (response_at e r)) same x)
 
-  pub refuted_through : IsPosed b u o → IsAskedIn b o → (h : Handler) (mode : TypingMode) (qs : List GenericArg) → Outcomes h (mode_of mode) there (tree_at b o.param_env.node) (tree_at b o.predicate.node) (trees_of a qs) (offers_of h (mode_of mode) b o) [] → IsRefuted h mode a t g qs
+  pub refuted_through : IsPosed b u o → IsAskedGoal b o → (h : Handler) (mode : TypingMode) (qs : List GenericArg) → Outcomes h (mode_of mode) there (tree_at b o.param_env.node) (tree_at b o.predicate.node) (trees_of a qs) (offers_of h (mode_of mode) b o) [] → IsRefuted h mode a t g qs
   refuted_through p ask h mode qs x = all_fail (ready_opened p ask) (opened_outcomes h mode (trees_of a qs) [] x)
 
   -- .. of which nothing is told there

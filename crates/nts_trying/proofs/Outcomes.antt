@@ -29,8 +29,8 @@ use Rattle.nts_response.specs.Forms.{response_at}
 use Rattle.std.specs.Global.{Box}
 use Rattle.nts_asking.specs.Answering.{IfAnswered, verdict_at}
 use Rattle.nts_trying.specs.Found.{Found, IsMerged, kept_after}
-use Rattle.nts_asking.specs.Telling.{Outcomes, Replies, Fails, StandsForAll}
-use Rattle.nts_theory.specs.Telling.{IsPlainResponse}
+use Rattle.nts_asking.specs.Telling.{Outcomes, Replies, Fails}
+use Rattle.nts_theory.specs.Telling.{IsPlainResponse, StandsForAll}
 use Rattle.nts_theory.specs.Telling.Outcomes.{no_outcome, then_fails, then_replies}
 use Rattle.nts_asking.specs.Meant.{HaveOutcomes, CandidatesTell, RepliesWith, FailsIn}
 use Rattle.nts_asking.proofs.AskedGoals.{trees_kept}
@@ -113,8 +113,8 @@ outcomes_more {P} {a} {b} {e} {t} {g} {qs} h mode xs i d x rs new y l is ab be w
 
 -- the response that stands for all
 pub found_merged : {P : List Tree → Table → Type 0} {a b e : List Tree} {t : Table} {g : Goal} {qs : List GenericArg} (rs : List (Canonical Response)) (r : Canonical Response) → Extends a b → Extends b e → AreFormed b → IsTable a t → All (IsArgOf a t.entries) qs → All (Found P a b t g qs) rs → IsMerged b e t qs rs r → Found P a e t g qs r
-found_merged {P} {a} {b} {e} {t} {g} {qs} rs r ab be formed w args found (inl (m, merges)) =
-    let (i, l, is) = merged_among b rs r m merges in
+found_merged {P} {a} {b} {e} {t} {g} {qs} rs r ab be formed w args found (inl stands) =
+    let (i, l, is) = merged_among b rs r stands.why stands.merges in
     found_later r be (subst (Found P a b t g qs) is (found i r l))
 found_merged {P} {a} {b} {e} {t} {g} {qs} rs r ab be formed w args found (inr (none, doubt, plain, holds, no_more)) =
     let unsure = λ (y : r.value.certainty ≡ certainty.Yes). doubt_unsure (map (λ c. c.value.certainty) rs) (sym doubt ∙ y) in
@@ -122,10 +122,15 @@ found_merged {P} {a} {b} {e} {t} {g} {qs} rs r ab be formed w args found (inr (n
 
 pub told_merged : {P : List Tree → Table → Type 0} {a b e : List Tree} {t : Table} {g : Goal} {qs : List GenericArg} (h : Handler) (mode : TypingMode) (xs : List CandidateData) (rs : List (Canonical Response)) (r : Canonical Response) → Extends a b → Extends b e → IsTable a t → All (IsArgOf a t.entries) qs → All (Found P a b t g qs) rs
     → HaveOutcomes h mode a t g qs xs (map (verdict_at b) rs) → IsMerged b e t qs rs r → CandidatesTell h mode a t g qs xs e r
-told_merged {P} {a} {b} {e} {t} {g} {qs} h mode xs rs r ab be w args found outcomes (inl (m, merges)) =
-    let (i, l, is) = merged_among b rs r m merges in
+told_merged {P} {a} {b} {e} {t} {g} {qs} h mode xs rs r ab be w args found outcomes (inl stands) =
+    let (i, l, is) = merged_among b rs r stands.why stands.merges in
     let one : Found P a b t g qs r = subst (Found P a b t g qs) is (found i r l) in
-    inl (map (verdict_at b) rs, outcomes, λ ks. subst (StandsForAll ks (map (verdict_at b) rs)) (sym (verdict_same b e r be one.holds)) (merged_stands b rs r m merges ks))
+    inl (
+      map (verdict_at b) rs,
+      outcomes,
+      subst (StandsForAll (trees_of a qs) (map (verdict_at b) rs)) (sym (verdict_same b e r be one.holds))
+          (subst (λ z. StandsForAll z (map (verdict_at b) rs) (verdict_at b r)) (trees_kept a b t.entries qs ab args) (merged_stands b qs rs r stands)),
+    )
 told_merged {P} {a} {b} {e} {t} {g} {qs} h mode xs rs r ab be w args found outcomes (inr (none, doubt, plain, holds, no_more)) =
     inr (
       unsure_yes r.value.certainty (λ y. doubt_unsure (map (λ c. c.value.certainty) rs) (sym doubt ∙ y)),

@@ -1,6 +1,8 @@
 -- Goals that are evaluated in steps: what was asked so far, what is left, and what is proved.
-use Rattle.std.proofs.Common.{◌≡◌, ◌⊎◌, inl, inr, ⊎_elim, ℕ, zero, suc, ◌+◌, ◌<◌, List, [], ◌∷◌, ◌++◌, map, length, take, get_or, refl, sym, ap, ◌∙◌, subst, arith}
-use Rattle.std.specs.Prelude.{All, ◌≢◌}
+use Rattle.std.proofs.Common.{◌≡◌, ◌⊎◌, true, false, inl, inr, ⊎_elim, ℕ, zero, suc, ◌+◌, ◌<◌, List, [], ◌∷◌, ◌++◌, map, length, take, get_or, refl, sym, ap, ◌∙◌, subst, arith}
+use Rattle.std.specs.Prelude.{All, ◌≢◌, Result, Ok, Err, OnErr}
+use Rattle.std.specs.Result.{is_err}
+use Rattle.nts_trying.proofs.Labels.{content_same}
 use Rattle.std.proofs.lemmas.List.Elements.{All-head, All-tail}
 use Rattle.nts_model.specs.Lists.{Among}
 use Rattle.nts_model.specs.Derivations.Sequents.{inductive}
@@ -16,7 +18,11 @@ use Rattle.nts_search.specs.Kinds.{goal_kind_of}
 use Rattle.nts_delegate.specs.Offered.{path_kind_of, source_of}
 use Rattle.nts_theory.specs.Telling.{CanAsk, IsInductive}
 use Rattle.nts_theory.specs.Telling.RefusesOne.{cuts_one}
-use Rattle.nts_asking.specs.Searching.{IsGoalCut}
+use Rattle.nts_search.specs.Searching.{IsStack}
+use Rattle.nts_asking.specs.Searching.{IsHead, AreLater, IsGoalCut}
+use Rattle.nts_asking.proofs.Cuts.{goal_cut_before}
+use Rattle.nts_asking.proofs.Rounds.{not_cut}
+use Rattle.nts_trying.specs.Stopping.{Turn, IsTurnRefused, IsTurnCut, StopsIn, RefusesAmong}
 use Rattle.nts_asking.specs.Meant.{IsNestedSince}
 use Rattle.nts_asking.proofs.Searching.{stays_more, none_passed}
 use Rattle.nts_model.specs.Terms.Trees.{Tree}
@@ -31,7 +37,7 @@ use Rattle.nts_certainty.specs.declared.certainty.Certainty.{Certainty}
 use Rattle.nts_certainty.specs.declared.certainty.Certainty.TheVariants as certainty
 use Rattle.nts_certainty.specs.declared.sources.GoalSource.{GoalSource}
 use Rattle.nts_certainty.specs.Certainties.{both}
-use Rattle.nts_store.specs.Growth.{Extends}
+use Rattle.nts_store.specs.Growth.{Extends, tree_at}
 use Rattle.nts_terms.specs.declared.cx.Cx.{Cx}
 use Rattle.nts_terms.specs.declared.handles.Goal.{Goal}
 use Rattle.nts_terms.specs.declared.modes.TypingMode.{TypingMode}
@@ -160,6 +166,10 @@ inductive_source kinds.CoinductiveTrait (source.NormalizeGoal path.Coinductive) 
 inductive_source kinds.CoinductiveTrait (source.NormalizeGoal path.Unknown) n e = cc e
 inductive_source kinds.CoinductiveTrait (source.NormalizeGoal path.ForcedAmbiguity) n e = cc e
 
+-- the trees of a goal in a smaller store
+earlier_trees : {a b : List Tree} {g : Goal} → Extends a b → HoldsGoal a g → (P : Tree → Tree → Type 0) → P (tree_at b g.param_env.node) (tree_at b g.predicate.node) → P (tree_at a g.param_env.node) (tree_at a g.predicate.node)
+earlier_trees {a} {b} {g} e held P x = subst (λ v. P v (tree_at a g.predicate.node)) (e.kept g.param_env.node held.env.within) (subst (P (tree_at b g.param_env.node)) (e.kept g.predicate.node held.predicate.within) x)
+
 -- one goal more was asked, or passed over
 module _ {a b : List Tree} {t : Table} (u : Table) (h : Handler) (mode : TypingMode) (gs : List (GoalSource × Goal)) (g : GoalSource × Goal) (posed : ArePosed a t gs) (i : Among gs g) (e : Extends a b) (before : ReachesBy h mode a t b u gs) where
   abbrev here : Content
@@ -177,20 +187,23 @@ module _ {a b : List Tree} {t : Table} (u : Table) (h : Handler) (mode : TypingM
       then_asks here p before (among_image (premise_at a) gs g i) (can_ask w) (subst (λ (q : Premise). Asked h (mode_of mode) here (content_of d v.entries) (deeply_resolved here q.environment) (deeply_resolved here q.predicate)) same_premise (was_asked x))
   reach_more {d} v w f (inr (deep, x)) = subst (Reaches h (mode_of mode) (goals_at a gs) (content_of a t.entries)) (sym (ap (content_of d) x ∙ content_of-extended f w.now)) before
 
-  pub refuse_more : IsTable b u → {z : CurrentGoalKind} {w : PathKind} → path_kind_of w ≡ step_kind (goal_kind_of z) (source_of g.0) → z ≢ kinds.NormalizesTo → {us : List Tree} {s : SearchGraph} {c : Content} {x y : Tree} → IsRefusedUnder h mode b u g.1 ⊎ IsGoalCut us s c mode x y w → RefusesOneOf h mode a t gs
-  refuse_more table {z} {w} same n (inr (j, of, c)) =
-      cuts_one here (premise_at a g) before (among_image (premise_at a) gs g i) (inductive_source z g.0 n (sym same ∙ ap path_kind_of (last_inductive w c))) c.elsewhere
-  refuse_more table same n (inl x) =
-      refuses_one here (premise_at a g) before (among_image (premise_at a) gs g i) (can_ask table) (subst (λ (q : Premise). Refused h (mode_of mode) here (deeply_resolved here q.environment) (deeply_resolved here q.predicate)) same_premise x)
+  -- .. or the goals stop there
+  pub stop_more : IsTable b u → (z : CurrentGoalKind) (k : PathKind) → path_kind_of k ≡ step_kind (goal_kind_of z) (source_of g.0) → (s : SearchGraph)
+      → IsRefusedUnder h mode b u g.1 ⊎ IsGoalCut a s here mode (deeply_resolved here (tree_at b g.1.param_env.node)) (deeply_resolved here (tree_at b g.1.predicate.node)) k → StopsIn s z h mode a (content_of a t.entries) gs
+  stop_more table z k same s stopped = (record { goal = g; among = i; table = here; reaches = before; can_ask = can_ask table }, by_case stopped)
+    where
+      held : HoldsGoal a g.1
+      held = (let p = all_among (λ x. IsPosed a t x.1) gs g posed i in p.holds)
+
+      by_case : IsRefusedUnder h mode b u g.1 ⊎ IsGoalCut a s here mode (deeply_resolved here (tree_at b g.1.param_env.node)) (deeply_resolved here (tree_at b g.1.predicate.node)) k
+          → Refused h (mode_of mode) here (deeply_resolved here (tree_at a g.1.param_env.node)) (deeply_resolved here (tree_at a g.1.predicate.node)) ⊎ ((q : PathKind) × (path_kind_of q ≡ step_kind (goal_kind_of z) (source_of g.0)) × IsGoalCut a s here mode (deeply_resolved here (tree_at a g.1.param_env.node)) (deeply_resolved here (tree_at a g.1.predicate.node)) q)
+      by_case (inl x) = inl (earlier_trees e held (λ v w. Refused h (mode_of mode) here (deeply_resolved here v) (deeply_resolved here w)) x)
+      by_case (inr c) = inr (k, same, earlier_trees e held (λ v w. IsGoalCut a s here mode (deeply_resolved here v) (deeply_resolved here w) k) c)
 
 -- a step over the goals that are left, after the steps before
 reaches_into : {h : Handler} {mode : Mode} (gs hs : List Premise) {c d e : Content} → ((p : Premise) → Among gs p → Among hs p) → Reaches h mode hs c d → Reaches h mode gs d e → Reaches h mode hs c e
 reaches_into gs hs f h asks_nothing = h
 reaches_into gs hs f h (then_asks x p r i k q) = then_asks x p (reaches_into gs hs f h r) (f p i) k q
-
-refuses_into : {h : Handler} {mode : Mode} (gs hs : List Premise) {c d : Content} → ((p : Premise) → Among gs p → Among hs p) → Reaches h mode hs c d → RefusesOne h mode gs d → RefusesOne h mode hs c
-refuses_into gs hs f h (refuses_one x p r i k q) = refuses_one x p (reaches_into gs hs f h r) (f p i) k q
-refuses_into gs hs f h (cuts_one x p r i q z) = cuts_one x p (reaches_into gs hs f h r) (f p i) q z
 
 module _ {a b : List Tree} {t : Table} (u : Table) (h : Handler) (mode : TypingMode) (gs left : List (GoalSource × Goal)) (posed : ArePosed a t gs) (some : AreLeft gs left) (e : Extends a b) (before : ReachesBy h mode a t b u gs) where
   goals_left : (p : Premise) → Among (goals_at b left) p → Among (goals_at a gs) p
@@ -203,8 +216,38 @@ module _ {a b : List Tree} {t : Table} (u : Table) (h : Handler) (mode : TypingM
   pub reach_step : (d : List Tree) (v : Table) → ReachesBy h mode b u d v left → ReachesBy h mode a t d v gs
   reach_step d v x = reaches_into (goals_at b left) (goals_at a gs) goals_left before x
 
-  pub refuse_step : RefusesOneOf h mode b u left → RefusesOneOf h mode a t gs
-  refuse_step x = refuses_into (goals_at b left) (goals_at a gs) goals_left before x
+  pub stop_step : (s r : SearchGraph) (z : CurrentGoalKind) → IsStack a s → All (IsHead a) s.stack.items → AreLater s.stack.items r.stack.items → StopsIn r z h mode b (content_of b u.entries) left → StopsIn s z h mode a (content_of a t.entries) gs
+  stop_step s r z stack heads later (x, stopped) =
+      let i = left_among some x.goal x.among in (
+        record { goal = x.goal; among = i; table = x.table; reaches = reaches_into (goals_at b left) (goals_at a gs) goals_left before x.reaches; can_ask = x.can_ask },
+        by_case (let p = all_among (λ y. IsPosed a t y.1) gs x.goal posed i in p.holds) stopped,
+      )
+    where
+      by_case : HoldsGoal a x.goal.1 → IsTurnRefused h mode b (content_of b u.entries) left x ⊎ IsTurnCut r z h mode b (content_of b u.entries) left x
+          → Refused h (mode_of mode) x.table (deeply_resolved x.table (tree_at a x.goal.1.param_env.node)) (deeply_resolved x.table (tree_at a x.goal.1.predicate.node))
+          ⊎ ((q : PathKind) × (path_kind_of q ≡ step_kind (goal_kind_of z) (source_of x.goal.0)) × IsGoalCut a s x.table mode (deeply_resolved x.table (tree_at a x.goal.1.param_env.node)) (deeply_resolved x.table (tree_at a x.goal.1.predicate.node)) q)
+      by_case held (inl y) = inl (earlier_trees e held (λ v w. Refused h (mode_of mode) x.table (deeply_resolved x.table v) (deeply_resolved x.table w)) y)
+      by_case held (inr (k, same, c)) = inr (k, same, earlier_trees e held (λ v w. IsGoalCut a s x.table mode (deeply_resolved x.table v) (deeply_resolved x.table w) k) (goal_cut_before e stack heads later c))
+
+-- goals that stop are refused; a cut is one of an inductive source
+pub stopped_refused : {h : Handler} {mode : TypingMode} {a : List Tree} {gs : List (GoalSource × Goal)} (t : Table) (s : SearchGraph) (z : CurrentGoalKind) → z ≢ kinds.NormalizesTo → StopsIn s z h mode a (content_of a t.entries) gs → RefusesOneOf h mode a t gs
+stopped_refused {a = a} {gs = gs} t s z n (x, inl r) = refuses_one x.table (premise_at a x.goal) x.reaches (among_image (premise_at a) gs x.goal x.among) x.can_ask r
+stopped_refused {a = a} {gs = gs} t s z n (x, inr (k, same, (i, of, c))) =
+    cuts_one x.table (premise_at a x.goal) x.reaches (among_image (premise_at a) gs x.goal x.among) (inductive_source z x.goal.0 n (sym same ∙ ap path_kind_of (last_inductive k c))) c.elsewhere
+
+-- on an empty stack nothing is cut
+pub stopped_root : {h : Handler} {mode : TypingMode} {a : List Tree} {c : Content} {gs : List (GoalSource × Goal)} (s : SearchGraph) (z : CurrentGoalKind) → s.stack.items ≡ [] → StopsIn s z h mode a c gs → RefusesAmong h mode a c gs
+stopped_root s z none (x, inl r) = (x, r)
+stopped_root s z none (x, inr (k, same, c)) = (x, not_cut s none (inr c))
+
+-- an error left the table as it was, in a store that may have grown
+pub after_error : {T E P : Type 0} (r : Result T E) → OnErr r P → is_err r ≡ true → P
+after_error (Ok x) h e = (let z : false ≡ true = e in cc z)
+after_error (Err x) h e = h
+
+pub reach_still : {b d : List Tree} {v : Table} (a : List Tree) (t u : Table) (h : Handler) (mode : TypingMode) (gs : List (GoalSource × Goal)) → Extends b d → IsTable b u → v ≡ u → ReachesBy h mode a t b u gs → ReachesBy h mode a t d v gs
+reach_still {b} {d} {v} a t u h mode gs up w same x =
+    subst (λ c. Reaches h (mode_of mode) (goals_at a gs) (content_of a t.entries) c) (sym (content_same up w same)) x
 
 pub left_trans : {gs left more : List (GoalSource × Goal)} → AreLeft gs left → AreLeft left more → AreLeft gs more
 left_trans none_left none_left = none_left

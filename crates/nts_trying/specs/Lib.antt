@@ -5,3 +5,4 @@ pub mod Found
 pub mod Stepping
 pub mod Adding
 pub mod Rows
+pub mod Stopping

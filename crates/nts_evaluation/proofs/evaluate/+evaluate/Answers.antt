@@ -23,10 +23,11 @@ use Rattle.nts_trying.specs.Stepping.{AreLeft, AreSettled, bound_of, none_left}
 use Rattle.nts_theory.specs.Telling.Reaches.{asks_nothing}
 use Rattle.nts_asking.proofs.Asking.{IsAskedGoal-extended, kind_asked}
 use Rattle.nts_asking.proofs.AskedGoals.{trees_kept, ok_both, ok_two, args_there, applicable, evaluates, evaluates_at, was_asked, asked_stays, asked_labels, query_cut, response_refused, ok_three}
+use Rattle.nts_asking.proofs.Cuts.{cut_at_first}
 use Rattle.nts_asking.proofs.AnsweredQueries.{first_entries, query_environment, query_predicate, args_later}
 use Rattle.nts_trying.proofs.Labels.{only_earlier, only_back, only_same, only_resolved, content_same}
 use Rattle.nts_asking.proofs.Evaluating.{Goes-trans, Goes-extends, Runs-trans, Runs-extends, Runs-refl, rolled_back, Since-later, offers-kept, IsPosed-later, AreValues-later, IsCandidate-extended, candidate_at, goes-back, HoldsGoal-extended}
-use Rattle.nts_trying.proofs.Stepping.{among_get, posed_later, posed_left, only_one, only_left, reach_more, refuse_more, reach_step, refuse_step, left_trans, settled_step, left_more, settled_proved, sure_more, left_refl}
+use Rattle.nts_trying.proofs.Stepping.{among_get, posed_later, posed_left, only_one, only_left, reach_more, reach_still, after_error, stop_more, reach_step, stop_step, left_trans, settled_step, left_more, settled_proved, sure_more, left_refl}
 use Rattle.nts_asking.proofs.Running.{term_table, unread, HasRun, has_run, both_sure, constraints-kept, offered_there, Equates-later, Constrains-later}
 use Rattle.nts_canonical.specs.declared.types.Canonical.{Canonical}
 use Rattle.nts_response.specs.declared.types.Response.{Response}
@@ -165,6 +166,7 @@ evaluate_added-returns-in-None g t c =
     record {
       runs = Runs-refl c.requires.posed.table;
       searches = search_marked (bound_of c.args.depth) true c.requires.search;
+      err = search rules;
       labels = search rules;
       proved = search rules;
       told = λ s tells. inr (c.next.ensures.too_deep.0 (search rules), refl);
@@ -176,6 +178,7 @@ evaluate_added-returns-in_err-asked-in-Some g t c =
     record {
       runs = Runs-extends c.requires.posed.table c.resolve_goal.ensures.grows.extends c.resolve_goal.ensures.grows.rest;
       searches = Searches-refl (bound_of c.args.depth) c.requires.search c.resolve_goal.ensures.grows;
+      err = search rules;
       labels = search rules;
       proved = search rules;
       told = search rules;
@@ -194,6 +197,7 @@ evaluate_added-returns-in_ok-asked-in-Some g t c =
     record {
       runs = Runs-trans (Runs-extends c.requires.posed.table c.in_ok-asked-in-Some.ensures.grows.extends c.in_ok-asked-in-Some.ensures.grows.rest) c.evaluate_goal.ensures.runs;
       searches = search_then (bound_of c.args.depth) c.requires.search c.in_ok-asked-in-Some.ensures.grows c.evaluate_goal.ensures.searches;
+      err = e.err;
       labels = OnOk-map c.evaluate_goal.result (λ h. only_resolved c.args.goal c.in_ok-asked-in-Some.asked k.grows.extends c.requires.posed.table k.env k.predicate h) c.evaluate_goal.ensures.labels;
       proved = λ s.
           IfOk-map c.evaluate_goal.result
@@ -464,13 +468,13 @@ evaluate_step-returns-in_err-answer g t c =
       labels = IfOk-from_err c.from_residual.result _ fails;
       proved = λ s. IfOk-from_err c.from_residual.result _ fails;
       sure = IfOk-from_err c.from_residual.result _ fails;
-      told = λ s tells. IfOk-from_err c.from_residual.result _ fails;
-      refuted = λ s tells kind n.
+      told = λ s tells. reach_still c.args.cx.now.nodes c.args.table.now c.loop-added.table (g.H.GoalHandler.handler s.base c.args.handler.now) c.args.table.now.mode c.args.goals.now c.evaluate_added.ensures.runs.goes.extends i.runs.goes.table (after_error c.evaluate_added.result c.evaluate_added.ensures.err (search rules)) (i.told s tells);
+      refuted = λ s tells n.
           let h = g.H.GoalHandler.handler s.base c.args.handler.now in
           let refused : c.evaluate_added.result ≡ Err EvalError.NoSolution = search rules in
           let later = heads_tell_later h (bound_of c.args.depth) c.requires.search i.runs.goes.extends i.searches tells in
-          refuse_more c.loop-added.table h c.args.table.now.mode c.args.goals.now _ c.requires.posed (among_get c.args.goals.now c.loop-added.added-index _ c.loop-added-test.true) i.runs.goes.extends (i.told s tells) i.runs.goes.table c.step_kind_for_source-kind.ensures kind
-          (rw i.runs.goes.mode at (c.evaluate_added.ensures.refuted (Since-later (ran i.runs) s) later refused));
+          stop_more c.loop-added.table h c.args.table.now.mode c.args.goals.now _ c.requires.posed (among_get c.args.goals.now c.loop-added.added-index _ c.loop-added-test.true) i.runs.goes.extends (i.told s tells) i.runs.goes.table c.args.kind _ c.step_kind_for_source-kind.ensures c.args.graph.now
+          (cut_at_first i.runs.goes.extends c.requires.search i.searches (rw i.runs.goes.mode at (c.evaluate_added.ensures.refuted (Since-later (ran i.runs) s) later refused)));
     }
 
 pub evaluate_step-returns-in_err-note : goal.evaluate_step-returns-in_err-note
@@ -484,7 +488,10 @@ evaluate_step-returns-in_err-note g t c =
       labels = IfOk-from_err c.from_residual-in_err-note.result _ fails;
       proved = λ s. IfOk-from_err c.from_residual-in_err-note.result _ fails;
       sure = IfOk-from_err c.from_residual-in_err-note.result _ fails;
-      told = λ s tells. IfOk-from_err c.from_residual-in_err-note.result _ fails;
+      told = λ s tells.
+          let i = c.loop-added.invariant in
+          let e = c.in_ok-answer.ensures in
+          reach_more c.loop-added.table (g.H.GoalHandler.handler s.base c.args.handler.now) c.args.table.now.mode c.args.goals.now _ c.requires.posed (among_get c.args.goals.now c.loop-added.added-index _ c.loop-added-test.true) i.runs.goes.extends (i.told s tells) c.evaluate_added.new.table i.runs.goes.table e.runs.goes.extends (rw i.runs.goes.mode at (e.told (Since-later (ran i.runs) s) (heads_tell_later (g.H.GoalHandler.handler s.base c.args.handler.now) (bound_of c.args.depth) c.requires.search i.runs.goes.extends i.searches tells)));
       refuted = search rules;
     }
 
@@ -697,12 +704,13 @@ try_evaluate_goals-returns-in_err-stepped g t c =
       labels = IfOk-from_err c.from_residual.result _ fails;
       proved = λ s. IfOk-from_err c.from_residual.result _ fails;
       sure = search rules;
-      told = λ s tells. IfOk-from_err c.from_residual.result _ fails;
-      refuted = λ s tells kind n.
+      told = λ s tells. reach_step c.loop-step.table (g.H.GoalHandler.handler s.base c.args.handler.now) c.args.table.now.mode c.args.goals.now.items c.loop-step.goals.items c.requires.posed i.left i.runs.goes.extends (i.told s tells) c.evaluate_step.new.cx.nodes c.evaluate_step.new.table (rw (i.runs.goes.mode, c.deref.ensures.value) at (c.evaluate_step.ensures.told (Since-later (ran i.runs) s) (heads_tell_later (g.H.GoalHandler.handler s.base c.args.handler.now) (bound_of c.args.depth) c.requires.search i.runs.goes.extends i.searches tells)));
+      refuted = λ s tells n.
           let h = g.H.GoalHandler.handler s.base c.args.handler.now in
           let refused : c.evaluate_step.result ≡ Err EvalError.NoSolution = search rules in
-          refuse_step c.loop-step.table h c.args.table.now.mode c.args.goals.now.items c.loop-step.goals.items c.requires.posed i.left i.runs.goes.extends (i.told s tells)
-          (rw (i.runs.goes.mode, c.deref.ensures.value) at (c.evaluate_step.ensures.refuted (Since-later (ran i.runs) s) (heads_tell_later (g.H.GoalHandler.handler s.base c.args.handler.now) (bound_of c.args.depth) c.requires.search i.runs.goes.extends i.searches tells) kind refused));
+          let search = c.requires.search in
+          stop_step c.loop-step.table h c.args.table.now.mode c.args.goals.now.items c.loop-step.goals.items c.requires.posed i.left i.runs.goes.extends (i.told s tells) c.args.graph.now c.loop-step.graph c.args.kind search.stack search.heads (let y = i.searches in y.later)
+          (rw (i.runs.goes.mode, c.deref.ensures.value) at (c.evaluate_step.ensures.refuted (Since-later (ran i.runs) s) (heads_tell_later (g.H.GoalHandler.handler s.base c.args.handler.now) (bound_of c.args.depth) c.requires.search i.runs.goes.extends i.searches tells) refused));
     }
 
 pub try_evaluate_goals-returns-then-not-stepped : goal.try_evaluate_goals-returns-then-not-stepped

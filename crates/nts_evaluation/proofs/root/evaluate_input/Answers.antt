@@ -11,6 +11,7 @@ use Rattle.nts_response.specs.Forms.{response_at}
 use Rattle.nts_delegate.specs.Offered.{path_kind_of}
 use Rattle.nts_asking.proofs.Evaluating.{Since-now}
 use Rattle.nts_asking.proofs.Rounds.{empty_stack, tell_begun, nothing_left, never_cut}
+use Rattle.nts_evaluation.proofs.Coherence.{told_contains, refuted_has_no_input}
 use Rattle.nts_evaluation.proofs.root.evaluate_input.Goals as goal
 
 pub returns-in-Ok-clause-proved : goal.returns-in-Ok-clause-proved
@@ -34,3 +35,17 @@ returns-in-Err-NoSolution-clause-refuted g c = λ q.
 
 pub returns-in-Ok-clause-fits : goal.returns-in-Ok-clause-fits
 returns-in-Ok-clause-fits g c = rw c.into_inner.ensures (rw c.in_ok-input.ensures.ok at c.in-Ok.ensures.fits)
+
+pub returns-in-Ok-clause-contains : goal.returns-in-Ok-clause-contains
+returns-in-Ok-clause-contains g c = λ here.
+    let ts = c.args.cx.now.nodes in
+    let lawful = g.met.H.GoalHandler.lawful ts c.args.handler.now c.terms_are_formed.ensures c.requires.ready in
+    let law = g.met.H.GoalHandler.offered ts c.args.handler.now c.terms_are_formed.ensures c.requires.ready in
+    told_contains c.requires.input lawful law here c.search.new.cx.nodes c.into_inner.result (returns-in-Ok-clause-told g c)
+
+pub returns-in-Err-NoSolution-clause-none : goal.returns-in-Err-NoSolution-clause-none
+returns-in-Err-NoSolution-clause-none g c = λ here q.
+    let ts = c.args.cx.now.nodes in
+    let lawful = g.met.H.GoalHandler.lawful ts c.args.handler.now c.terms_are_formed.ensures c.requires.ready in
+    let law = g.met.H.GoalHandler.offered ts c.args.handler.now c.terms_are_formed.ensures c.requires.ready in
+    refuted_has_no_input c.requires.input lawful law here (returns-in-Err-NoSolution-clause-refuted g c q)

@@ -12,7 +12,7 @@ use Rattle.nts_asking.proofs.Rounds.{search_begun, tell_begun, nothing_left, not
 use Rattle.nts_evaluation.proofs.solve.evaluate_root.Goals as goal
 
 pub evaluate_goal-requires-clause-search : goal.evaluate_goal-requires-clause-search
-evaluate_goal-requires-clause-search g c = search_begun c.recursion_limit-depth.result c.new-graph.ensures.stack c.new-graph.ensures.empty c.new-graph.ensures.root_depth c.new-graph.ensures.rounds
+evaluate_goal-requires-clause-search g c = search_begun c.args.depth c.new-graph.ensures.stack c.new-graph.ensures.empty c.new-graph.ensures.root_depth c.new-graph.ensures.rounds
 
 pub returns-in_err-asked-clause-runs : goal.returns-in_err-asked-clause-runs
 returns-in_err-asked-clause-runs g c = Runs-extends c.requires.posed.table c.resolve_goal.ensures.grows.extends c.resolve_goal.ensures.grows.rest

@@ -1,6 +1,7 @@
 use Rattle.nts_asking.proofs.Running.{Stays-now}
 use Rattle.nts_theory.proofs.Derivations.Rooted.{proved_held, proof_falls}
 use Rattle.nts_asking.proofs.Evaluating.{IsPosed-admitted, Since-now, each_of}
+use Rattle.nts_evaluation.proofs.Coherence.{no_solution_under, keeps_solutions_under, each_kept}
 use Rattle.nts_evaluation.proofs.solve.evaluate_root_goal.Goals as goal
 
 pub evaluate_root-evaluated-requires-clause-posed : goal.evaluate_root-evaluated-requires-clause-posed
@@ -35,3 +36,18 @@ returns-clause-evaluates g c = c.evaluate_root-evaluated.ensures.evaluates (Sinc
 pub returns-clause-refuted : goal.returns-clause-refuted
 returns-clause-refuted g c = λ q.
     c.evaluate_root-evaluated.ensures.refuted (Since-now c.terms_are_formed.ensures c.requires.ready) q
+
+pub returns-clause-none : goal.returns-clause-none
+returns-clause-none g c = λ q x.
+    let ts = c.args.cx.now.nodes in
+    let lawful = g.met.H.GoalHandler.lawful ts c.args.handler.now c.terms_are_formed.ensures c.requires.ready in
+    let law = g.met.H.GoalHandler.offered ts c.args.handler.now c.terms_are_formed.ensures c.requires.ready in
+    no_solution_under c.requires.table c.requires.admitted lawful law x (c.evaluate_root-evaluated.ensures.refuted (Since-now c.terms_are_formed.ensures c.requires.ready) q)
+
+pub returns-clause-keeps : goal.returns-clause-keeps
+returns-clause-keeps g c = λ x.
+    let ts = c.args.cx.now.nodes in
+    let lawful = g.met.H.GoalHandler.lawful ts c.args.handler.now c.terms_are_formed.ensures c.requires.ready in
+    let law = g.met.H.GoalHandler.offered ts c.args.handler.now c.terms_are_formed.ensures c.requires.ready in
+    let told = c.evaluate_root-evaluated.ensures.evaluates (Since-now c.terms_are_formed.ensures c.requires.ready) in
+    each_kept c.evaluate_root-evaluated.result told (λ e k. keeps_solutions_under c.requires.table c.requires.admitted lawful law x c.evaluate_root-evaluated.new.cx.nodes c.evaluate_root-evaluated.new.table k)

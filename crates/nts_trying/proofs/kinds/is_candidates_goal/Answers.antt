@@ -10,6 +10,8 @@ pub returns : goal.returns
 returns c = λ yes.
     let env_open : is_some c.flags-env.result.escaping ≡ false = first_of (cc, search rules) in
     let args_open : is_some c.flags-args.result.escaping ≡ false = c.is_none.ensures ∙ ap not yes in
+    let env_plain : c.flags-env.result.has_alias ≡ false = first_of (cc, search rules) in
+    let goal_plain : c.flags-flags.result.has_alias ≡ false = first_of (cc, search rules) in
     let env_names : c.flags-env.result.has_canonical ≡ false = first_of (cc, search rules) in
     let goal_names : c.flags-flags.result.has_canonical ≡ false = first_of (cc, search rules) in
     let statements : HasClosedStatements (tree_at c.args.cx.now.nodes c.args.goal.param_env.node) = c.statements_are_closed.ensures (first_of (cc, search rules)) in
@@ -28,6 +30,8 @@ returns c = λ yes.
       args_facts = c.flags-args.ensures;
       env_closed = env_open;
       args_closed = args_open;
+      env_plain = env_plain;
+      goal_plain = goal_plain;
       env_names = env_names;
       goal_names = goal_names;
       env_well_bound = c.is_well_bound.ensures.0 c.if-not-is_well_bound.false;

@@ -6,7 +6,7 @@ use Rattle.nts_trying.proofs.merged.merge_responses.Goals as goal
 pub returns-in-Some-clause-merged : goal.returns-in-Some-clause-merged
 returns-in-Some-clause-merged c =
     subst (IsMerged c.args.cx.now.nodes c.args.cx.now.nodes c.args.table.now c.args.values.now c.args.responses.items) (sym c.in_ok-response.ensures.ok)
-    (inl (merged_kept c.args.cx.now.nodes c.args.responses.items _ c.in-Some.i c.swap_remove.result c.deref.ensures.value (c.in-Some.ensures.some.1 c.swap_remove.result) c.swap_remove.ensures.value))
+    (inl (merged_kept c.args.cx.now.nodes c.args.values.now c.args.responses.items _ c.in-Some.i c.swap_remove.result c.deref.ensures.value (c.in-Some.ensures.some.1 c.swap_remove.result) c.swap_remove.ensures.value))
 
 pub returns-clause-merged : goal.returns-clause-merged
 returns-clause-merged c =

@@ -4,6 +4,7 @@ use Rattle.nts_unify.specs.Lawful.{content_of-extended}
 use Rattle.nts_asking.proofs.Evaluating.{Goes-extends, Runs-extends}
 use Rattle.nts_trying.proofs.Stepping.{settled_after, left_refl}
 use Rattle.nts_contexts.proofs.Frames.{keeps_refl, keeps_then, keeps_ran, none_after}
+use Rattle.nts_theory.specs.Telling.Reaches.{asks_nothing}
 use Rattle.nts_contexts.proofs.context.EvalCtxt.evaluate_added_goals_and_make_canonical_response.Goals as goal
 use Rattle.nts_contexts.specs.declared.state.EvalState.{EvalState}
 
@@ -69,5 +70,19 @@ pub returns-in-Ok-clause-told : goal.returns-in-Ok-clause-told
 returns-in-Ok-clause-told g c = λ s.
     let e = c.in_ok-goals_certainty.ensures in
     let m = c.in-Ok.ensures in
+    let h = e.keeps.is_ready in
+    rw (← content_of-extended m.grows.extends h.table.now) at (e.told s)
+
+-- nothing was asked
+pub returns-in_err-check-clause-told : goal.returns-in_err-check-clause-told
+returns-in_err-check-clause-told g c = λ s. asks_nothing
+
+pub returns-then-self-clause-told : goal.returns-then-self-clause-told
+returns-then-self-clause-told g c = λ s. asks_nothing
+
+pub returns-in-Err-clause-told : goal.returns-in-Err-clause-told
+returns-in-Err-clause-told g c = λ s.
+    let e = c.in_ok-goals_certainty.ensures in
+    let m = c.in-Err.ensures in
     let h = e.keeps.is_ready in
     rw (← content_of-extended m.grows.extends h.table.now) at (e.told s)

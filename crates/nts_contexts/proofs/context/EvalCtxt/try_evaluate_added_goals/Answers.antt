@@ -1,4 +1,4 @@
-use Rattle.std.proofs.Common.{ap, sym, rules}
+use Rattle.std.proofs.Common.{◌≡◌, Err, ap, sym, subst, rules}
 use Rattle.std.proofs.lemmas.Result.{IfOk-from_err}
 use Rattle.nts_contexts.specs.declared.state.EvalState.{EvalState}
 use Rattle.nts_contexts.proofs.Frames.{keeps_refl}
@@ -6,8 +6,13 @@ use Rattle.nts_model.specs.Derivations.Rules.{other_goal}
 use Rattle.nts_delegate.proofs.Results.{OnOk-map}
 use Rattle.nts_asking.specs.Searching.{assumed_in}
 use Rattle.nts_asking.proofs.Searching.{nothing_assumed}
-use Rattle.nts_trying.proofs.Stepping.{settled_rooted, left_refl}
+use Rattle.nts_unify.specs.Reading.{content_of}
+use Rattle.nts_search.specs.declared.kinds.CurrentGoalKind.TheVariants as kinds
+use Rattle.nts_trying.specs.Stopping.{RefusesAmong}
+use Rattle.nts_trying.proofs.Stepping.{settled_rooted, left_refl, stopped_root}
+use Rattle.nts_store.specs.declared.fault.EvalError.TheVariants as EvalError
 use Rattle.nts_asking.proofs.Rounds.{search_begun, tell_begun}
+use Rattle.nts_theory.specs.Telling.Reaches.{asks_nothing}
 use Rattle.nts_contexts.proofs.context.EvalCtxt.try_evaluate_added_goals.Goals as goal
 
 pub try_evaluate_goals-evaluated-requires-clause-search : goal.try_evaluate_goals-evaluated-requires-clause-search
@@ -33,3 +38,17 @@ returns-clause-evaluates g c =
           rw (c.take_goals-goals.ensures.goals, same, left) at rooted;
       faulted = search rules;
     }
+
+-- nothing was asked
+pub returns-in_err-check-clause-told : goal.returns-in_err-check-clause-told
+returns-in_err-check-clause-told g c = λ s. asks_nothing
+
+-- no goal is cut as a cycle: the search began with an empty stack
+pub returns-clause-refuted : goal.returns-clause-refuted
+returns-clause-refuted g c = λ s no.
+    let run = c.try_evaluate_goals-evaluated.ensures in
+    let refused : c.try_evaluate_goals-evaluated.result ≡ Err EvalError.NoSolution = search rules in
+    let told = tell_begun c.new-graph.result (g.H.GoalHandler.handler s.base c.args.self.now.handler.now) c.args.self.now.cx.now.nodes c.new-graph.ensures.empty in
+    let self = c.args.self.now in
+    subst (RefusesAmong (g.H.GoalHandler.handler s.base self.handler.now) self.table.now.mode self.cx.now.nodes (content_of self.cx.now.nodes self.table.now.entries)) c.take_goals-goals.ensures.goals
+    (stopped_root c.new-graph.result kinds.Misc c.new-graph.ensures.empty (run.refuted s told refused))

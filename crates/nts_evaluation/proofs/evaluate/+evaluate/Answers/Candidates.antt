@@ -27,7 +27,7 @@ use Rattle.nts_asking.proofs.AskedGoals.{trees_kept, ok_both, ok_two, args_there
 use Rattle.nts_asking.proofs.AnsweredQueries.{first_entries, query_environment, query_predicate, args_later}
 use Rattle.nts_trying.proofs.Labels.{only_earlier, only_back, only_same, only_resolved, content_same}
 use Rattle.nts_asking.proofs.Evaluating.{Goes-trans, Goes-extends, Runs-trans, Runs-extends, Runs-refl, rolled_back, Since-later, offers-kept, IsPosed-later, AreValues-later, IsCandidate-extended, candidate_at, goes-back, HoldsGoal-extended}
-use Rattle.nts_trying.proofs.Stepping.{among_get, posed_later, posed_left, only_one, only_left, reach_more, refuse_more, reach_step, refuse_step, left_trans, settled_step, left_more, settled_proved, sure_more}
+use Rattle.nts_trying.proofs.Stepping.{stopped_refused, among_get, posed_later, posed_left, only_one, only_left, reach_more, reach_step, left_trans, settled_step, left_more, settled_proved, sure_more}
 use Rattle.nts_asking.proofs.Running.{term_table, unread, HasRun, has_run, both_sure, constraints-kept, offered_there, Equates-later, Constrains-later}
 use Rattle.nts_canonical.specs.declared.types.Canonical.{Canonical}
 use Rattle.nts_response.specs.declared.types.Response.{Response}
@@ -144,7 +144,7 @@ compute_goal-returns g t c =
           let offered = subst (λ os. LeavesOut os (candidates_of c.relevant_candidates.new.cx.nodes c.in_ok-candidates.candidates.items)) (ap (λ m. (g.H.GoalHandler.handler c.relevant_candidates.new.cx.nodes c.args.handler.now).offers (mode_of m) (tree_at c.relevant_candidates.new.cx.nodes c.in-Candidates.opened.param_env.node) (tree_at c.relevant_candidates.new.cx.nodes c.in-Candidates.opened.predicate.node)) c.typing_mode.ensures ∙ same.offers _ _ _) e.offered in
           let run = rw (c.deref.ensures.value, m.same) at (c.evaluate_candidates-response.ensures.told (Since-later (grown o.grows (grown e.grows m.grows)) s) (tell_grown h c.args.depth c.requires.search (grown o.grows (grown e.grows m.grows)) tells)) in
           IfOk-map c.evaluate_candidates-response.result
-          (λ r f. told_through c.requires.posed opened o.grows.extends posed (let z = c.in-Candidates.ensures.1 in z.asked) h c.args.table.now.mode c.args.values.now c.evaluate_candidates-response.new.cx.nodes r.value trees
+          (λ r f. told_through c.requires.posed opened o.grows.extends posed c.in-Candidates.ensures.1 h c.args.table.now.mode c.args.values.now c.evaluate_candidates-response.new.cx.nodes r.value trees
           (rw (o.goes.mode) at (told_offered h c.enter_forall.new.table.mode c.enter_forall.new.table c.in-Candidates.opened c.args.values.now c.in_ok-candidates.candidates.items c.evaluate_candidates-response.new.cx.nodes r.value e.grows.extends o.goes.table posed.holds (both ∙ sym trees) offered
           (kept_tell c.evaluate_candidates-response.new.cx.nodes c.in-Candidates.opened h c.enter_forall.new.table.mode c.args.values.now r.value (HoldsGoal-extended e.grows.extends posed.holds) m.kept m.grows.extends (IsTable-extended e.grows.extends o.goes.table) args e.candidates f)))) run;
       refuted = λ s tells n.
@@ -158,7 +158,7 @@ compute_goal-returns g t c =
           let both = trees_kept c.args.cx.now.nodes c.relevant_candidates.new.cx.nodes c.args.table.now.entries c.args.values.now up c.requires.values in
           let environment = e.grows.extends.kept c.in-Candidates.opened.param_env.node posed.holds.env.within in
           let predicate = e.grows.extends.kept c.in-Candidates.opened.predicate.node posed.holds.predicate.within in
-          refuted_through c.requires.posed opened o.grows.extends posed (let z = c.in-Candidates.ensures.1 in z.asked) h c.args.table.now.mode c.args.values.now
+          refuted_through c.requires.posed opened o.grows.extends posed c.in-Candidates.ensures.1 h c.args.table.now.mode c.args.values.now
           (rw (here, o.goes.mode, both, offers-kept h (mode_of c.args.table.now.mode) e.grows.extends posed.holds, environment, predicate) at (all_outcomes offered _ _ refl run));
     }
 
@@ -359,7 +359,7 @@ run_candidate-returns-in_err-certainty g t c =
           let h = g.H.GoalHandler.handler s.base c.args.handler.now in
           let since = Since-later (grown (ran there) n.grows) s in
           let refused : c.try_evaluate_goals.result ≡ Err EvalError.NoSolution = search rules in
-          ran_refused {t = c.args.table.now} {u = c.equate.new.table} {v = c.record_constraints.new.table} h mode c.args.goal x vs gs (rw c.deref-2.ensures.value v.equated) (rw (c.deref-3.ensures.value) at k.added) constraints c.requires.candidate.goals v.runs.goes.extends k.runs.goes.extends there.goes.extends n.grows.extends k.runs.goes.table within (rw c.deref-4.ensures.value at n.added.goals) (rw upto.goes.mode at (c.try_evaluate_goals.ensures.refuted since (tell_grown h c.args.depth c.requires.search (grown (ran c.in_ok-values.ensures.runs) (grown (ran c.in_ok-record_constraints.ensures.runs) c.in_ok-goals.ensures.grows)) tells) (kind_asked c.goal_kind-kind.result (meaning h s.variances) (c.goal_kind-kind.ensures.kind s.base s.variances) c.requires.asked) refused));
+          ran_refused {t = c.args.table.now} {u = c.equate.new.table} {v = c.record_constraints.new.table} h mode c.args.goal x vs gs (rw c.deref-2.ensures.value v.equated) (rw (c.deref-3.ensures.value) at k.added) constraints c.requires.candidate.goals v.runs.goes.extends k.runs.goes.extends there.goes.extends n.grows.extends k.runs.goes.table within (rw c.deref-4.ensures.value at n.added.goals) (rw upto.goes.mode at (stopped_refused c.record_constraints.new.table _ c.goal_kind-kind.result (kind_asked c.goal_kind-kind.result (meaning h s.variances) (c.goal_kind-kind.ensures.kind s.base s.variances) c.requires.asked) (c.try_evaluate_goals.ensures.refuted since (tell_grown h c.args.depth c.requires.search (grown (ran c.in_ok-values.ensures.runs) (grown (ran c.in_ok-record_constraints.ensures.runs) c.in_ok-goals.ensures.grows)) tells) refused)));
     }
 
 pub run_candidate-try_evaluate_goals-requires : goal.run_candidate-try_evaluate_goals-requires

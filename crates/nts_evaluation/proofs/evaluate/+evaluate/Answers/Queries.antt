@@ -27,7 +27,7 @@ use Rattle.nts_asking.proofs.AskedGoals.{trees_kept, ok_both, ok_two, args_there
 use Rattle.nts_asking.proofs.AnsweredQueries.{first_entries, query_environment, query_predicate, args_later}
 use Rattle.nts_trying.proofs.Labels.{only_earlier, only_back, only_same, only_resolved, content_same}
 use Rattle.nts_asking.proofs.Evaluating.{Goes-trans, Goes-extends, Runs-trans, Runs-extends, Runs-refl, rolled_back, Since-later, offers-kept, IsPosed-later, AreValues-later, IsCandidate-extended, candidate_at, goes-back, HoldsGoal-extended}
-use Rattle.nts_trying.proofs.Stepping.{among_get, posed_later, posed_left, only_one, only_left, reach_more, refuse_more, reach_step, refuse_step, left_trans, settled_step, left_more, settled_proved, sure_more}
+use Rattle.nts_trying.proofs.Stepping.{among_get, posed_later, posed_left, only_one, only_left, reach_more, reach_step, left_trans, settled_step, left_more, settled_proved, sure_more}
 use Rattle.nts_asking.proofs.Running.{term_table, unread, HasRun, has_run, both_sure, constraints-kept, offered_there, Equates-later, Constrains-later}
 use Rattle.nts_canonical.specs.declared.types.Canonical.{Canonical}
 use Rattle.nts_response.specs.declared.types.Response.{Response}
