@@ -4,7 +4,10 @@ pub use nts_certainty::{
     RerunCondition,
 };
 pub use nts_contexts::{EvalCtxt, EvalState};
-pub use nts_evaluation::{GoalEvaluation, GoalStalledOn, evaluate_root_goal, goal_is_admitted};
+pub use nts_evaluation::{
+    GoalEvaluation, GoalStalledOn, evaluate_root_goal, goal_is_admitted,
+    root_goal_may_hold_opaque_types_jank, root_goal_may_hold_with_depth,
+};
 pub use nts_merging::{MergeCandidateInfo, bail_with_ambiguity, flounder, try_merge_candidates};
 pub use nts_search::{CurrentGoalKind, initial_provisional_result, step_kind_for_source};
 pub use nts_terms::{TypingMode, VisibleForLeakCheck};

@@ -18,14 +18,14 @@ use nts_terms::{
 };
 use std::test::Fail;
 
-fn uint(cx: &mut Cx, int: UintTy) -> Result<Ty, Fail>
+pub(crate) fn uint(cx: &mut Cx, int: UintTy) -> Result<Ty, Fail>
     ensures grows { Grows cx.old cx.new }
 {
     Ok(cx.mk_ty(TyKind::Uint(int))?)
 }
 
 /// The goal that a trait holds for one argument, in an empty environment.
-fn goal_about(cx: &mut Cx, id: TraitId, argument: GenericArg) -> Result<Goal, Fail>
+pub(crate) fn goal_about(cx: &mut Cx, id: TraitId, argument: GenericArg) -> Result<Goal, Fail>
     ensures holds { IfOk result (λ g. HoldsGoal cx.new.nodes g) }
     ensures grows { Grows cx.old cx.new }
 {
@@ -72,7 +72,12 @@ fn evaluated<H: GoalHandler>(
 
 /// Adds the fact that a trait holds for an argument.
 #[tactic(auto, using(nts_asking::proofs::Asking::asking))]
-fn fact(cx: &mut Cx, handler: &mut Clauses, id: TraitId, argument: GenericArg) -> Result<(), Fail>
+pub(crate) fn fact(
+    cx: &mut Cx,
+    handler: &mut Clauses,
+    id: TraitId,
+    argument: GenericArg,
+) -> Result<(), Fail>
     requires { AreClausesReady cx.old.nodes handler.old }
     ensures ready { OnOk result (AreClausesReady cx.new.nodes handler.new) }
     ensures grows { Grows cx.old cx.new }
@@ -95,7 +100,12 @@ fn fact(cx: &mut Cx, handler: &mut Clauses, id: TraitId, argument: GenericArg) -
 }
 
 /// The goal that a trait holds between two arguments, in an empty environment.
-fn goal_between(cx: &mut Cx, id: TraitId, left: GenericArg, right: GenericArg) -> Result<Goal, Fail>
+pub(crate) fn goal_between(
+    cx: &mut Cx,
+    id: TraitId,
+    left: GenericArg,
+    right: GenericArg,
+) -> Result<Goal, Fail>
     ensures holds { IfOk result (λ g. HoldsGoal cx.new.nodes g) }
     ensures grows { Grows cx.old cx.new }
 {
@@ -118,7 +128,7 @@ fn goal_between(cx: &mut Cx, id: TraitId, left: GenericArg, right: GenericArg) -
 
 /// Adds the rule that a trait holds between a type and itself.
 #[tactic(auto, using(nts_asking::proofs::Asking::asking))]
-fn rule_of_one(cx: &mut Cx, handler: &mut Clauses, id: TraitId) -> Result<(), Fail>
+pub(crate) fn rule_of_one(cx: &mut Cx, handler: &mut Clauses, id: TraitId) -> Result<(), Fail>
     requires { AreClausesReady cx.old.nodes handler.old }
     ensures ready { OnOk result (AreClausesReady cx.new.nodes handler.new) }
     ensures grows { Grows cx.old cx.new }

@@ -8,4 +8,6 @@ mod evaluation_tests;
 #[cfg(test)]
 mod inputs;
 #[cfg(test)]
+mod may_hold_tests;
+#[cfg(test)]
 mod merging_tests;

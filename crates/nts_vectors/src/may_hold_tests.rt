@@ -1,0 +1,110 @@
+//! Whether goals may hold, asked in coherence, without a trace in the table.
+ghost use Rattle.std.specs.Prelude.{OnOk};
+ghost use Rattle.nts_table.specs.Tables.{IsTable};
+ghost use Rattle.nts_terms.specs.Handles.{HoldsGoal};
+ghost use Rattle.nts_terms.specs.Rest.{Grows};
+
+use crate::evaluation_tests::{fact, goal_about, goal_between, rule_of_one, uint};
+use nts_delegate::{Clauses, GoalHandler};
+use nts_evaluation::{
+    goal_is_admitted, root_goal_may_hold_opaque_types_jank, root_goal_may_hold_with_depth,
+};
+use nts_model::{Sort, UintTy};
+use nts_table::InferCtxt;
+use nts_terms::{BoundTy, Cx, Goal, PlaceholderType, TyKind, TypingMode};
+use std::test::Fail;
+
+/// What the two calls answer: the first at that depth. The table is as before.
+#[tactic(auto, using(nts_asking::proofs::Asking::asking))]
+fn may_hold<H: GoalHandler>(
+    table: &mut InferCtxt,
+    cx: &mut Cx,
+    handler: &H,
+    goal: Goal,
+    depth: usize,
+) -> Result<(bool, bool), Fail>
+    requires table { IsTable cx.old.nodes table.old }
+    requires ready { H.ready cx.old.nodes handler.now }
+    requires holds { HoldsGoal cx.old.nodes goal }
+    ensures table { OnOk result (IsTable cx.new.nodes table.new) }
+    ensures grows { Grows cx.old cx.new }
+{
+    if !goal_is_admitted(table, cx, goal)? {
+        return Err(Fail::new("the goal may not be asked"));
+    }
+    let deep = root_goal_may_hold_with_depth(table, cx, handler, depth, goal)?;
+    if !goal_is_admitted(table, cx, goal)? {
+        return Err(Fail::new("the goal may not be asked again"));
+    }
+    let good = root_goal_may_hold_opaque_types_jank(table, cx, handler, goal)?;
+    Ok((deep, good))
+}
+
+#[test]
+#[tactic(auto, using(nts_asking::proofs::Asking::asking))]
+fn a_fact_may_hold(rt: HostRuntime) -> Result<(), Fail> {
+    let mut cx = Cx::new(rt.alloc());
+    let mut table = InferCtxt::new(rt.alloc(), TypingMode::Coherence);
+    let mut handler = Clauses::new(rt.alloc());
+    let clone = cx.declare_trait(&[Sort::Ty])?;
+    let word = uint(&mut cx, UintTy::U32)?;
+    fact(&mut cx, &mut handler, clone, word.into())?;
+    let goal = goal_about(&mut cx, clone, word.into())?;
+    let found = may_hold(&mut table, &mut cx, &handler, goal, 128)?;
+    assert!(rt; found == (true, true));
+    Ok(())
+}
+
+/// No candidate is offered, so no depth helps.
+#[test]
+#[tactic(auto, using(nts_asking::proofs::Asking::asking))]
+fn without_a_fact_nothing_may_hold(rt: HostRuntime) -> Result<(), Fail> {
+    let mut cx = Cx::new(rt.alloc());
+    let mut table = InferCtxt::new(rt.alloc(), TypingMode::Coherence);
+    let handler = Clauses::new(rt.alloc());
+    let clone = cx.declare_trait(&[Sort::Ty])?;
+    let word = uint(&mut cx, UintTy::U32)?;
+    let goal = goal_about(&mut cx, clone, word.into())?;
+    let found = may_hold(&mut table, &mut cx, &handler, goal, 128)?;
+    assert!(rt; found == (false, false));
+    Ok(())
+}
+
+/// A doubt is no refusal: two facts stand for a variable.
+#[test]
+#[tactic(auto, using(nts_asking::proofs::Asking::asking))]
+fn what_is_in_doubt_may_hold(rt: HostRuntime) -> Result<(), Fail> {
+    let mut cx = Cx::new(rt.alloc());
+    let mut table = InferCtxt::new(rt.alloc(), TypingMode::Coherence);
+    let mut handler = Clauses::new(rt.alloc());
+    let clone = cx.declare_trait(&[Sort::Ty])?;
+    let word = uint(&mut cx, UintTy::U32)?;
+    let byte = uint(&mut cx, UintTy::U8)?;
+    fact(&mut cx, &mut handler, clone, word.into())?;
+    fact(&mut cx, &mut handler, clone, byte.into())?;
+    let variable = table.next_ty_infer(&mut cx)?;
+    let goal = goal_about(&mut cx, clone, variable.into())?;
+    let found = may_hold(&mut table, &mut cx, &handler, goal, 0)?;
+    assert!(rt; found == (true, true));
+    assert!(rt; table.variable_count() == 1);
+    Ok(())
+}
+
+/// The query itself holds, but the variable cannot name what it would be.
+#[test]
+#[tactic(auto, using(nts_asking::proofs::Asking::asking))]
+fn a_placeholder_that_the_variable_cannot_name_does_not(rt: HostRuntime) -> Result<(), Fail> {
+    let mut cx = Cx::new(rt.alloc());
+    let mut table = InferCtxt::new(rt.alloc(), TypingMode::Coherence);
+    let mut handler = Clauses::new(rt.alloc());
+    let same = cx.declare_trait(&[Sort::Ty, Sort::Ty])?;
+    let x = table.next_ty_infer(&mut cx)?;
+    let universe = table.create_next_universe()?;
+    let bound = BoundTy { var: 0 };
+    let p = cx.mk_ty(TyKind::Placeholder(PlaceholderType { universe, bound }))?;
+    rule_of_one(&mut cx, &mut handler, same)?;
+    let goal = goal_between(&mut cx, same, x.into(), p.into())?;
+    let found = may_hold(&mut table, &mut cx, &handler, goal, 128)?;
+    assert!(rt; found == (false, false));
+    Ok(())
+}
