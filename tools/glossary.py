@@ -18,6 +18,7 @@ PAGE = os.path.join(TOP, "docs", "GLOSSARY.md")
 LIBRARY = "next_trait_solver"
 SEVERAL = 3
 THEOREM = ("nts_evaluation", "evaluate_root_goal", ("proved", "falls"))
+COHERENCE = ("none", "keeps")
 LAWS = "IsLawfulHandler"
 
 USE = re.compile(r"(?:pub |ghost )*use (Rattle\.[^\s;{]+?)(?:\.\{([^}]*)\})?(?: as \S+?)?;?$")
@@ -258,6 +259,7 @@ def trusted(words):
     count(words, f"{labels[0]} of {call}", proved)
     count(words, ".. with the laws of a handler", proved | laws)
     count(words, f"{' and '.join(labels)}", theorem_words(words, labels))
+    count(words, f"{' and '.join(COHERENCE)}", theorem_words(words, COHERENCE))
     count(words, f"all clauses of {call}", theorem_words(words, ()))
 
 
