@@ -1,5 +1,5 @@
 //! What offers the rules of traits.
 pub use nts_delegate::{
-    CandidateData, CandidateGoal, Clause, Clauses, Equation, EquationKind, GoalHandler,
+    Both, CandidateData, CandidateGoal, Clause, Clauses, Equation, EquationKind, GoalHandler,
     RegionConstraint,
 };

@@ -378,6 +378,43 @@ fn a_failed_write(rt: HostRuntime) {
     assert!(rt; output.taken.as_slice() == b"no\nn".as_slice());
 }
 
+/// A writer that notes how much was written when it was last let out, and how often it was.
+#[derive(Drop)]
+struct LetOut {
+    taken: Vec<u8>,
+    seen: usize,
+    times: usize,
+}
+
+impl Write for LetOut {
+    fn write(&mut self, buf: &[u8]) -> io::Result<usize> {
+        self.taken.extend_from_slice(buf)?;
+        Ok(buf.len())
+    }
+
+    fn flush(&mut self) -> io::Result<()> {
+        self.seen = self.taken.len();
+        self.times = self.times.saturating_add(1);
+        Ok(())
+    }
+}
+
+/// Each answer is let out before the next line is read, and once more at the end.
+#[test]
+fn answers_as_they_come(rt: HostRuntime) {
+    let mut output = LetOut {
+        taken: Vec::new(rt.alloc()),
+        seen: 0,
+        times: 0,
+    };
+    let text = b"trait T(type)\ngoal T(u8)\ngoal T(u16)\n";
+    let status = run(rt.alloc(), text.as_slice(), &mut output);
+    assert_eq!(rt; status, Status::Done);
+    assert!(rt; output.taken.as_slice() == b"no\nno\n".as_slice());
+    assert_eq!(rt; output.seen, 6);
+    assert_eq!(rt; output.times, 3);
+}
+
 #[test]
 fn bound_goals(rt: HostRuntime) {
     check(

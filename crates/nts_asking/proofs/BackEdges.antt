@@ -183,6 +183,7 @@ searched_read {a} {g} {h} n k s e kept rest =
       rounds = rw most s.rounds;
       more_rounds = omega (arith, most);
       more_inputs = rest.most_inputs;
+      marks = λ m. rest.has_overflowed ∙ m;
       depth = rest.root_depth;
       later = subst (AreLater g.stack.items) (sym e) (later_read g.stack.items k);
     }

@@ -39,7 +39,8 @@ use Rattle.nts_delegate.specs.declared.delegate.CandidateData.{CandidateData}
 use Rattle.nts_delegate.specs.declared.delegate.RegionConstraint.{RegionConstraint}
 use Rattle.nts_delegate.specs.declared.delegate.CandidateGoal.{CandidateGoal}
 use Rattle.nts_unify.specs.Recording.{Records}
-use Rattle.nts_unify.specs.Reading.{content_of, slot_of, recorded_of, IsConstraint, left_kind}
+use Rattle.nts_model.specs.Tables.Recording.{left_kind}
+use Rattle.nts_unify.specs.Reading.{content_of, slot_of, recorded_of, IsConstraint}
 use Rattle.nts_table.specs.Tables.{IsTable}
 use Rattle.nts_unify.specs.Lawful.{content_of-extended, content_of-constrained, content_of-added}
 use Rattle.nts_table.specs.TableLaws.{IsTable-extended, IsTable-opened, IsTable-constrained}

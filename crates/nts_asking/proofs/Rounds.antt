@@ -145,6 +145,7 @@ search_same {a} {b} {g} {h} n s w same kept rest =
       rounds = rw most now.rounds;
       more_rounds = omega (arith, most);
       more_inputs = rest.most_inputs;
+      marks = λ m. rest.has_overflowed ∙ m;
       depth = rest.root_depth;
       later = subst (AreLater g.stack.items) (sym same) (later_itself g.stack.items);
     }
@@ -174,6 +175,7 @@ search_popped {a} {b} {c} {g} {h} {i} {j} y x pushed up s popped kept down =
         rounds = rw most s.rounds;
         more_rounds = omega (arith, most, raised, between);
         more_inputs = omega (arith, inputs, within, fewer);
+        marks = λ m. down.has_overflowed ∙ s.marks (up.has_overflowed ∙ m);
         depth = down.root_depth ∙ s.depth ∙ up.root_depth;
         later = later.0;
       };

@@ -42,7 +42,8 @@ use Rattle.nts_table.specs.Tables.{Table}
 use Rattle.nts_unify.specs.Lawful.{content_of-constrained}
 use Rattle.nts_unify.specs.declared.contents.Constraint.{Constraint}
 use Rattle.nts_unify.specs.Recording.{Records}
-use Rattle.nts_unify.specs.Reading.{content_of, recorded_of, left_kind, AreConstraints}
+use Rattle.nts_model.specs.Tables.Recording.{left_kind}
+use Rattle.nts_unify.specs.Reading.{content_of, recorded_of, AreConstraints}
 use Rattle.nts_table.specs.Tables.{IsTable}
 use Rattle.nts_delegate.specs.declared.delegate.Equation.{Equation}
 use Rattle.nts_delegate.specs.declared.delegate.EquationKind.{EquationKind}

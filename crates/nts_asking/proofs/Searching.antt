@@ -1,5 +1,5 @@
 -- The stack of a search while goals are evaluated: what stays, and what it assumes.
-use Rattle.std.proofs.Common.{◌≡◌, ℕ, ◌≤◌, List, [], ◌∷◌, ◌++◌, map, length, get_or, Option, Some, None, refl, sym, ap, ◌∙◌, subst, arith, ◌⊎◌, inl, inr, suc}
+use Rattle.std.proofs.Common.{◌≡◌, ℕ, ◌≤◌, List, [], ◌∷◌, ◌++◌, map, length, get_or, Option, Some, None, refl, sym, ap, ◌∙◌, subst, arith, ◌⊎◌, inl, inr, suc, true, IsTrue}
 use Rattle.std.specs.Prelude.{All, reverse, Bool, max, ◌-◌, ◌⊎◌}
 use Rattle.std.proofs.lemmas.List.{reverse-append}
 use Rattle.std.proofs.lemmas.List.Elements.{All-cons, All-head, All-tail}
@@ -172,6 +172,7 @@ Searches-refl {a} {b} {g} n s w =
       rounds = rw rest.rounds s.rounds;
       more_rounds = omega arith;
       more_inputs = omega arith;
+      marks = λ m. m;
       depth = refl;
       later = later_itself g.stack.items;
     }
@@ -182,7 +183,7 @@ Searches-trans {a} {b} {c} {g} {h} {i} x y =
     let then = y.more_rounds in
     let inputs = x.more_inputs in
     let more = y.more_inputs in
-    record { stack = y.stack; heads = y.heads; rounds = y.rounds; more_rounds = omega (arith, first, then); more_inputs = omega (arith, inputs, more); depth = y.depth ∙ x.depth; later = later_then g.stack.items h.stack.items i.stack.items x.later y.later }
+    record { stack = y.stack; heads = y.heads; rounds = y.rounds; more_rounds = omega (arith, first, then); more_inputs = omega (arith, inputs, more); marks = λ m. y.marks (x.marks m); depth = y.depth ∙ x.depth; later = later_then g.stack.items h.stack.items i.stack.items x.later y.later }
 
 pub search_later : {a b : Cx} {g h : SearchGraph} (n m : ℕ) → m ≤ n → IsSearch a g n → Searches a b g h → IsSearch b h m
 search_later {a} {b} {g} {h} n m l s x =
@@ -301,22 +302,44 @@ search_counted {a} {g} n m s l =
       rounds = (let r = s.rounds in omega (arith, r, l));
       more_rounds = omega arith;
       more_inputs = omega arith;
+      marks = λ m. m;
       depth = refl;
       later = later_itself g.stack.items;
     }
 
--- only its mark changed
-pub search_marked : {a : Cx} {g : SearchGraph} (n : ℕ) (z : Bool) → IsSearch a g n → Searches a a g (record g { has_overflowed = z })
-search_marked {a} {g} n z s =
-    let k = s.stack in
+-- its mark has no part in its stack
+stack_unmarked : (ts : List Tree) (g : SearchGraph) (z : Bool) → IsStack ts g → IsStack ts (record g { has_overflowed = z })
+stack_unmarked ts g z k = record { held = k.held; index = k.index; counted = k.counted; nested = k.nested }
+
+pub search_unmarked : {a : Cx} {g : SearchGraph} (n : ℕ) (z : Bool) → IsSearch a g n → IsSearch a (record g { has_overflowed = z }) n
+search_unmarked {a} {g} n z s = record { stack = stack_unmarked a.nodes g z s.stack; heads = s.heads; rounds = s.rounds; room = s.room }
+
+-- an overflow is marked
+pub search_marked : {a : Cx} {g : SearchGraph} (n : ℕ) → IsSearch a g n → Searches a a g (record g { has_overflowed = true })
+search_marked {a} {g} n s =
     record {
-      stack = record { held = k.held; index = k.index; counted = k.counted; nested = k.nested };
+      stack = stack_unmarked a.nodes g true s.stack;
       heads = s.heads;
       rounds = s.rounds;
       more_rounds = omega arith;
       more_inputs = omega arith;
+      marks = λ m. refl;
       depth = refl;
       later = later_itself g.stack.items;
+    }
+
+-- the mark was set aside while a query was answered, and is one again if it was
+pub search_marked_again : {a b : Cx} {g h : SearchGraph} (y z : Bool) → Searches a b (record g { has_overflowed = y }) h → (IsTrue g.has_overflowed → IsTrue z) → Searches a b g (record h { has_overflowed = z })
+search_marked_again {a} {b} {g} {h} y z x m =
+    record {
+      stack = stack_unmarked b.nodes h z x.stack;
+      heads = x.heads;
+      rounds = x.rounds;
+      more_rounds = x.more_rounds;
+      more_inputs = x.more_inputs;
+      marks = m;
+      depth = x.depth;
+      later = x.later;
     }
 
 -- a cycle that is cut, seen from a smaller store

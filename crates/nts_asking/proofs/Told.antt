@@ -30,10 +30,11 @@ use Rattle.nts_terms.specs.declared.modes.VisibleForLeakCheck.{VisibleForLeakChe
 use Rattle.nts_terms.specs.Handles.{Holds, HoldsArg}
 use Rattle.nts_unify.specs.declared.contents.Constraint.{Constraint}
 use Rattle.nts_unify.specs.Entries.{Entries}
-use Rattle.nts_unify.specs.Reading.{content_of, recorded_of, left_kind, IsConstraint, AreConstraints, IsLawful}
+use Rattle.nts_model.specs.Tables.Recording.{left_kind}
+use Rattle.nts_unify.specs.Reading.{content_of, recorded_of, IsConstraint, AreConstraints, IsLawful}
 use Rattle.nts_unify.specs.Lawful.{content_of-extended}
 use Rattle.nts_table.specs.Tables.{IsTable, IsTermIn, Table}
-use Rattle.nts_table.specs.Deduplicated.{resolved_constraint, resolved_constraints, RelatesSame, IsAmong, AreNews, none, passed, told}
+use Rattle.nts_model.specs.Tables.Recording.{resolved_constraint, resolved_constraints, RelatesSame, IsAmong, AreNews, none, passed, told}
 use Rattle.nts_delegate.specs.declared.delegate.RegionConstraint.{RegionConstraint}
 use Rattle.nts_delegate.specs.Offered.{hidden_of}
 use Rattle.nts_canonical.specs.Forms.{trees_of}
@@ -141,6 +142,7 @@ trivial relation.TypeOutlives x l r e = (let z : Some (of_sort sort.Ty) ≡ Some
 -- the news of a table's constraints are told
 pub news_told : (ts : List Tree) (e : Entries) (xs : List Recorded) → IsLawful ts e → AreNews (resolved_constraints (content_of ts e)) xs → AreTold (content_of ts e) xs
 news_told ts e xs h n = record {
+  news = n;
   found = λ y m. mapped (recorded_by (deeply_resolved c)) c.constraints y (told_recorded n y m);
   kept = kept;
 }
@@ -165,6 +167,12 @@ news_told ts e xs h n = record {
         (λ q. inl (trivial_at r m q))
         (λ w. inr (w.0, w.1, λ i. record { relation = w.2.relation i; left = w.2.left i; right = w.2.right i }))
         (recorded_told n (resolved_constraint c r) (mapped_from (resolved_constraint c) c.constraints r m))
+
+-- an answer in doubt tells none
+pub none_told : (q : Certainty) (c : Content) (xs : List Recorded) → (q ≡ certainty.Yes → ⊥) → xs ≡ [] → AreTold (told_in q c) xs
+none_told certainty.Yes c xs unsure e = absurd (unsure refl)
+none_told (certainty.Maybe i) c xs unsure e =
+    rw e (record { news = none; found = λ y m. absurd (let l = m.1 in omega arith); kept = λ r m. absurd (let l = m.1 in omega arith) })
 
 -- their sides are of the table
 pub sides_known : (ts : List Tree) (c : Content) (xs : List Constraint) → AreConstraints ts c xs → KnowsSides c (map (recorded_of ts) xs)
@@ -242,6 +250,7 @@ response_told certainty.Yes c root qs x r classes v t hidden goals is = record {
   classes = classes;
   findings = x;
   reads = record { values = v; found = t.found; kept = t.kept };
+  news = t.news;
   no_hidden = hidden;
   no_goals = goals;
   is = is;
@@ -251,6 +260,7 @@ response_told (certainty.Maybe z) c root qs x r classes v t hidden goals is = re
   classes = classes_without c root classes;
   findings = x;
   reads = record { values = v ∙ (λ i. map (λ q. sym (deeply_resolved-same c (without_constraints c) q (states_without c)) i) qs); found = t.found; kept = t.kept };
+  news = t.news;
   no_hidden = hidden;
   no_goals = goals;
   is = is ∙ sym (response_without c root 0 x);

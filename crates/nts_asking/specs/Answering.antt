@@ -4,6 +4,7 @@ use Rattle.std.specs.Prelude.{◌≡◌, ◌⊎◌, ◌↔◌, Bool, true, false
 use Rattle.nts_model.specs.Terms.Trees.{Tree, IsClosed}
 use Rattle.nts_model.specs.Tables.Contents.{Content, Recorded}
 use Rattle.nts_model.specs.Tables.Resolving.{Knows, deeply_resolved}
+use Rattle.nts_model.specs.Tables.Recording.{resolved_constraints, AreNews}
 use Rattle.nts_model.specs.Terms.Substitutions.{leaf_tree}
 use Rattle.nts_model.specs.Derivations.Sequents.{IsTrivial}
 use Rattle.nts_model.specs.Derivations.Proving.{read_constraint}
@@ -55,8 +56,10 @@ abbrev pub told_in : Certainty → Content → Content
 told_in certainty.Yes c = c
 told_in a c = without_constraints c
 
--- these are the region constraints of the table, read under its values and roots. Trivial ones may be left out
+-- these are the region constraints of the table, read under its values and roots, in the order of recording, each once and none
+-- that is trivial
 pub record AreTold (c : Content) (xs : List Recorded) : Type 0 where
+  pub news : AreNews (resolved_constraints c) xs
   pub found : (y : Recorded) → Contains xs y → (r : Recorded) × Contains c.constraints r × (y ≡ recorded_by (deeply_resolved c) r)
   pub kept : (r : Recorded) → Contains c.constraints r → IsTrivial (read_constraint c r) ⊎ ((y : Recorded) × Contains xs y × (said y ≡ read_constraint c r))
 

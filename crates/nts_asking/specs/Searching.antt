@@ -54,13 +54,15 @@ AreLater [] [] = Unit {0}
 AreLater (x ∷ xs) (y ∷ ys) = IsEntryLater x y × AreLater xs ys
 AreLater xs ys = ⊥
 
--- the search went on from the stack g and the store a: the same entries are on its stack, and its counts did not fall
+-- the search went on from the stack g and the store a: the same entries are on its stack, its counts did not fall, and what was
+-- marked as an overflow stays marked
 pub record Searches (a b : Cx) (g h : SearchGraph) : Type 0 where
   pub stack : IsStack b.nodes h
   pub heads : All (IsHead b.nodes) h.stack.items
   pub rounds : h.most_rounds ≤ b.round_limit
   pub more_rounds : g.most_rounds ≤ h.most_rounds
   pub more_inputs : g.most_inputs ≤ h.most_inputs
+  pub marks : IsTrue g.has_overflowed → IsTrue h.has_overflowed
   pub depth : h.root_depth ≡ g.root_depth
   pub later : AreLater g.stack.items h.stack.items
 

@@ -15,7 +15,7 @@ use Rattle.nts_store.specs.Growth.{tree_at, IsIn}
 use Rattle.nts_terms.specs.Handles.{HoldsGoal}
 use Rattle.nts_model.specs.Derivations.Handlers.{NamesFresh, IsFixed}
 use Rattle.nts_model.specs.Derivations.Handlers as handlers
-use Rattle.nts_unify.specs.Reading.{left_kind}
+use Rattle.nts_model.specs.Tables.Recording.{left_kind}
 use Rattle.nts_model.specs.declared.labels.Sort.TheVariants as sort
 use Rattle.nts_delegate.specs.declared.delegate.Equation.{Equation}
 use Rattle.nts_delegate.specs.declared.delegate.RegionConstraint.{RegionConstraint}

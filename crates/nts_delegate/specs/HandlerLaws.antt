@@ -17,7 +17,7 @@ use Rattle.nts_model.specs.Derivations.Rules.{Equation, Application, statement_o
 use Rattle.nts_model.proofs.Tables.Under.{eq-self}
 use Rattle.nts_model.specs.Refutation.Coherence.{Covers, RulesAreOffered}
 use Rattle.nts_model.specs.Derivations.Rules.{coherence}
-use Rattle.nts_model.specs.Derivations.Handlers.{Candidate, equation_by, premise_by, AreValuesOf, use_of, IsInstanceFor, application_under, renamed_candidate, IsAsked, IsOver, IsEquationOver, IsEmitted, IsNested, IsCandidateFor, CandidatesCommute, InstancesAreRules, CandidatesKeep, IsLawfulHandler, kind_of_sort}
+use Rattle.nts_model.specs.Derivations.Handlers.{Candidate, equation_by, premise_by, AreValuesOf, use_of, IsInstanceFor, application_under, renamed_candidate, IsAsked, IsOver, IsEquationOver, IsEmitted, IsNested, IsCandidateFor, CandidatesCommute, InstancesAreRules, RulesHaveSources, IsHandlersSource, CandidatesKeep, IsLawfulHandler, kind_of_sort}
 use Rattle.nts_model.proofs.Terms.Composing.{IsFormed-instance, IsClosed-instance, Fits-instance}
 use Rattle.nts_terms.proofs.Standing.{args_tree}
 use Rattle.nts_delegate.specs.Clauses.{is_foreign}
@@ -272,6 +272,7 @@ candidate_over e us i c cs own asked o =
     rw o.is (record {
       equations = λ q x. equations_over k.fresh e (trait_goal i us) us k.head (args_over k.fresh e us i asked) (own_over k.fresh e (trait_goal i us) k.head mine.head) q x;
       constraints = λ x h. absurd h;
+      constrains = λ x h. absurd h;
       goals = λ q x. goals_over k.fresh e (trait_goal i us) k.body mine.body q x;
       no_hidden = refl;
       no_access = refl;
@@ -289,9 +290,24 @@ keep : (clauses : ClausesOfTraits) (is_coinductive : ℕ → Bool) → AreOwn cl
 keep clauses is_coinductive own =
     record { each = λ mode e g c asked among. keep_shape clauses own e g c asked (trait_or_other e g asked) among }
 
+-- the conditions of a clause are asked as such
+asked_sources : (e : Tree) (ps : List Tree) (q : Premise) → Among (map (asked_in e) ps) q → IsHandlersSource q.source
+asked_sources e [] q i = absurd i
+asked_sources e (p ∷ ps) q (inl i) = rw i tt
+asked_sources e (p ∷ ps) q (inr i) = asked_sources e ps q i
+
+sources : (clauses : ClausesOfTraits) (is_coinductive : ℕ → Bool) → RulesHaveSources (handler_by clauses is_coinductive)
+sources clauses is_coinductive =
+    record {
+      each = λ mode a q x i.
+          let k = x.of_clause in
+          let there : Among (map (asked_in a.environment) (map (filled a.values) k.body)) q = rw x.goals at i in
+          asked_sources a.environment (map (filled a.values) k.body) q there;
+    }
+
 pub IsLawfulHandler-clauses : (clauses : ClausesOfTraits) (is_coinductive : ℕ → Bool) → AreOwn clauses → IsLawfulHandler (handler_by clauses is_coinductive)
 IsLawfulHandler-clauses clauses is_coinductive own =
-    record { commute = commute clauses is_coinductive own; rules = rules clauses is_coinductive own; keep = keep clauses is_coinductive own }
+    record { commute = commute clauses is_coinductive own; rules = rules clauses is_coinductive own; sources = sources clauses is_coinductive; keep = keep clauses is_coinductive own }
 
 -- every rule for an instance of a goal is one of an offered candidate
 offer_has : (cs : List ClauseTree) (d : ClauseTree) (e us : Tree) → Among cs d → takes_all us d ≡ true → Among (offers_of_clauses e us cs) (offer_by e us d)

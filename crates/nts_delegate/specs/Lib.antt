@@ -1,10 +1,12 @@
 pub mod Adding
+pub mod Both
 pub mod Candidates
 pub mod ClauseHandlers
 pub mod Clauses
 pub mod ClausesKept
 pub mod ClausesLawful
 pub mod HandlerLaws
+pub mod Keeping
 pub mod Offered
 pub mod Offers
 pub mod OwnClauses

@@ -1,6 +1,6 @@
 -- What the calls of an evaluation promise: one record for each family of calls.
 use Rattle.std.specs.Global.{Box}
-use Rattle.std.specs.Prelude.{◌≡◌, ◌⊎◌, ℕ, ◌≤◌, List, Result, Err, ◌≢◌, [], ◌∷◌, Ok, IfOk, IfSome, OnOk, OnErr}
+use Rattle.std.specs.Prelude.{◌≡◌, ◌⊎◌, ℕ, ◌≤◌, List, Result, Err, ◌≢◌, [], ◌∷◌, Ok, IfOk, IfSome, OnOk, OnErr, IsTrue}
 use Rattle.nts_model.specs.Terms.Trees.{Tree}
 use Rattle.nts_model.specs.Derivations.Handlers.{Handler}
 use Rattle.nts_model.specs.Derivations.Proofs.{Assumed, passed}
@@ -83,13 +83,14 @@ pub record AsksGoal (R : Rules) (a b : Cx) (g h : SearchGraph) (t u : Table) (go
   pub told : WhereTold R a g (λ m. IfOk r (λ e. EvaluatesGoal m t.mode a.nodes t b.nodes u goal e.certainty e.has_changed))
   pub refuted : WhereTold R a g (λ m. r ≡ Err error.NoSolution → IsRefusedIn m t.mode a.nodes t goal ⊎ IsGoalCut a.nodes g (content_of a.nodes t.entries) t.mode (tree_at a.nodes goal.param_env.node) (tree_at a.nodes goal.predicate.node) step)
 
--- .. as the table knows it; or not at all, where no depth is left for it
+-- .. as the table knows it; or not at all, where no depth is left for it: then the overflow is marked
 pub record AsksAdded (R : Rules) (a b : Cx) (g h : SearchGraph) (t u : Table) (goal : Goal) (step : PathKind) (depth : AvailableDepth) (r : Result Evaluated EvalError) : Type 0 where
   pub runs : Runs a b t u
   pub searches : Searches a b g h
   pub err : OnErr r (u ≡ t)
   pub labels : OnOk r (BringsOnlyOf (asked_terms a.nodes goal) a t b u)
   pub proved : Always R a (λ s. IfSure r (IsProvedFromSince R.handler s t.mode (assumed_behind step b h) b.nodes u goal))
+  pub marks : bound_of depth ≡ 0 → IsTrue h.has_overflowed
   pub told : WhereTold R a g (λ m. IfOk r (λ e. EvaluatesUnder m t.mode a.nodes t b.nodes u goal e.certainty e.has_changed ⊎ (bound_of depth ≡ 0) × (u.entries ≡ t.entries)))
   pub refuted : WhereTold R a g (λ m. r ≡ Err error.NoSolution → IsRefusedUnder m t.mode a.nodes t goal ⊎ (let c = content_of a.nodes t.entries in IsGoalCut a.nodes g c t.mode (deeply_resolved c (tree_at a.nodes goal.param_env.node)) (deeply_resolved c (tree_at a.nodes goal.predicate.node)) step))
 

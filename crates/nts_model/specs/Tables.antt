@@ -12,3 +12,4 @@ pub mod Equations
 pub mod Passing
 pub mod Measuring
 pub mod Tying
+pub mod Recording

@@ -9,12 +9,12 @@ ghost use Rattle.nts_wording.specs.declared.status.Status.TheVariants.{Done, Ref
 
 use crate::program::Program;
 use nts_text::next_line;
-use nts_wording::{Status, Stop, put, put_refusal};
+use nts_wording::{Status, Stop, put_answer, put_refusal};
 use std::alloc::Global;
 use std::io::{BufRead, BufReader, Read, Write};
 
-/// Handles the lines of the input in order, and writes the answers. Whatever happens, what was
-/// written before stays.
+/// Handles the lines of the input in order, and writes the answers, each before the next line is read. Whatever happens, what
+/// was written before stays.
 #[tactic(auto, using(nts_wording::proofs::Growths::writes))]
 pub fn run<R: Read + Drop, W: Write>(alloc: Global, input: R, output: &mut W) -> Status
     ensures done { result ≡ Done → AnswersAll (R.remaining input) (W.contents output.old)
@@ -87,7 +87,7 @@ fn handle_line<W: Write>(
     ensures passed { OnOk result (IsPassedOver line.now → output.new ≡ output.old) }
 {
     match program.obey(line) {
-        Ok(Some(text)) => put(output, &text),
+        Ok(Some(text)) => put_answer(output, &text),
         Ok(None) => Ok(()),
         Err(Stop::Refused(refusal)) => {
             put_refusal(program.alloc, output, number, refusal)?;

@@ -36,7 +36,8 @@ use Rattle.nts_store.specs.declared.nodes.NodeId.{NodeId}
 use Rattle.nts_store.specs.Growth.{tree_at}
 use Rattle.nts_unify.specs.declared.contents.Constraint.{Constraint}
 use Rattle.nts_unify.specs.Changing.{HasClosedSides}
-use Rattle.nts_unify.specs.Reading.{content_of, recorded_of, left_kind, AreConstraints}
+use Rattle.nts_model.specs.Tables.Recording.{left_kind}
+use Rattle.nts_unify.specs.Reading.{content_of, recorded_of, AreConstraints}
 use Rattle.nts_table.specs.Tables.{Table, IsTable}
 use Rattle.nts_canonical.specs.declared.types.Canonical.{Canonical}
 use Rattle.nts_canonical.specs.Forms.{kind_of_var}

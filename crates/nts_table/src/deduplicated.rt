@@ -3,7 +3,8 @@ ghost use Rattle.std.specs.Prelude.{◌≡◌, ◌<◌, List, length, map, slice
 ghost use Rattle.nts_store.specs.Growth.{Extends};
 ghost use Rattle.nts_unify.specs.Reading.{content_of, recorded_of, IsConstraint, AreConstraints};
 ghost use Rattle.nts_table.specs.Tables.{IsTable};
-ghost use Rattle.nts_table.specs.Deduplicated.{resolved_constraint, resolved_constraints, AreNews, said, SidesIn, AllSidesIn, TellsConstraint};
+ghost use Rattle.nts_model.specs.Tables.Recording.{resolved_constraint, resolved_constraints, AreNews};
+ghost use Rattle.nts_table.specs.Deduplicated.{said, SidesIn, AllSidesIn, TellsConstraint};
 ghost use Rattle.nts_terms.specs.Rest.{Grows};
 
 use crate::infer_ctxt::InferCtxt;

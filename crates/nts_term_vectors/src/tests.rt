@@ -23,7 +23,13 @@ fn see_limits(rt: &impl Abort, cx: &mut Cx) {
     assert!(rt; !cx.disable_trait_solver_fast_paths());
     cx.set_recursion_limit(3);
     cx.set_disable_fast_paths(true);
+    cx.set_step_limit(64);
+    cx.set_round_limit(1);
+    cx.set_depth_division(16);
     assert_eq!(rt; cx.recursion_limit(), 3);
+    assert_eq!(rt; cx.step_limit(), 64);
+    assert_eq!(rt; cx.round_limit(), 1);
+    assert_eq!(rt; cx.depth_division(), 16);
     assert!(rt; cx.disable_trait_solver_fast_paths());
 }
 

@@ -1,5 +1,5 @@
 //! The context: terms, declarations and limits.
-ghost use Rattle.std.specs.Prelude.{◌≡◌, [], false};
+ghost use Rattle.std.specs.Prelude.{◌≡◌, ◌≤◌, [], false};
 ghost use Rattle.nts_store.specs.Formed.{AreFormed};
 ghost use Rattle.nts_terms.specs.Signatures.{nothing_declared};
 
@@ -12,11 +12,11 @@ pub struct Cx {
     pub alloc: Global,
     pub nodes: Nodes,
     pub declarations: Declarations,
-    pub recursion_limit: usize,
-    pub step_limit: usize,
-    pub round_limit: usize,
-    pub depth_division: usize,
-    pub disable_fast_paths: bool,
+    recursion_limit: usize,
+    step_limit: usize,
+    round_limit: usize,
+    depth_division: usize,
+    disable_fast_paths: bool,
 }
 
 // Written out, it is a call where a store is let go. A derived one is proved again in each function that lets one go.
@@ -78,25 +78,52 @@ impl Cx {
         self.recursion_limit = limit;
     }
 
-    /// How many times an evaluation goes over a list of goals at most.
+    /// How many times an evaluation goes over a list of goals at most: 8 at first.
     pub fn step_limit(&self) -> usize
         ensures { result ≡ self.now.step_limit }
     {
         self.step_limit
     }
 
-    /// How many rounds the head of a cycle is evaluated in at most.
+    /// From 1 to 64. An evaluation that needs more steps answers overflow.
+    pub fn set_step_limit(&mut self, limit: usize)
+        requires low { 1 ≤ limit }
+        requires high { limit ≤ 64 }
+        ensures { self.new ≡ record self.old { step_limit = limit } }
+    {
+        self.step_limit = limit;
+    }
+
+    /// How many rounds the head of a cycle is evaluated in at most: 8 at first.
     pub fn round_limit(&self) -> usize
         ensures { result ≡ self.now.round_limit }
     {
         self.round_limit
     }
 
-    /// By what the depth of a goal's further goals is divided once a goal below it was nested too deep.
+    /// From 1 to 64. The head of a cycle that needs more rounds is answered overflow.
+    pub fn set_round_limit(&mut self, limit: usize)
+        requires low { 1 ≤ limit }
+        requires high { limit ≤ 64 }
+        ensures { self.new ≡ record self.old { round_limit = limit } }
+    {
+        self.round_limit = limit;
+    }
+
+    /// By what the depth of a goal's further goals is divided once a goal below it was nested too deep: 4 at first.
     pub fn depth_division(&self) -> usize
         ensures { result ≡ self.now.depth_division }
     {
         self.depth_division
+    }
+
+    /// From 1 to 16. With 1 they have as much depth as if nothing had overflowed.
+    pub fn set_depth_division(&mut self, division: usize)
+        requires low { 1 ≤ division }
+        requires high { division ≤ 16 }
+        ensures { self.new ≡ record self.old { depth_division = division } }
+    {
+        self.depth_division = division;
     }
 
     /// Whether evaluations skip the short cuts.

@@ -8,5 +8,6 @@ pub mod DecidingExamples
 pub mod ErasingExamples
 pub mod OpenGoalExample
 pub mod ToldExamples
+pub mod RecordingExamples
 pub mod RefutationExamples
 pub mod SolutionExamples

@@ -16,6 +16,7 @@ use Rattle.nts_model.specs.Tables.Levels.{AreCurrent}
 use Rattle.nts_model.specs.Tables.Equations.{AreUnrelated}
 use Rattle.nts_model.specs.Tables.Passing.{BringsOnly}
 use Rattle.nts_model.specs.Tables.SubUnifying.{SharesSubRoot}
+use Rattle.nts_model.specs.Tables.Recording.{resolved_constraints, AreNews}
 use Rattle.nts_model.specs.Derivations.Related.{Constraint, pair}
 use Rattle.nts_model.specs.Lists.{Among}
 use Rattle.nts_model.specs.Derivations.Sequents.{Source, type_relating, normalize_goal, inductive, Premise}
@@ -58,12 +59,14 @@ pub record IsInputFor (c : Content) (e g : Tree) (i : Input) : Type 0 where
 abbrev pub without_constraints : Content → Content
 without_constraints c = record c { constraints = [] }
 
--- the response says what the table found out of these trees, and of the classes of its variables
+-- the response says what the table found out of these trees, and of the classes of its variables; the region constraints in the
+-- order of recording, each once and none that is trivial, visible for the leak check as it was recorded first
 pub record IsResponseOf (found : Content) (qs : List Tree) (r : Response) : Type 0 where
   pub roots : ℕ → ℕ
   pub classes : AreClassesOf found roots
   pub findings : Findings
   pub reads : AreFindings found qs findings
+  pub news : AreNews (resolved_constraints found) findings.constraints
   pub no_hidden : findings.hidden ≡ []
   pub no_goals : findings.open_goals ≡ []
   pub is : r ≡ response_of found roots 0 findings

@@ -1,5 +1,5 @@
 -- Entering a binder: the trees of what was opened, and the table in a new universe.
-use Rattle.std.proofs.Common.{◌≡◌, ℕ, zero, suc, ◌+◌, ◌-◌, ◌<◌, ◌≤◌, Bool, true, false, List, [], ◌∷◌, Option, Some, refl, sym, ap, ◌∙◌, subst, rules, arith}
+use Rattle.std.proofs.Common.{◌≡◌, ◌⊎◌, inl, inr, ℕ, zero, suc, ◌+◌, ◌-◌, ◌<◌, ◌≤◌, Bool, true, false, List, [], ◌∷◌, Option, Some, refl, sym, ap, ◌∙◌, subst, rules, arith}
 use Rattle.std.specs.Prelude.{nat_lt, ◌==◌, if◌then◌else◌}
 use Rattle.nts_model.specs.declared.labels.Sort.{Sort}
 use Rattle.nts_model.specs.declared.labels.Sort.TheVariants as sort
@@ -38,7 +38,8 @@ use Rattle.nts_model.proofs.Tables.Slots.{Knows-kept}
 use Rattle.nts_placeholder.specs.Universes.{filled_universes, open_before, AreFilled}
 use Rattle.nts_terms.specs.declared.handles.Goal.{Goal}
 use Rattle.nts_terms.specs.declared.handles.Predicate.{Predicate}
-use Rattle.nts_trying.specs.Opening.{IsOpenedTo}
+use Rattle.nts_trying.specs.Opening.{IsOpenedTo, CannotOpen}
+use Rattle.nts_theory.specs.Telling.{IsTraitStatement}
 use Rattle.nts_asking.specs.Evaluation.{Goes}
 use Rattle.nts_model.proofs.Terms.Substituting.{no_children as no_places}
 
@@ -200,3 +201,16 @@ pub trait_tree : (ts : List Tree) (b : Binder PredicateKind) {p : Tree} {k : Cla
 trait_tree ts b {p} {k} {r} is x y =
     let says : tree_of_statement ts b.value ≡ node (label.Clause (clause.Trait r.def_id.number)) (more (tree_at ts r.args.node) empty) = ap (tree_of_statement ts) (x ∙ ap predicate.Clause y) in
     is ∙ ap (λ z. node (label.List list.Binder) (more (tree_at ts b.vars.node) (more z empty))) says
+
+-- a goal that lists what it binds, and is no trait's or no closed one
+pub cannot_open : (ts : List Tree) (b : Binder PredicateKind) (p : Tree) → p ≡ tree_of_predicate ts b → tree_at ts b.vars.node ≡ node (label.List list.Sorts) (children (tree_at ts b.vars.node)) → IsRow (children (tree_at ts b.vars.node)) → (row_length (children (tree_at ts b.vars.node)) ≡ 0 → ⊥)
+    → (IsTraitStatement (tree_of_statement ts b.value) → ⊥) ⊎ (IsClosed p → ⊥) → CannotOpen p
+cannot_open ts b p is sorts row some why =
+    let s = tree_of_statement ts b.value in
+    record {
+      binds_some = ap binds (is ∙ ap (λ z. node (label.List list.Binder) (more z (more s empty))) sorts) ∙ some_listed (children (tree_at ts b.vars.node)) s row some;
+      why = elim why [
+        | inl n ↦ inl (λ h. n (subst (λ t. IsTraitStatement (statement_of t)) is h))
+        | inr n ↦ inr n
+      ];
+    }

@@ -1,7 +1,9 @@
 -- A goal of the store and the table that was opened.
-use Rattle.std.specs.Prelude.{◌≡◌, true, List}
+use Rattle.std.specs.Prelude.{◌≡◌, ◌⊎◌, true, List}
 use Rattle.nts_model.specs.Terms.Trees.{Tree, IsClosed}
+use Rattle.nts_model.specs.Derivations.Rules.{statement_of}
 use Rattle.nts_model.specs.Refutation.Opening.{binds, entered_table, opened_in}
+use Rattle.nts_theory.specs.Telling.{IsTraitStatement}
 use Rattle.nts_store.specs.Growth.{tree_at}
 use Rattle.nts_unify.specs.Reading.{content_of}
 use Rattle.nts_table.specs.Tables.{Table}
@@ -13,3 +15,8 @@ pub record IsOpenedTo (a b : List Tree) (t u : Table) (g h : Goal) : Type 0 wher
   pub table : content_of b u.entries ≡ entered_table (content_of a t.entries) (tree_at a g.predicate.node)
   pub environment : h.param_env ≡ g.param_env
   pub predicate : tree_at b h.predicate.node ≡ opened_in (content_of a t.entries) (tree_at a g.predicate.node)
+
+-- a goal that binds variables and can't be opened: it is no trait goal, or a variable escapes
+pub record CannotOpen (p : Tree) : Type 0 where
+  pub binds_some : binds p ≡ true
+  pub why : (IsTraitStatement (statement_of p) → ⊥) ⊎ (IsClosed p → ⊥)

@@ -6,8 +6,8 @@ use Rattle.nts_asking.specs.Evaluation.{IsAskedGoal}
 use Rattle.nts_trying.specs.declared.kinds.GoalRow.{GoalRow}
 use Rattle.nts_trying.specs.declared.kinds.GoalRow.TheVariants as row
 
--- the goal that was opened is the row's; a handler's candidates answer a goal that handlers are asked
+-- the goal that was opened is the row's; a handler's candidates answer it exactly if it is one that handlers are asked
 abbrev pub IsRowOf : List Tree → Option Goal → GoalRow → Type 0
 IsRowOf ts opened (row.Candidates g) = (opened ≡ Some g) × IsAskedGoal ts g
-IsRowOf ts opened (row.Unanswered g) = opened ≡ Some g
+IsRowOf ts opened (row.Unanswered g) = (opened ≡ Some g) × (IsAskedGoal ts g → ⊥)
 IsRowOf ts opened row.Unopened = opened ≡ None

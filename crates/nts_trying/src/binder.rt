@@ -14,7 +14,7 @@ ghost use Rattle.nts_unify.specs.Entries.{moved};
 ghost use Rattle.nts_unify.specs.Reading.{content_of};
 ghost use Rattle.nts_table.specs.Tables.{IsTable};
 ghost use Rattle.nts_asking.specs.Evaluation.{Goes, IsPosed};
-ghost use Rattle.nts_trying.specs.Opening.{IsOpenedTo};
+ghost use Rattle.nts_trying.specs.Opening.{IsOpenedTo, CannotOpen};
 
 use nts_model::{ClauseHead, Label, ListHead};
 use nts_placeholder::BoundVarReplacer;
@@ -33,6 +33,8 @@ pub fn enter_forall(table: &mut InferCtxt, cx: &mut Cx, goal: Goal) -> Result<Op
     ensures opened { IfOk result (λ o. IfSome o (IsOpenedTo cx.old.nodes cx.new.nodes table.old
         table.new goal)) }
     ensures left { IfOk result (λ o. IsNone o → table.new ≡ table.old) }
+    ensures unopened { IfOk result (λ o. IsNone o → CannotOpen (tree_at cx.old.nodes
+        goal.predicate.node)) }
     ensures full { result ≡ Err Fault.Full → table.old.entries.universe ≡ u32.MAX }
 {
     cx.terms_are_formed();

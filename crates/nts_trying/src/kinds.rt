@@ -1,5 +1,5 @@
 //! Which goals the handler's candidates answer.
-ghost use Rattle.std.specs.Prelude.{ℕ, ◌≡◌, true, List, IfSome};
+ghost use Rattle.std.specs.Prelude.{ℕ, ◌≡◌, ◌↔◌, IsTrue, List, IfSome};
 ghost use Rattle.nts_model.specs.declared.labels.Variance.{Variance};
 ghost use Rattle.nts_model.specs.Terms.Trees.{Tree};
 ghost use Rattle.nts_model.specs.Derivations.Rules.{goal_kind};
@@ -21,7 +21,7 @@ use nts_terms::{ClauseKind, Cx, Goal, ParamEnv, PredicateKind};
 #[inline(never)]
 fn is_candidates_goal(cx: &Cx, goal: Goal) -> bool
     requires { HoldsGoal cx.now.nodes goal }
-    ensures { result ≡ true → IsAskedGoal cx.now.nodes goal }
+    ensures { IsTrue result ↔ IsAskedGoal cx.now.nodes goal }
 {
     let env = cx.nodes.flags(goal.param_env.node);
     let flags = cx.nodes.flags(goal.predicate.node);
@@ -56,7 +56,7 @@ fn is_candidates_goal(cx: &Cx, goal: Goal) -> bool
 #[inline(never)]
 fn statements_are_closed(cx: &Cx, env: ParamEnv) -> bool
     requires { HoldsEnv cx.now.nodes env }
-    ensures { result ≡ true → HasClosedStatements (tree_at cx.now.nodes env.node) }
+    ensures { IsTrue result ↔ HasClosedStatements (tree_at cx.now.nodes env.node) }
 {
     for i in 0..env.len(cx) {
         if !env.get(cx, i).has_closed_statement(cx) {

@@ -1,9 +1,8 @@
 -- The content that the entries of a table stand for, and the tables that a store and its callers keep.
 use Rattle.std.specs.Prelude.{◌≡◌, ℕ, ◌<◌, List, [], ◌∷◌, map, slice_get, Some}
 use Rattle.nts_model.specs.declared.labels.Sort.TheVariants as sort
-use Rattle.nts_model.specs.declared.labels.Relation.{Relation}
-use Rattle.nts_model.specs.declared.labels.Relation.TheVariants as relation
-use Rattle.nts_model.specs.Terms.Trees.{Tree, NodeKind, of_sort, kind_of}
+use Rattle.nts_model.specs.Terms.Trees.{Tree, of_sort, kind_of}
+use Rattle.nts_model.specs.Tables.Recording.{left_kind}
 use Rattle.nts_model.specs.Tables.Contents.{Content, Slot, SlotState, unset, link, known, Recorded}
 use Rattle.nts_model.specs.Tables.Resolving.{Knows, IsSound}
 use Rattle.nts_model.specs.Tables.RegionClasses.{AreRegions}
@@ -44,12 +43,6 @@ IsHeldState ts (Known t) = IsIn ts t
 abbrev pub AreHeld : List Tree → List Variable → Type 0
 AreHeld ts [] = Unit {0}
 AreHeld ts (v ∷ vs) = IsHeldState ts v.state × AreHeld ts vs
-
--- what stands on the left of a constraint
-abbrev pub left_kind : Relation → NodeKind
-left_kind relation.Equal = of_sort sort.Region
-left_kind relation.RegionOutlives = of_sort sort.Region
-left_kind relation.TypeOutlives = of_sort sort.Ty
 
 -- the sides of a constraint are of the store and the table, and of their sorts; those of an equality are
 -- no bound regions

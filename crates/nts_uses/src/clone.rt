@@ -6,6 +6,7 @@ ghost use Rattle.nts_delegate.specs.Clauses.{AreClausesReady};
 ghost use Rattle.nts_terms.specs.Rest.{Grows};
 
 use next_trait_solver::clauses::{Clause, Clauses};
+use next_trait_solver::delegate::GoalHandler;
 use next_trait_solver::solve::{evaluate_root_goal, goal_is_admitted};
 use next_trait_solver::ty::{
     Binder, BoundTy, BoundVarIndexKind, Certainty, ClauseKind, CtorId, Cx, DefId, EvalError,
@@ -81,8 +82,7 @@ pub(crate) fn vec_of(
     Ok(Some(cx.mk_ty(TyKind::Ctor(vec, args))?))
 }
 
-/// Adds the rule that `Vec(T)` is `Clone` for each `T` that is. The rule's variable is the position 0.
-#[tactic(auto, using(nts_asking::proofs::Asking::asking, nts_terms::proofs::Moved::growth))]
+/// Adds the rule that `Vec(T)` is `Clone` for each `T` that is.
 pub(crate) fn add_rule_of_vec(
     cx: &mut Cx,
     rules: &mut Clauses,
@@ -93,8 +93,24 @@ pub(crate) fn add_rule_of_vec(
     ensures ready { OnOk result (AreClausesReady cx.new.nodes rules.new) }
     ensures grows { Grows cx.old cx.new }
 {
+    add_rule_where(cx, rules, clone, clone, vec)
+}
+
+/// Adds the rule that a trait holds for `Vec(T)` for each `T` for which the condition does. Its variable is the position 0.
+#[tactic(auto, using(nts_asking::proofs::Asking::asking, nts_terms::proofs::Moved::growth))]
+pub(crate) fn add_rule_where(
+    cx: &mut Cx,
+    rules: &mut Clauses,
+    trait_id: TraitId,
+    condition: TraitId,
+    vec: CtorId,
+) -> Result<bool, EvalError>
+    requires { AreClausesReady cx.old.nodes rules.old }
+    ensures ready { OnOk result (AreClausesReady cx.new.nodes rules.new) }
+    ensures grows { Grows cx.old cx.new }
+{
     let any = cx.mk_ty(TyKind::Bound(BoundVarIndexKind::Canonical, BoundTy { var: 0 }))?;
-    let Some(condition) = holds_for(cx, clone, any.into())? else {
+    let Some(condition) = holds_for(cx, condition, any.into())? else {
         return Ok(false);
     };
     let Some(vec_of_any) = vec_of(cx, vec, any.into())? else {
@@ -104,14 +120,18 @@ pub(crate) fn add_rule_of_vec(
     fresh.push(Sort::Ty)?;
     let mut body = Vec::new(cx.alloc);
     body.push(condition)?;
-    add_rule(cx, rules, fresh, clone, vec_of_any.into(), body)
+    add_rule(cx, rules, fresh, trait_id, vec_of_any.into(), body)
 }
 
 /// How sure it is that a goal holds by the rules, or nothing where it may not be asked.
 #[tactic(auto, using(nts_asking::proofs::Asking::asking))]
-fn ask(cx: &mut Cx, rules: &Clauses, goal: Goal) -> Result<Option<Certainty>, EvalError>
+pub(crate) fn ask<H: GoalHandler>(
+    cx: &mut Cx,
+    rules: &H,
+    goal: Goal,
+) -> Result<Option<Certainty>, EvalError>
     requires holds { HoldsGoal cx.old.nodes goal }
-    requires ready { AreClausesReady cx.old.nodes rules.now }
+    requires ready { H.ready cx.old.nodes rules.now }
 {
     let mut table = InferCtxt::new(cx.alloc, TypingMode::PostAnalysis);
     if !goal_is_admitted(&table, cx, goal)? {

@@ -11,6 +11,8 @@ mod cycle;
 #[cfg(test)]
 mod errors;
 #[cfg(test)]
+mod own;
+#[cfg(test)]
 mod related;
 #[cfg(test)]
 mod rule;

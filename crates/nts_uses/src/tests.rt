@@ -3,6 +3,7 @@ use crate::clone::clone_of_vec;
 use crate::count::goals_of_vec;
 use crate::cycle::{Counted, growing_answer};
 use crate::errors::{Known, errors_of_probes};
+use crate::own::clone_of_sized;
 use crate::related::{Left, goals_of_alias, goals_of_variables};
 use crate::rule::rule_of_vec;
 use next_trait_solver::ty::{Certainty, EvalError, Variance};
@@ -12,6 +13,13 @@ use std::process::Abort;
 #[test]
 fn vec_of_u32_is_clone(rt: HostRuntime) {
     let found = clone_of_vec(rt.alloc()).expect(&rt, "memory");
+    assert!(rt; matches!(found, Some(Certainty::Yes)));
+}
+
+/// A rule of a handler of one's own serves a condition of a clause.
+#[test]
+fn two_handlers_are_one(rt: HostRuntime) {
+    let found = clone_of_sized(rt.alloc()).expect(&rt, "memory");
     assert!(rt; matches!(found, Some(Certainty::Yes)));
 }
 

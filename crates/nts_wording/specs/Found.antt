@@ -8,7 +8,7 @@ use Rattle.nts_store.specs.Growth.{tree_at, IsIn}
 use Rattle.nts_terms.specs.Handles.{HoldsArg}
 use Rattle.nts_table.specs.Tables.{Table}
 use Rattle.nts_unify.specs.Reading.{content_of, recorded_of}
-use Rattle.nts_table.specs.Deduplicated.{resolved_constraints, AreNews}
+use Rattle.nts_model.specs.Tables.Recording.{resolved_constraints, AreNews}
 use Rattle.nts_wording.specs.declared.variables.LineVariables.{LineVariables}
 use Rattle.nts_wording.specs.declared.answer.Answer.{Answer}
 use Rattle.nts_wording.specs.declared.answer.Answer.TheVariants as answers

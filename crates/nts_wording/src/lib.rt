@@ -16,7 +16,7 @@ mod variables;
 
 pub use answer::{Answer, Found, answer_of};
 pub use build::{MISFIT, Terms};
-pub use output::{put, put_refusal};
+pub use output::{put_answer, put_refusal};
 pub use printer::text_of;
 pub use sentences::{clause_of, goal_of};
 pub use status::{Status, Stop};

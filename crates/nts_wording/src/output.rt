@@ -33,7 +33,7 @@ fn put_some<W: Write>(output: &mut W, bytes: &[u8]) -> Result<usize, Stop>
 
 /// Writes all of these bytes. Whatever happens, what was written before stays.
 #[tactic(auto, using(crate::proofs::Growths::writes))]
-pub fn put<W: Write>(output: &mut W, bytes: &[u8]) -> Result<(), Stop>
+fn put<W: Write>(output: &mut W, bytes: &[u8]) -> Result<(), Stop>
     ensures fault { IfErr result (λ s. is_refusal s ≡ false) }
     ensures all { OnOk result (Appends (W.contents output.old) (W.contents output.new) bytes.now) }
     ensures begins { Begins (W.contents output.old) (W.contents output.new) }
@@ -46,6 +46,19 @@ pub fn put<W: Write>(output: &mut W, bytes: &[u8]) -> Result<(), Stop>
         written += put_some(output, &bytes[written..])?;
     }
     Err(Stop::Failed)
+}
+
+/// Writes an answer and lets it out, so that whoever waits for it has it before the next line is read. Whatever happens, what was
+/// written before stays.
+#[tactic(auto, using(crate::proofs::Growths::writes))]
+pub fn put_answer<W: Write>(output: &mut W, bytes: &[u8]) -> Result<(), Stop>
+    ensures fault { IfErr result (λ s. is_refusal s ≡ false) }
+    ensures all { OnOk result (Appends (W.contents output.old) (W.contents output.new) bytes.now) }
+    ensures begins { Begins (W.contents output.old) (W.contents output.new) }
+{
+    put(output, bytes)?;
+    output.flush()?;
+    Ok(())
 }
 
 /// Writes why a line is refused.

@@ -13,6 +13,7 @@ use Rattle.nts_model.specs.declared.labels.Label.TheVariants as label
 use Rattle.nts_model.specs.Terms.Trees.{Tree, empty, more, node, kind_of_label, of_sort, NodeKind, any_label, is_canonical, IsClosed, IsFormed}
 use Rattle.nts_model.specs.Terms.Scoping.{IsWellBound}
 use Rattle.nts_model.specs.Terms.Fitting.{Fits}
+use Rattle.nts_model.specs.Tables.Recording.{ConstrainsRegion}
 use Rattle.nts_model.specs.Terms.Substitutions.{Occurs, StaysItself, Instance, instance_of, Renaming, rename, IsPlain, filled_under, position_of}
 use Rattle.nts_model.specs.Derivations.Related.{Constraint, pair, unbound}
 use Rattle.nts_model.specs.Lists.{Among}
@@ -206,6 +207,7 @@ pub record IsNested (fresh : List Sort) (e g : Tree) (q : Premise) : Type 0 wher
 pub record IsCandidateFor (e g : Tree) (c : Candidate) : Type 0 where
   pub equations : (q : Equation) → Among c.equations q → IsEquationOver c.fresh e g q
   pub constraints : (x : Constraint) → Among c.constraints x → IsOver c.fresh e g x.left × IsOver c.fresh e g x.right
+  pub constrains : (x : Constraint) → Among c.constraints x → ConstrainsRegion x.relation x.left x.right
   pub goals : (q : Premise) → Among c.goals q → IsNested c.fresh e g q
   -- until hidden types exist there are none
   pub no_hidden : c.hidden ≡ []
@@ -214,8 +216,13 @@ pub record IsCandidateFor (e g : Tree) (c : Candidate) : Type 0 where
 pub record CandidatesKeep (h : Handler) : Type 0 where
   pub each : (mode : Mode) (e g : Tree) (c : Candidate) → IsAsked e g → Among (h.offers mode e g) c → IsCandidateFor e g c
 
+-- no premise of a rule has the source of a goal that normalizes an alias: only the engine asks for such, by AliasRelate goals
+pub record RulesHaveSources (h : Handler) : Type 0 where
+  pub each : (mode : Mode) (a : Application) (q : Premise) → h.applies mode a → Among a.goals q → IsHandlersSource q.source
+
 -- a handler that keeps the laws, which its sets being fixed is one of: they are functions
 pub record IsLawfulHandler (h : Handler) : Type 0 where
   pub commute : CandidatesCommute h
   pub rules : InstancesAreRules h
+  pub sources : RulesHaveSources h
   pub keep : CandidatesKeep h

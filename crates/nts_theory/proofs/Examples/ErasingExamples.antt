@@ -1,10 +1,10 @@
 -- Rows of the rerun table; and a goal that the erased mode refutes, though it has a fact.
-use Rattle.std.proofs.Common.{◌≡◌, ℕ, List, [], ◌∷◌, refl, inl, inr, sym, subst, false, map}
+use Rattle.std.proofs.Common.{◌≡◌, ℕ, List, [], ◌∷◌, refl, inl, inr, sym, ap, ◌∙◌, subst, false, map}
 use Rattle.nts_model.specs.Terms.Trees.{Tree}
 use Rattle.nts_model.specs.Lists.{Among}
 use Rattle.nts_model.specs.Derivations.Rules.{Mode, coherence, post_analysis, erased, analysis, borrowck, post_borrowck}
-use Rattle.nts_model.specs.Derivations.Handlers.{Handler, Candidate, certain, never, always, in_storage, in_storage_or_infer, IsLawfulHandler, IsCandidateFor, renamed_candidate}
-use Rattle.nts_model.specs.Terms.Substitutions.{Renaming}
+use Rattle.nts_model.specs.Derivations.Handlers.{Handler, Candidate, certain, never, always, in_storage, in_storage_or_infer, IsLawfulHandler, IsCandidateFor, premise_by, renamed_candidate}
+use Rattle.nts_model.specs.Terms.Substitutions.{Renaming, instance_of, filled_under}
 use Rattle.nts_theory.specs.Erased.Accessing.{Parents, no_parents, stands, runs_again, decides}
 use Rattle.nts_theory.specs.Erased.Erasing.{ErasedAreRules}
 
@@ -33,7 +33,7 @@ facts (borrowck xs) = fact ∷ []
 facts (post_borrowck xs) = fact ∷ []
 
 abbrev pub blind : Handler
-blind = record { applies = λ mode a. Unit {0}; offers = λ mode e g. facts mode; is_coinductive = λ i. false }
+blind = record { applies = λ mode a. a.goals ≡ []; offers = λ mode e g. facts mode; is_coinductive = λ i. false }
 
 only_fact : (mode : Mode) (c : Candidate) → Among (facts mode) c → c ≡ fact
 only_fact erased c i = absurd i
@@ -57,19 +57,25 @@ same_facts (borrowck xs) ρ = refl
 same_facts (post_borrowck xs) ρ = refl
 
 fact_keeps : (e g : Tree) → IsCandidateFor e g fact
-fact_keeps e g = record { equations = λ q i. absurd i; constraints = λ x i. absurd i; goals = λ q i. absurd i; no_hidden = refl; no_access = refl }
+fact_keeps e g = record { equations = λ q i. absurd i; constraints = λ x i. absurd i; constrains = λ x i. absurd i; goals = λ q i. absurd i; no_hidden = refl; no_access = refl }
 
 -- it keeps the laws, that of the erased mode too
 pub blind_lawful : IsLawfulHandler blind
 blind_lawful =
     record {
       commute = record { renaming = λ mode e g ρ p a. same_facts mode ρ };
-      rules = record { instances = λ mode e g c ι a asked offered sure is. tt; closed = λ mode a ι x. tt };
+      rules =
+          record {
+            instances = λ mode e g c ι a asked offered sure is.
+                ap (λ x. x.goals) is.same ∙ ap (λ d. map (premise_by (filled_under ι.value a.values)) d.goals) (only_fact mode c offered);
+            closed = λ mode a ι x. ap (map (premise_by (instance_of ι))) x;
+          };
+      sources = record { each = λ mode a q x i. let j : Among [] q = rw x at i in absurd j };
       keep = record { each = λ mode e g c asked offered. subst (IsCandidateFor e g) (sym (only_fact mode c offered)) (fact_keeps e g) };
     }
 
 pub blind_erased : ErasedAreRules blind
-blind_erased = record { instances = λ proof e g c ι a asked offered sure may is. tt }
+blind_erased = record { instances = λ proof e g c ι a asked offered sure may is. absurd offered }
 
 -- the erased mode offers nothing, accesses nothing, and its answer stands; and in the mode there is a fact
 pub nothing_erased : (e g : Tree) → blind.offers erased e g ≡ []

@@ -2,8 +2,8 @@ use Rattle.std.proofs.Common.{ap, arith, map, subst, sym, ◌∙◌}
 use Rattle.std.proofs.lemmas.List.{take_all}
 use Rattle.std.proofs.lemmas.List.Elements.{All-push}
 use Rattle.nts_unify.specs.Reading.{content_of, recorded_of, IsConstraint}
-use Rattle.nts_response.specs.Forms.{StoreHoldsConstraint}
-use Rattle.nts_asking.proofs.Told.{news_told, sides_known, holds_told, is_constraint_at, more_recorded}
+use Rattle.nts_response.specs.Forms.{recorded_at, StoreHoldsConstraint}
+use Rattle.nts_asking.proofs.Told.{news_told, none_told, sides_known, holds_told, is_constraint_at, more_recorded}
 use Rattle.nts_asking.proofs.response.told_constraints.Goals as goal
 use Rattle.std.specs.Prelude.{All}
 
@@ -36,3 +36,6 @@ returns-clause-known c =
     let xs = c.in_ok-constraints.constraints.items in
     let trees = c.loop-i.invariant.trees ∙ ap (map (recorded_of ts)) (take_all c.loop-i.i xs (omega (arith, c.loop-i-test.false))) in
     rw trees (sides_known ts (content_of ts c.args.table.now.entries) xs c.in_ok-constraints.ensures.sides)
+
+pub returns-in_default-clause-told : goal.returns-in_default-clause-told
+returns-in_default-clause-told c = none_told c.args.certainty _ _ c.in_default.not-Yes (ap (map (recorded_at c.args.cx.now.nodes)) c.new.ensures.items)

@@ -48,7 +48,7 @@ use Rattle.nts_search.specs.Kinds.{goal_kind_of}
 use Rattle.nts_search.specs.Searching.{entry_at, entries_at}
 use Rattle.nts_search.proofs.Stacked.{entries_pushed, entries_popped}
 use Rattle.nts_asking.specs.Searching.{HeadsTell, IsAnswerTold, IsHeadAnswer, assumed_in}
-use Rattle.nts_asking.proofs.Searching.{Searches-refl, Searches-trans, search_later, search_grown, search_grows, search_covers, covers_grown, stays_more, served_more, tell_grown, heads_tell_later, search_counted, search_marked, head_answer_later, answer_told_later, form_later, input_later, later_long, goal_cut_earlier}
+use Rattle.nts_asking.proofs.Searching.{Searches-refl, Searches-trans, search_later, search_grown, search_grows, search_covers, covers_grown, stays_more, served_more, tell_grown, heads_tell_later, search_counted, search_marked, search_marked_again, head_answer_later, answer_told_later, form_later, input_later, later_long, goal_cut_earlier}
 use Rattle.nts_search.specs.declared.stack.StackEntry.{StackEntry}
 use Rattle.nts_canonical.specs.declared.types.CanonicalInput.{CanonicalInput}
 use Rattle.nts_asking.specs.Answering.{IsAnswerTo, is_yes}
@@ -65,6 +65,7 @@ use Rattle.nts_certainty.specs.declared.certainty.Certainty.TheVariants as certa
 use Rattle.std.specs.Result.{is_err}
 use Rattle.std.proofs.lemmas.Result.{IfOk-from_err}
 use Rattle.nts_evaluation.proofs.Failing.{query_failed, goal_failed, try_failed}
+use Rattle.nts_evaluation.proofs.evaluate.+evaluate.Goals.{search-then-graph, search-else-graph}
 use Rattle.nts_evaluation.proofs.evaluate.+evaluate.Goals as goal
 use Rattle.nts_evaluation.proofs.evaluate.+evaluate.Answers.Queries as queries
 use Rattle.nts_evaluation.proofs.evaluate.+evaluate.Answers.Candidates as candidates
@@ -138,8 +139,8 @@ compute_goal-returns-in-Unanswered g t c =
     record {
       grows = search rules;
       searches = Searches-refl c.args.depth c.requires.search (grown c.in_ok-opened.ensures.grows c.in_ok-response-in-Unanswered.ensures.grows);
-      found = found_in c.in_ok-response-in-Unanswered.response.value _ o.goes c.terms_are_formed.ensures r.grows.extends (labels_entered c.requires.posed (rw c.in-Unanswered.ensures at o.opened) o.grows.extends) c.requires.values r.certainty r.says r.holds (record { no_hidden = r.nothing.0; no_goals = r.nothing.1 }) (λ y. absurd (doubtful _ y));
-      told = λ s tells. nothing_through c.requires.posed (rw c.in-Unanswered.ensures at o.opened) o.grows.extends (g.H.GoalHandler.handler s.base c.args.handler.now) c.args.table.now.mode c.args.values.now _ c.in_ok-response-in-Unanswered.response.value trees (ap is_yes r.certainty) plain;
+      found = found_in c.in_ok-response-in-Unanswered.response.value _ o.goes c.terms_are_formed.ensures r.grows.extends (labels_entered c.requires.posed (rw c.in-Unanswered.ensures.0 at o.opened) o.grows.extends) c.requires.values r.certainty r.says r.holds (record { no_hidden = r.nothing.0; no_goals = r.nothing.1 }) (λ y. absurd (doubtful _ y));
+      told = λ s tells. nothing_through c.requires.posed (rw c.in-Unanswered.ensures.0 at o.opened) o.grows.extends (g.H.GoalHandler.handler s.base c.args.handler.now) c.args.table.now.mode c.args.values.now _ c.in_ok-response-in-Unanswered.response.value trees (ap is_yes r.certainty) plain;
       refuted = search rules;
     }
 
@@ -165,10 +166,11 @@ pub evaluate_added-returns-in-None : goal.evaluate_added-returns-in-None
 evaluate_added-returns-in-None g t c =
     record {
       runs = Runs-refl c.requires.posed.table;
-      searches = search_marked (bound_of c.args.depth) true c.requires.search;
+      searches = search_marked (bound_of c.args.depth) c.requires.search;
       err = search rules;
       labels = search rules;
       proved = search rules;
+      marks = λ e. refl;
       told = λ s tells. inr (c.next.ensures.too_deep.0 (search rules), refl);
       refuted = search rules;
     }
@@ -181,6 +183,7 @@ evaluate_added-returns-in_err-asked-in-Some g t c =
       err = search rules;
       labels = search rules;
       proved = search rules;
+      marks = λ e. (let less : c.in-Some.below + 1 ≤ bound_of c.args.depth = omega (arith, c.in-Some.ensures.within) in absurd (omega (arith, e, less)));
       told = search rules;
       refuted = search rules;
     }
@@ -204,6 +207,7 @@ evaluate_added-returns-in_ok-asked-in-Some g t c =
           (λ x f y.
           rw (all.extends.kept c.args.goal.param_env.node p.holds.env.within, all.extends.kept c.args.goal.predicate.node p.holds.predicate.within)
           (unread _ _ _ _ all env predicate p.knows.env p.knows.predicate (f y))) (e.proved (Since-later k.grows s));
+      marks = λ e. (let less : c.in-Some.below + 1 ≤ bound_of c.args.depth = omega (arith, c.in-Some.ensures.within) in absurd (omega (arith, e, less)));
       told = λ s tells. IfOk-map c.evaluate_goal.result (λ x f. inl (evaluates_at same (rw (k.env, k.predicate) at f))) (c.evaluate_goal.ensures.told (Since-later k.grows s) (tell_grown (g.H.GoalHandler.handler s.base c.args.handler.now) (bound_of c.args.depth) c.requires.search k.grows tells));
       refuted = λ s tells n. goal_cut_earlier k.grows.extends c.requires.search.stack c.requires.search.heads (rw (same, k.env, k.predicate) at (c.evaluate_goal.ensures.refuted (Since-later k.grows s) (tell_grown (g.H.GoalHandler.handler s.base c.args.handler.now) (bound_of c.args.depth) c.requires.search k.grows tells) n));
     }
@@ -610,6 +614,21 @@ run_candidate-try_evaluate_goals-requires = candidates.run_candidate-try_evaluat
 
 pub search-evaluate_rounds-answer-requires : goal.search-evaluate_rounds-answer-requires
 search-evaluate_rounds-answer-requires = queries.search-evaluate_rounds-answer-requires
+
+pub search-returns : goal.search-returns
+search-returns g t c =
+    let e = c.evaluate_rounds-answer.ensures in
+    record {
+      grows = e.grows;
+      searches = search_marked_again false c.if-graph.graph e.searches (λ m. elim c.if-graph.branch [ search-then-graph w ↦ w.graph-is ∙ w.if-graph.true | search-else-graph w ↦ w.graph-is ∙ m ]);
+      fits = e.fits;
+      proved = e.proved;
+      told = e.told;
+      refuted = λ s tells no. elim (e.refuted s tells no) [
+        | inl q ↦ inl q
+        | inr x ↦ inr (record { head = x.head; below = x.below; same = x.same; path = x.path; elsewhere = x.elsewhere })
+      ];
+    }
 
 pub search-returns-in-Some : goal.search-returns-in-Some
 search-returns-in-Some g t c =

@@ -1,13 +1,16 @@
-use Rattle.std.proofs.Common.{rules, ◌≡◌, ◌∙◌, refl, false}
+use Rattle.std.proofs.Common.{rules, ◌≡◌, ◌∙◌, inl, inr, refl, subst, true, false}
 use Rattle.std.specs.Prelude.{is_some}
 use Rattle.nts_model.specs.Terms.Trees.{IsClosed}
 use Rattle.nts_store.specs.Growth.{tree_at}
-use Rattle.nts_store.proofs.Escaping.{closed_by_facts}
+use Rattle.nts_store.proofs.Escaping.{closed_by_facts, open_by_facts}
 use Rattle.nts_store.proofs.Growing.{Extends-refl}
 use Rattle.nts_terms.proofs.Moved.{KeepsRest-refl}
 use Rattle.nts_terms.proofs.Standing.{vars_tree}
 use Rattle.nts_asking.proofs.Evaluating.{Goes-extends, IsTermIn-later, env_term, kind-extended, goal_posed}
-use Rattle.nts_trying.proofs.Entering.{arguments_closed, trait_opened, trait_tree}
+use Rattle.nts_terms.specs.Kinds.{tree_of_statement}
+use Rattle.nts_theory.specs.Telling.{IsTraitStatement}
+use Rattle.nts_trying.proofs.Unasked.{other_predicate, other_clause}
+use Rattle.nts_trying.proofs.Entering.{cannot_open, arguments_closed, trait_opened, trait_tree}
 use Rattle.nts_trying.proofs.binder.enter_forall.Goals as goal
 
 pub returns-then-len-eq0-clause-goes : goal.returns-then-len-eq0-clause-goes
@@ -21,6 +24,7 @@ returns-in_default c =
       posed = tt;
       opened = tt;
       left = λ e. refl;
+      unopened = λ e. cannot_open c.args.cx.now.nodes c.kind-predicate.result _ c.kind-predicate.ensures.tree (vars_tree _ c.kind-predicate.ensures.fits.0.fits) c.len.ensures.row (λ e. c.if-len-eq0.false (c.len.ensures.count ∙ e)) (inl (other_predicate c.args.cx.now.nodes c.kind-predicate.result.value c.in_default.not-Clause));
       full = λ e. cc;
     }
 
@@ -32,11 +36,18 @@ returns-in_default-clause c =
       posed = tt;
       opened = tt;
       left = λ e. refl;
+      unopened = λ e. cannot_open c.args.cx.now.nodes c.kind-predicate.result _ c.kind-predicate.ensures.tree (vars_tree _ c.kind-predicate.ensures.fits.0.fits) c.len.ensures.row (λ e. c.if-len-eq0.false (c.len.ensures.count ∙ e)) (inl (λ h. other_clause c.args.cx.now.nodes c.in-Clause.clause c.in_default-clause.not-Trait (subst (λ v. IsTraitStatement (tree_of_statement c.args.cx.now.nodes v)) c.in-Clause.is h)));
       full = λ e. cc;
     }
 
 pub returns-then-is_some-clause-goes : goal.returns-then-is_some-clause-goes
 returns-then-is_some-clause-goes c = Goes-extends c.requires.posed.table (Extends-refl _)
+
+pub returns-then-is_some-clause-unopened : goal.returns-then-is_some-clause-unopened
+returns-then-is_some-clause-unopened c = λ e.
+    let p = tree_at c.args.cx.now.nodes c.args.goal.predicate.node in
+    let escapes : is_some c.flags.result.escaping ≡ true = first_of (cc, search rules) in
+    cannot_open c.args.cx.now.nodes c.kind-predicate.result _ c.kind-predicate.ensures.tree (vars_tree _ c.kind-predicate.ensures.fits.0.fits) c.len.ensures.row (λ e. c.if-len-eq0.false (c.len.ensures.count ∙ e)) (inr (open_by_facts p c.flags.result c.flags.ensures escapes))
 
 pub open_trait-requires-clause-levels : goal.open_trait-requires-clause-levels
 open_trait-requires-clause-levels c =

@@ -1,6 +1,6 @@
 use Rattle.std.proofs.Common.{map, subst}
 use Rattle.nts_unify.specs.Reading.{recorded_of}
-use Rattle.nts_table.specs.Deduplicated.{resolved_constraints, AreNews}
+use Rattle.nts_model.specs.Tables.Recording.{resolved_constraints, AreNews}
 use Rattle.nts_unify.specs.Lawful.{content_of-extended}
 use Rattle.nts_table.specs.TableLaws.{IsTable-extended}
 use Rattle.nts_wording.proofs.Telling.{resolved_later}

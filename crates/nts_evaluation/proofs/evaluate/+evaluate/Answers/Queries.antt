@@ -48,7 +48,7 @@ use Rattle.nts_search.specs.Kinds.{goal_kind_of}
 use Rattle.nts_search.specs.Searching.{entry_at, entries_at}
 use Rattle.nts_search.proofs.Stacked.{entries_pushed, entries_popped}
 use Rattle.nts_asking.specs.Searching.{HeadsTell, IsAnswerTold, IsHeadAnswer, assumed_in}
-use Rattle.nts_asking.proofs.Searching.{Searches-refl, Searches-trans, search_later, search_grown, search_grows, search_covers, covers_grown, stays_more, served_more, tell_grown, heads_tell_later, search_counted, search_marked, head_answer_later, answer_told_later, form_later, input_later, later_long}
+use Rattle.nts_asking.proofs.Searching.{Searches-refl, Searches-trans, search_later, search_grown, search_grows, search_covers, covers_grown, stays_more, served_more, tell_grown, heads_tell_later, search_counted, search_marked, search_unmarked, search_marked_again, head_answer_later, answer_told_later, form_later, input_later, later_long}
 use Rattle.nts_search.specs.declared.stack.StackEntry.{StackEntry}
 use Rattle.nts_canonical.specs.declared.types.CanonicalInput.{CanonicalInput}
 use Rattle.nts_asking.specs.Answering.{IsAnswerTo, is_yes}
@@ -308,7 +308,7 @@ search-evaluate_rounds-answer-requires g t c =
           c.requires.input,
           (
             c.requires.ready,
-            search_later (c.args.depth + 1) (c.args.depth + 1) (omega arith) c.requires.search (search_marked (c.args.depth + 1) false c.requires.search),
+            search_unmarked (c.args.depth + 1) false c.requires.search,
           ),
         ),
       ),

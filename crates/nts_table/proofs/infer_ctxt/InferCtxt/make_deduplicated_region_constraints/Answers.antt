@@ -4,7 +4,7 @@ use Rattle.nts_terms.proofs.Moved.{KeepsRest-trans}
 use Rattle.nts_unify.specs.Reading.{content_of}
 use Rattle.nts_unify.specs.Lawful.{IsLawful-extended}
 use Rattle.nts_table.specs.TableLaws.{IsTable-extended}
-use Rattle.nts_table.specs.Deduplicated.{resolved_constraints, none}
+use Rattle.nts_model.specs.Tables.Recording.{resolved_constraints, none}
 use Rattle.nts_table.proofs.Telling.{SidesIn-all, AreConstraints-moved, AreNews-moved, AreConstraints-told, next_news}
 use Rattle.nts_table.proofs.infer_ctxt.InferCtxt.make_deduplicated_region_constraints.Goals as goal
 

@@ -2,7 +2,8 @@ use Rattle.std.proofs.Common.{◌≡◌, take, map}
 use Rattle.nts_store.specs.Growth.{Extends}
 use Rattle.nts_terms.specs.Rest.{KeepsRest}
 use Rattle.nts_unify.specs.Reading.{content_of, recorded_of, AreConstraints}
-use Rattle.nts_table.specs.Deduplicated.{resolved_constraints, AreNews, said}
+use Rattle.nts_model.specs.Tables.Recording.{resolved_constraints, AreNews}
+use Rattle.nts_table.specs.Deduplicated.{said}
 use Rattle.nts_table.proofs.infer_ctxt.InferCtxt.make_deduplicated_region_constraints.Given as goal
 
 abbrev pub invariant-loop-i : goal.invariant-loop-i

@@ -4,7 +4,7 @@ use Rattle.nts_unify.specs.declared.contents.Constraint.{Constraint}
 use Rattle.nts_unify.specs.Reading.{content_of, recorded_of}
 use Rattle.nts_unify.specs.Lawful.{content_of-extended}
 use Rattle.nts_table.specs.TableLaws.{IsTable-extended}
-use Rattle.nts_table.specs.Deduplicated.{resolved_constraint}
+use Rattle.nts_model.specs.Tables.Recording.{resolved_constraint}
 use Rattle.nts_table.proofs.Telling.{constraint_at, resolved_sides, ResolvedSides}
 use Rattle.nts_table.proofs.infer_ctxt.InferCtxt.resolved_constraint.Goals as goal
 

@@ -1,0 +1,64 @@
+//! Two handlers as one.
+ghost use Rattle.std.specs.Prelude.{◌≡◌, ◌||◌, List, IfOk, IsOkUnless};
+ghost use Rattle.nts_model.specs.Terms.Trees.{Tree};
+ghost use Rattle.nts_store.specs.Growth.{tree_at};
+ghost use Rattle.nts_terms.specs.Rest.{Grows};
+
+use crate::delegate::{CandidateData, GoalHandler};
+use nts_store::Fault;
+use nts_terms::{Cx, Goal, TraitId, TypingMode};
+
+/// The rules of two handlers, as one handler: it offers the candidates of the first, and then those of the second. A trait is
+/// coinductive if it is for one of them. So a caller who has rules of his own for some traits writes a handler for these alone,
+/// and puts it beside `Clauses`.
+#[derive(Drop)]
+pub struct Both<A: GoalHandler + Drop, B: GoalHandler + Drop> {
+    pub first: A,
+    pub second: B,
+}
+
+impl<A: GoalHandler + Drop, B: GoalHandler + Drop> GoalHandler for Both<A, B> {
+    ghost use Rattle.nts_delegate.specs.Both.{either, IsLawfulHandler-either, RulesAreOffered-either, MeansSame-either};
+
+    ghost ready = { λ ts s. A.ready ts s.first × B.ready ts s.second };
+
+    ghost handler = { λ ts s. either (A.handler ts s.first) (B.handler ts s.second) };
+
+    fn candidates(
+        &self,
+        cx: &mut Cx,
+        mode: &TypingMode,
+        goal: Goal,
+    ) -> Result<Vec<CandidateData>, Fault> {
+        let mut found = self.first.candidates(cx, mode, goal)?;
+        let mut more = self.second.candidates(cx, mode, goal)?;
+        found.append(&mut more)?;
+        Ok(found)
+    }
+
+    fn relevant_candidates(
+        &self,
+        cx: &mut Cx,
+        mode: &TypingMode,
+        goal: Goal,
+    ) -> Result<Vec<CandidateData>, Fault> {
+        let mut found = self.first.relevant_candidates(cx, mode, goal)?;
+        let mut more = self.second.relevant_candidates(cx, mode, goal)?;
+        found.append(&mut more)?;
+        Ok(found)
+    }
+
+    fn trait_is_coinductive(&self, id: TraitId) -> bool {
+        let first = self.first.trait_is_coinductive(id);
+        let second = self.second.trait_is_coinductive(id);
+        first || second
+    }
+
+    ghost lawful = { λ ts s f r. IsLawfulHandler-either (A.handler ts s.first) (B.handler ts s.second) (A.lawful ts s.first f r.0) (B.lawful ts s.second f r.1) };
+
+    ghost offered = { λ ts s f r. RulesAreOffered-either (A.handler ts s.first) (B.handler ts s.second) (A.offered ts s.first f r.0) (B.offered ts s.second f r.1) };
+
+    ghost handler_kept = { λ a b s r e. MeansSame-either (A.handler_kept a b s.first r.0 e) (B.handler_kept a b s.second r.1 e) };
+
+    ghost ready_kept = { λ a b s h e. (A.ready_kept a b s.first h.0 e, B.ready_kept a b s.second h.1 e) };
+}

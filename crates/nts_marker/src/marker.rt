@@ -1,0 +1,88 @@
+//! A trait that holds of everything.
+ghost use Rattle.std.specs.Prelude.{◌≡◌, ℕ, ◌∷◌, [], false, List};
+ghost use Rattle.nts_model.specs.Terms.Trees.{Tree};
+ghost use Rattle.nts_store.specs.Growth.{tree_at};
+ghost use Rattle.nts_terms.specs.Handles.{HoldsGoal};
+ghost use Rattle.nts_delegate.specs.Offered.{candidate_of};
+ghost use Rattle.nts_marker.specs.Marking.{marks, fact};
+
+use nts_certainty::{Certainty, RerunCondition};
+use nts_delegate::{CandidateData, GoalHandler};
+use nts_store::Fault;
+use nts_terms::{ClauseKind, Cx, Goal, PredicateKind, TraitId, TypingMode};
+use std::alloc::Global;
+
+/// Offers, for each goal of one trait, a candidate that asks for nothing. It has no rules for other traits.
+#[derive(Clone, Copy, Drop)]
+pub struct Marker {
+    pub id: TraitId,
+}
+
+/// A candidate that holds as it stands.
+fn bare(alloc: Global) -> CandidateData
+    ensures tree { (ts : List Tree) → candidate_of ts result ≡ fact }
+    ensures hidden { result.hidden_types.items ≡ [] }
+    ensures equations { result.equations.items ≡ [] }
+    ensures constraints { result.region_constraints.items ≡ [] }
+    ensures goals { result.goals.items ≡ [] }
+    ensures accesses { result.accesses ≡ RerunCondition.Never }
+{
+    CandidateData {
+        fresh: Vec::new(alloc),
+        equations: Vec::new(alloc),
+        region_constraints: Vec::new(alloc),
+        hidden_types: Vec::new(alloc),
+        goals: Vec::new(alloc),
+        certainty: Certainty::Yes,
+        accesses: RerunCondition::Never,
+    }
+}
+
+impl Marker {
+    /// Whether a goal is one of the trait.
+    fn marks(&self, cx: &Cx, goal: Goal) -> bool
+        requires { HoldsGoal cx.now.nodes goal }
+        ensures { result ≡ marks self.now.id.number (tree_at cx.now.nodes goal.predicate.node) }
+    {
+        match goal.predicate.kind(cx).value {
+            PredicateKind::Clause(ClauseKind::Trait(of)) => of.def_id.number == self.id.number,
+            _ => false,
+        }
+    }
+}
+
+impl GoalHandler for Marker {
+    ghost use Rattle.nts_marker.specs.Marking.{marking};
+    ghost use Rattle.nts_marker.specs.MarkerLaws.{IsLawfulHandler-marking, RulesAreOffered-marking, MeansSame-itself};
+
+    ghost ready = { λ ts s. Unit {0} };
+
+    ghost handler = { λ ts s. marking s.id.number };
+
+    fn candidates(
+        &self,
+        cx: &mut Cx,
+        mode: &TypingMode,
+        goal: Goal,
+    ) -> Result<Vec<CandidateData>, Fault> {
+        let _ = mode;
+        let mut found = Vec::new(cx.alloc);
+        if self.marks(cx, goal) {
+            found.push(bare(cx.alloc))?;
+        }
+        Ok(found)
+    }
+
+    fn trait_is_coinductive(&self, id: TraitId) -> bool {
+        let _ = id;
+        false
+    }
+
+    ghost lawful = { λ ts s f r. IsLawfulHandler-marking s.id.number };
+
+    ghost offered = { λ ts s f r. RulesAreOffered-marking s.id.number };
+
+    ghost handler_kept = { λ a b s r e. MeansSame-itself (marking s.id.number) };
+
+    ghost ready_kept = { λ a b s h e. tt };
+}
