@@ -425,6 +425,11 @@ fn bound_goals(rt: HostRuntime) {
                 b"trait T(type, type)\nimpl T(?X, ?X)\ngoal for<P> T(P, P)\ngoal for<P> T(?x, P)\ngoal for<P, Q> T(P, Q)\n",
                 b"yes\nno\nno\n",
             ),
+            // The same in the other modes.
+            done(
+                b"trait T(type, type)\nimpl T(?X, ?X)\nmode coherence\ngoal for<P> T(P, P)\ngoal for<P> T(?x, P)\nmode postanalysis\ngoal for<P> T(P, P)\ngoal for<P> T(?x, P)\n",
+                b"yes\nno\nyes\nno\n",
+            ),
             // A variable of the goal may be what a bound name does not stand in, and each order of the list does.
             done(
                 b"trait T(type, type)\nimpl T(?X, ?X)\ngoal for<P> T(?x, u8)\ngoal for<Q, P> T(P, P)\ngoal for<P, Q> T(Q, P)\n",

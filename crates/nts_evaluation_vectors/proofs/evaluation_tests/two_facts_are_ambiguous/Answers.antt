@@ -1,6 +1,6 @@
 use Rattle.nts_store.proofs.Growing.{Extends-trans}
 use Rattle.nts_delegate.specs.ClausesKept.{AreClausesReady-kept}
-use Rattle.nts_vectors.proofs.evaluation_tests.two_facts_are_ambiguous.Goals as goal
+use Rattle.nts_evaluation_vectors.proofs.evaluation_tests.two_facts_are_ambiguous.Goals as goal
 
 pub evaluated-requires-clause-ready : goal.evaluated-requires-clause-ready
 evaluated-requires-clause-ready g c =

@@ -1,7 +1,7 @@
 use Rattle.nts_store.proofs.Growing.{Extends-trans}
 use Rattle.nts_table.specs.TableLaws.{IsTable-extended}
 use Rattle.nts_delegate.specs.ClausesKept.{AreClausesReady-kept}
-use Rattle.nts_vectors.proofs.evaluation_tests.two_variables_become_one.Goals as goal
+use Rattle.nts_evaluation_vectors.proofs.evaluation_tests.two_variables_become_one.Goals as goal
 
 pub evaluated-requires-2-clause-table : goal.evaluated-requires-2-clause-table
 evaluated-requires-2-clause-table g c = IsTable-extended c.in_ok-goal-2.ensures.grows.extends c.in_ok-first.ensures.table

@@ -1,0 +1,127 @@
+//! Texts that are cut, and reads and writes that fail in turn.
+use nts_program::{Status, run};
+use std::io::{self, ErrorKind, Read, Write};
+use std::process::Abort;
+
+const TEXT: &[u8] = b"trait Clone(type)\ntype Vec(type)\nimpl Clone(u32)\nimpl Clone(Vec(?T)) <- Clone(?T)\ngoal Clone(Vec(u32))\ngoal Clone(u8)\ntrait Only(type)\nimpl Only(u32)\ngoal Only(?x)\n";
+const ANSWERS: &[u8] = b"yes\nno\nyes\n  ?x = u32\n";
+
+/// A reader that gives a few bytes a call, and fails at one call.
+#[derive(Drop)]
+struct FailingRead<'a> {
+    rest: &'a [u8],
+    calls: usize,
+    fails_at: usize,
+}
+
+impl Read for FailingRead<'_> {
+    fn read(&mut self, buf: &mut [u8]) -> io::Result<usize> {
+        self.calls = self.calls.saturating_add(1);
+        if self.calls == self.fails_at {
+            return Err(io::Error::from(ErrorKind::ConnectionReset));
+        }
+        let room = buf.len().min(7);
+        self.rest.read(&mut buf[..room])
+    }
+}
+
+/// A writer that takes one byte a call, and fails at one call of a write or of letting out.
+#[derive(Drop)]
+struct FailingWrite {
+    taken: Vec<u8>,
+    calls: usize,
+    fails_at: usize,
+}
+
+impl FailingWrite {
+    fn fails(&mut self) -> bool {
+        self.calls = self.calls.saturating_add(1);
+        self.calls == self.fails_at
+    }
+}
+
+impl Write for FailingWrite {
+    fn write(&mut self, buf: &[u8]) -> io::Result<usize> {
+        if self.fails() {
+            return Err(io::Error::from(ErrorKind::ConnectionReset));
+        }
+        let count = buf.len().min(1);
+        self.taken.extend_from_slice(&buf[..count])?;
+        Ok(count)
+    }
+
+    fn flush(&mut self) -> io::Result<()> {
+        if self.fails() {
+            return Err(io::Error::from(ErrorKind::ConnectionReset));
+        }
+        Ok(())
+    }
+}
+
+/// Each failed read ends the run, with the answers so far; until there are no more reads.
+#[test]
+fn reads_that_fail(rt: HostRuntime) {
+    let mut failed = 0;
+    for fails_at in 1..100 {
+        let input = FailingRead {
+            rest: TEXT,
+            calls: 0,
+            fails_at,
+        };
+        let mut output = Vec::new(rt.alloc());
+        let status = run(rt.alloc(), input, &mut output);
+        assert!(rt; ANSWERS.starts_with(&output));
+        if status == Status::Done {
+            assert!(rt; output.as_slice() == ANSWERS);
+        } else {
+            assert_eq!(rt; status, Status::Failed);
+            failed = fails_at;
+        }
+    }
+    assert!(rt; failed > 10 && failed < 99);
+}
+
+/// Each failed write, and each answer that can't be let out, ends the run, and what was written is a beginning.
+#[test]
+fn writes_that_fail(rt: HostRuntime) {
+    let mut failed = 0;
+    for fails_at in 1..100 {
+        let mut output = FailingWrite {
+            taken: Vec::new(rt.alloc()),
+            calls: 0,
+            fails_at,
+        };
+        let status = run(rt.alloc(), TEXT, &mut output);
+        assert!(rt; ANSWERS.starts_with(&output.taken));
+        if status == Status::Done {
+            assert!(rt; output.taken.as_slice() == ANSWERS);
+        } else {
+            assert_eq!(rt; status, Status::Failed);
+            failed = fails_at;
+        }
+    }
+    assert!(rt; failed > 10 && failed < 99);
+}
+
+/// A text that is cut after each of its bytes: it is refused in one line or says nothing, and from its last bracket on it is
+/// answered.
+#[test]
+fn cut_texts(rt: HostRuntime) {
+    let text = b"trait Clone(type)\ntype Vec(type)\nimpl Clone(u32)\nimpl Clone(Vec(?T)) <- Clone(?T)\ngoal Clone(Vec(u32))\n";
+    let whole = text.len() - 1;
+    for end in 0..text.len() {
+        let mut output = Vec::new(rt.alloc());
+        let status = run(rt.alloc(), &text[..end], &mut output);
+        if end >= whole {
+            assert_eq!(rt; status, Status::Done);
+            assert!(rt; output.as_slice() == b"yes\n".as_slice());
+        } else if status == Status::Done {
+            assert!(rt; output.is_empty());
+        } else {
+            assert_eq!(rt; status, Status::Refused);
+            assert!(rt; output.starts_with(b"line "));
+            let lines = output.iter().filter(|byte| **byte == b'\n').count();
+            assert_eq!(rt; lines, 1);
+        }
+    }
+}

@@ -1,0 +1,7 @@
+//! Tests of the evaluation, through the names that users of the library see.
+#![tactic(auto)]
+
+#[cfg(test)]
+mod evaluation_tests;
+#[cfg(test)]
+mod may_hold_tests;
