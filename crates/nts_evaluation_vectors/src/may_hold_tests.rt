@@ -5,10 +5,12 @@ ghost use Rattle.nts_terms.specs.Handles.{HoldsGoal};
 ghost use Rattle.nts_terms.specs.Rest.{Grows};
 
 use crate::evaluation_tests::{fact, goal_about, goal_between, rule_of_one, uint};
+use nts_certainty::{Certainty, MaybeCause, MaybeInfo, OpaqueTypesJank};
 use nts_delegate::{Clauses, GoalHandler};
 use nts_evaluation::{
     goal_is_admitted, root_goal_may_hold_opaque_types_jank, root_goal_may_hold_with_depth,
 };
+use nts_marker::Marker;
 use nts_model::{Sort, UintTy};
 use nts_table::InferCtxt;
 use nts_terms::{BoundTy, Cx, Goal, PlaceholderType, TyKind, TypingMode};
@@ -87,6 +89,28 @@ fn what_is_in_doubt_may_hold(rt: HostRuntime) -> Result<(), Fail> {
     let found = may_hold(&mut table, &mut cx, &handler, goal, 0)?;
     assert!(rt; found == (true, true));
     assert!(rt; table.variable_count() == 1);
+    Ok(())
+}
+
+/// A candidate that is in doubt for an opaque type is no refusal, but the second call takes it for one.
+#[test]
+#[tactic(auto, using(nts_asking::proofs::Asking::asking))]
+fn what_may_be_an_error_for_an_opaque_type(rt: HostRuntime) -> Result<(), Fail> {
+    let mut cx = Cx::new(rt.alloc());
+    let mut table = InferCtxt::new(rt.alloc(), TypingMode::PostAnalysis);
+    let judged = cx.declare_trait(&[Sort::Ty])?;
+    let byte = uint(&mut cx, UintTy::U8)?;
+    let info = MaybeInfo {
+        cause: MaybeCause::Ambiguity,
+        opaque_types_jank: OpaqueTypesJank::ErrorIfRigidSelfTy,
+    };
+    let handler = Marker {
+        id: judged,
+        certainty: Certainty::Maybe(info),
+    };
+    let goal = goal_about(&mut cx, judged, byte.into())?;
+    let found = may_hold(&mut table, &mut cx, &handler, goal, 128)?;
+    assert!(rt; found == (true, false));
     Ok(())
 }
 

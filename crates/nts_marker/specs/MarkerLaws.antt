@@ -1,4 +1,4 @@
--- The trait that holds of everything keeps the laws of a handler.
+-- The trait that holds of everything, or may, keeps the laws of a handler.
 use Rattle.std.proofs.Common.{◌≡◌, ℕ, Bool, true, false, List, [], ◌∷◌, map, refl, inl, inr, sym, ap, subst, ◌∙◌}
 use Rattle.std.specs.Prelude.{if◌then◌else◌}
 use Rattle.nts_model.specs.declared.labels.ClauseHead.TheVariants as clause
@@ -11,7 +11,7 @@ use Rattle.nts_model.specs.Terms.Substitutions.{leaf_tree, replace, Instance, in
 use Rattle.nts_model.specs.Derivations.Related.{unbound}
 use Rattle.nts_model.specs.Lists.{Among}
 use Rattle.nts_model.specs.Derivations.Rules.{Mode, coherence, Application, IsHandlers}
-use Rattle.nts_model.specs.Derivations.Handlers.{Handler, Candidate, equation_by, constraint_by, hidden_by, premise_by, use_of, IsInstanceFor, application_under, renamed_candidate, IsAsked, IsCandidateFor, CandidatesCommute, InstancesAreRules, RulesHaveSources, CandidatesKeep, IsLawfulHandler}
+use Rattle.nts_model.specs.Derivations.Handlers.{Handler, Candidate, Certainty, certain, equation_by, constraint_by, hidden_by, premise_by, use_of, IsInstanceFor, application_under, renamed_candidate, IsAsked, IsCandidateFor, CandidatesCommute, InstancesAreRules, RulesHaveSources, CandidatesKeep, IsLawfulHandler}
 use Rattle.nts_model.specs.Refutation.Coherence.{Covers, RulesAreOffered}
 use Rattle.nts_delegate.specs.SameHandlers.{MeansSame}
 use Rattle.nts_marker.specs.Marking.{is_of, marks, fact, IsMarked, marking}
@@ -38,31 +38,32 @@ marks_kept i f (node (label.List list.Binder) (more v (more s empty))) e = is_of
 marks_kept i f g e = cc
 
 -- what is offered is the fact, for a goal of the trait
-pub record IsOffered (b : Bool) (c : Candidate) : Type 0 where
+pub record IsOffered (z : Certainty) (b : Bool) (c : Candidate) : Type 0 where
   pub marked : b ≡ true
-  pub is : c ≡ fact
+  pub is : c ≡ fact z
 
-offered_is : (b : Bool) (c : Candidate) → Among (if b then fact ∷ [] else []) c → IsOffered b c
-offered_is true c (inl e) = record { marked = refl; is = e }
-offered_is true c (inr h) = absurd h
-offered_is false c h = absurd h
+offered_is : (z : Certainty) (b : Bool) (c : Candidate) → Among (if b then fact z ∷ [] else []) c → IsOffered z b c
+offered_is z true c (inl e) = record { marked = refl; is = e }
+offered_is z true c (inr h) = absurd h
+offered_is z false c h = absurd h
 
-renamed_offers : (ρ : Renaming) (b : Bool) → (if b then fact ∷ [] else []) ≡ map (renamed_candidate ρ) (if b then fact ∷ [] else [])
-renamed_offers ρ true = refl
-renamed_offers ρ false = refl
+renamed_offers : (z : Certainty) (ρ : Renaming) (b : Bool) → (if b then fact z ∷ [] else []) ≡ map (renamed_candidate ρ) (if b then fact z ∷ [] else [])
+renamed_offers z ρ true = refl
+renamed_offers z ρ false = refl
 
-commute : (i : ℕ) → CandidatesCommute (marking i)
-commute i =
+commute : (i : ℕ) (z : Certainty) → CandidatesCommute (marking i z)
+commute i z =
     record {
       renaming = λ mode e g ρ plain asked.
-          ap (λ b. if b then fact ∷ [] else []) (marks_asked i e g (λ l. leaf_tree (ρ.to l)) asked) ∙ renamed_offers ρ (marks i g);
+        ap (λ b. if b then fact z ∷ [] else []) (marks_asked i e g (λ l. leaf_tree (ρ.to l)) asked) ∙ renamed_offers z ρ (marks i g);
     }
 
 -- the use of the fact
-marked_use : (i : ℕ) (e g : Tree) (c : Candidate) (ι : Instance) (a : Application) → IsAsked e g → IsOffered (marks i g) c → IsInstanceFor c e g ι a → IsMarked i a
-marked_use i e g c ι a asked o is =
-    let same : a ≡ use_of fact e g ι a.values = is.same ∙ ap (λ d. use_of d e g ι a.values) o.is in
+marked_use : (i : ℕ) (z : Certainty) (e g : Tree) (c : Candidate) (ι : Instance) (a : Application) → IsAsked e g → IsOffered z (marks i g) c → c.certainty ≡ certain → IsInstanceFor c e g ι a → IsMarked i z a
+marked_use i z e g c ι a asked o sure is =
+    let same : a ≡ use_of (fact z) e g ι a.values = is.same ∙ ap (λ d. use_of d e g ι a.values) o.is in
     record {
+      sure = ap (λ d. d.certainty) (sym o.is) ∙ sure;
       conclusion = ap (λ x. marks i x.conclusion) same ∙ marks_asked i e g ι.value asked ∙ o.marked;
       equations = ap (λ x. x.equations) same;
       goals = ap (λ x. x.goals) same;
@@ -70,53 +71,54 @@ marked_use i e g c ι a asked o is =
       hidden = ap (λ x. x.hidden) same;
     }
 
-rules : (i : ℕ) → InstancesAreRules (marking i)
-rules i =
+rules : (i : ℕ) (z : Certainty) → InstancesAreRules (marking i z)
+rules i z =
     record {
-      instances = λ mode e g c ι a asked among sure is. marked_use i e g c ι a asked (offered_is (marks i g) c among) is;
+      instances = λ mode e g c ι a asked among sure is. marked_use i z e g c ι a asked (offered_is z (marks i g) c among) sure is;
       closed = λ mode a ι m.
-          record {
-            conclusion = marks_kept i ι.value a.conclusion m.conclusion;
-            equations = ap (map (equation_by (instance_of ι))) m.equations;
-            goals = ap (map (premise_by (instance_of ι))) m.goals;
-            constraints = ap (map (constraint_by (instance_of ι))) m.constraints;
-            hidden = ap (map (hidden_by (instance_of ι))) m.hidden;
-          };
+        record {
+          sure = m.sure;
+          conclusion = marks_kept i ι.value a.conclusion m.conclusion;
+          equations = ap (map (equation_by (instance_of ι))) m.equations;
+          goals = ap (map (premise_by (instance_of ι))) m.goals;
+          constraints = ap (map (constraint_by (instance_of ι))) m.constraints;
+          hidden = ap (map (hidden_by (instance_of ι))) m.hidden;
+        };
     }
 
-sources : (i : ℕ) → RulesHaveSources (marking i)
-sources i = record { each = λ mode a q m among. let none : Among [] q = rw m.goals at among in absurd none }
+sources : (i : ℕ) (z : Certainty) → RulesHaveSources (marking i z)
+sources i z = record { each = λ mode a q m among. let none : Among [] q = rw m.goals at among in absurd none }
 
-fact_keeps : (e g : Tree) → IsCandidateFor e g fact
-fact_keeps e g = record { equations = λ q x. absurd x; constraints = λ q x. absurd x; constrains = λ q x. absurd x; goals = λ q x. absurd x; no_hidden = refl; no_access = refl }
+fact_keeps : (z : Certainty) (e g : Tree) → IsCandidateFor e g (fact z)
+fact_keeps z e g = record { equations = λ q x. absurd x; constraints = λ q x. absurd x; constrains = λ q x. absurd x; goals = λ q x. absurd x; no_hidden = refl; no_access = refl }
 
-keep : (i : ℕ) → CandidatesKeep (marking i)
-keep i =
-    record { each = λ mode e g c asked among. subst (IsCandidateFor e g) (sym ((offered_is (marks i g) c among).is)) (fact_keeps e g) }
+keep : (i : ℕ) (z : Certainty) → CandidatesKeep (marking i z)
+keep i z =
+    record { each = λ mode e g c asked among. subst (IsCandidateFor e g) (sym ((offered_is z (marks i g) c among).is)) (fact_keeps z e g) }
 
-pub IsLawfulHandler-marking : (i : ℕ) → IsLawfulHandler (marking i)
-IsLawfulHandler-marking i = record { commute = commute i; rules = rules i; sources = sources i; keep = keep i }
+pub IsLawfulHandler-marking : (i : ℕ) (z : Certainty) → IsLawfulHandler (marking i z)
+IsLawfulHandler-marking i z = record { commute = commute i z; rules = rules i z; sources = sources i z; keep = keep i z }
 
 -- each rule for an instance of a goal is the fact's
-fact_offered : (b : Bool) → b ≡ true → Among (if b then fact ∷ [] else []) fact
-fact_offered true e = inl refl
-fact_offered false e = absurd (let z : ⊥ = cc in z)
+fact_offered : (z : Certainty) (b : Bool) → b ≡ true → Among (if b then fact z ∷ [] else []) (fact z)
+fact_offered z true e = inl refl
+fact_offered z false e = absurd (let n : ⊥ = cc in n)
 
-pub RulesAreOffered-marking : (i : ℕ) → RulesAreOffered (marking i)
-RulesAreOffered-marking i =
+pub RulesAreOffered-marking : (i : ℕ) (z : Certainty) → RulesAreOffered (marking i z)
+RulesAreOffered-marking i z =
     record {
       covered = λ e g ι a asked m env con.
-          let marked : marks i g ≡ true = sym (marks_asked i e g ι.value asked) ∙ ap (marks i) (sym con) ∙ m.conclusion in
-          record {
-            candidate = fact;
-            offered = fact_offered (marks i g) marked;
-            chosen = [];
-            values = tt;
-            of_rule = λ v x. absurd x;
-            equations = λ q x. absurd x;
-            constraints = λ q x. absurd x;
-            goals = λ q x. absurd x;
-          };
+        let marked : marks i g ≡ true = sym (marks_asked i e g ι.value asked) ∙ ap (marks i) (sym con) ∙ m.conclusion in
+        record {
+          candidate = fact z;
+          offered = fact_offered z (marks i g) marked;
+          chosen = [];
+          values = tt;
+          of_rule = λ v x. absurd x;
+          equations = λ q x. absurd x;
+          constraints = λ q x. absurd x;
+          goals = λ q x. absurd x;
+        };
     }
 
 -- it means the same in each store

@@ -3,7 +3,7 @@ ghost use Rattle.std.specs.Prelude.{◌≡◌, ℕ, ◌∷◌, [], false, List};
 ghost use Rattle.nts_model.specs.Terms.Trees.{Tree};
 ghost use Rattle.nts_store.specs.Growth.{tree_at};
 ghost use Rattle.nts_terms.specs.Handles.{HoldsGoal};
-ghost use Rattle.nts_delegate.specs.Offered.{candidate_of};
+ghost use Rattle.nts_delegate.specs.Offered.{candidate_of, certainty_of};
 ghost use Rattle.nts_marker.specs.Marking.{marks, fact};
 
 use nts_certainty::{Certainty, RerunCondition};
@@ -12,15 +12,16 @@ use nts_store::Fault;
 use nts_terms::{ClauseKind, Cx, Goal, PredicateKind, TraitId, TypingMode};
 use std::alloc::Global;
 
-/// Offers, for each goal of one trait, a candidate that asks for nothing. It has no rules for other traits.
-#[derive(Clone, Copy, Drop)]
+/// Offers, for each goal of one trait, a candidate that asks for nothing, and is so sure. It has no rules for other traits.
+#[derive(Clone, Copy)]
 pub struct Marker {
     pub id: TraitId,
+    pub certainty: Certainty,
 }
 
-/// A candidate that holds as it stands.
-fn bare(alloc: Global) -> CandidateData
-    ensures tree { (ts : List Tree) → candidate_of ts result ≡ fact }
+/// A candidate that asks for nothing.
+fn bare(alloc: Global, certainty: Certainty) -> CandidateData
+    ensures tree { (ts : List Tree) → candidate_of ts result ≡ fact (certainty_of certainty) }
     ensures hidden { result.hidden_types.items ≡ [] }
     ensures equations { result.equations.items ≡ [] }
     ensures constraints { result.region_constraints.items ≡ [] }
@@ -33,7 +34,7 @@ fn bare(alloc: Global) -> CandidateData
         region_constraints: Vec::new(alloc),
         hidden_types: Vec::new(alloc),
         goals: Vec::new(alloc),
-        certainty: Certainty::Yes,
+        certainty,
         accesses: RerunCondition::Never,
     }
 }
@@ -52,12 +53,13 @@ impl Marker {
 }
 
 impl GoalHandler for Marker {
+    ghost use Rattle.nts_delegate.specs.Offered.{certainty_of};
     ghost use Rattle.nts_marker.specs.Marking.{marking};
     ghost use Rattle.nts_marker.specs.MarkerLaws.{IsLawfulHandler-marking, RulesAreOffered-marking, MeansSame-itself};
 
     ghost ready = { λ ts s. Unit {0} };
 
-    ghost handler = { λ ts s. marking s.id.number };
+    ghost handler = { λ ts s. marking s.id.number (certainty_of s.certainty) };
 
     fn candidates(
         &self,
@@ -68,7 +70,7 @@ impl GoalHandler for Marker {
         let _ = mode;
         let mut found = Vec::new(cx.alloc);
         if self.marks(cx, goal) {
-            found.push(bare(cx.alloc))?;
+            found.push(bare(cx.alloc, self.certainty))?;
         }
         Ok(found)
     }
@@ -78,11 +80,11 @@ impl GoalHandler for Marker {
         false
     }
 
-    ghost lawful = { λ ts s f r. IsLawfulHandler-marking s.id.number };
+    ghost lawful = { λ ts s f r. IsLawfulHandler-marking s.id.number (certainty_of s.certainty) };
 
-    ghost offered = { λ ts s f r. RulesAreOffered-marking s.id.number };
+    ghost offered = { λ ts s f r. RulesAreOffered-marking s.id.number (certainty_of s.certainty) };
 
-    ghost handler_kept = { λ a b s r e. MeansSame-itself (marking s.id.number) };
+    ghost handler_kept = { λ a b s r e. MeansSame-itself (marking s.id.number (certainty_of s.certainty)) };
 
     ghost ready_kept = { λ a b s h e. tt };
 }

@@ -31,7 +31,10 @@ pub fn clone_of_sized(alloc: Global) -> Result<Option<Certainty>, EvalError> {
         predicate,
     };
     let handler = Both {
-        first: Marker { id: sized },
+        first: Marker {
+            id: sized,
+            certainty: Certainty::Yes,
+        },
         second: rules,
     };
     ask(&mut cx, &handler, goal)
