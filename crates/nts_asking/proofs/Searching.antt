@@ -1,5 +1,5 @@
 -- The stack of a search while goals are evaluated: what stays, and what it assumes.
-use Rattle.std.proofs.Common.{◌≡◌, ℕ, ◌≤◌, List, [], ◌∷◌, ◌++◌, map, length, get_or, Option, Some, None, refl, sym, ap, ◌∙◌, subst, arith, ◌⊎◌, inl, inr, suc, true, IsTrue}
+use Rattle.std.proofs.Common.{◌≡◌, ℕ, ◌<◌, ◌≤◌, List, [], ◌∷◌, ◌++◌, map, length, get_or, Option, Some, None, refl, sym, ap, ◌∙◌, subst, arith, ◌⊎◌, inl, inr, suc, true, IsTrue}
 use Rattle.std.specs.Prelude.{All, reverse, Bool, max, ◌-◌, ◌⊎◌}
 use Rattle.std.proofs.lemmas.List.{reverse-append}
 use Rattle.std.proofs.lemmas.List.Elements.{All-cons, All-head, All-tail}
@@ -39,7 +39,8 @@ use Rattle.nts_asking.specs.Telling.{QueryTells}
 use Rattle.nts_delegate.specs.Offered.{path_kind_of}
 use Rattle.nts_search.specs.declared.stack.StackEntry.{StackEntry}
 use Rattle.nts_search.specs.declared.stack.SearchGraph.{SearchGraph}
-use Rattle.nts_search.specs.Searching.{entry_at, entries_at, answer_at, certainty_in, IsStack}
+use Rattle.nts_canonical.specs.Alike.{AreOneInput}
+use Rattle.nts_search.specs.Searching.{entry_at, entries_at, answer_at, certainty_in, IsStack, HasNoInput, IsInputAt}
 use Rattle.nts_search.proofs.StackLater.{IsStack-later, entries_kept, response_same}
 use Rattle.nts_terms.specs.Modes.{mode_of}
 use Rattle.nts_asking.specs.Searching.{IsHeadAnswer, IsHead, IsSearch, IsEntryLater, AreLater, Searches, assumed_in, IsAnswerTold, HeadsTell, IsCut, IsGoalCut}
@@ -306,6 +307,24 @@ search_counted {a} {g} n m s l =
       depth = refl;
       later = later_itself g.stack.items;
     }
+
+-- a round that was noted is counted from then on
+pub round_counted : {a b : Cx} {h : SearchGraph} (g i : SearchGraph) (m : ℕ) → i ≡ record g { most_rounds = max g.most_rounds m } → 0 < m → Searches a b i h → 0 < h.most_rounds
+round_counted {a} {b} {h} g i m e some x =
+    let noted : i.most_rounds ≡ max g.most_rounds m = ap (λ (z : SearchGraph). z.most_rounds) e in
+    let more = x.more_rounds in
+    omega (arith, noted, some, more)
+
+-- an input that stands on the stack is one of its entries'
+stands_in : (ts : List Tree) (i : CanonicalInput) (xs : List StackEntry) (n : ℕ) → All (λ x. AreOneInput ts x.input i → ⊥) xs → n < length xs → ((d : StackEntry) → AreOneInput ts (get_or xs n d).input i) → ⊥
+stands_in ts i [] n none l same = omega (arith, l)
+stands_in ts i (x ∷ xs) n none l same = none n x l (same x)
+
+pub input_stands : (ts : List Tree) (g : SearchGraph) (i : CanonicalInput) (n : ℕ) → HasNoInput ts g i → IsInputAt ts g i n → ⊥
+input_stands ts g i n none at = stands_in ts i g.stack.items n none at.below at.same
+
+pub nothing_stands : (ts : List Tree) (g : SearchGraph) (i : CanonicalInput) → g.stack.items ≡ [] → HasNoInput ts g i
+nothing_stands ts g i e = rw e (λ n d l. absurd (omega (arith, l)))
 
 -- its mark has no part in its stack
 stack_unmarked : (ts : List Tree) (g : SearchGraph) (z : Bool) → IsStack ts g → IsStack ts (record g { has_overflowed = z })

@@ -1,5 +1,5 @@
 -- A call that fails, and does not say that there is no solution, promises no more than how the search went on.
-use Rattle.std.proofs.Common.{◌≡◌, ◌≢◌, List, Result, Ok, Err, true, false}
+use Rattle.std.proofs.Common.{◌≡◌, ◌≢◌, List, Result, Ok, Err, true, false, refl}
 use Rattle.std.specs.Global.{Box}
 use Rattle.std.specs.Result.{is_err}
 use Rattle.std.proofs.lemmas.Result.{IfOk-from_err}
@@ -19,11 +19,18 @@ use Rattle.nts_delegate.specs.declared.delegate.CandidateData.{CandidateData}
 use Rattle.nts_search.specs.declared.stack.SearchGraph.{SearchGraph}
 use Rattle.nts_asking.specs.Searching.{Searches}
 use Rattle.nts_model.specs.Derivations.Handlers.{Handler}
-use Rattle.nts_evaluation.specs.Promises.{AnswersQuery, AnswersGoal, AnswersBy}
+use Rattle.nts_evaluation.specs.Promises.{IsAnswered, AnswersQuery, AnswersGoal, AnswersBy}
 use Rattle.nts_asking.specs.Meant.{Rules}
 
+-- an error that is not that there is no solution is no answer
+never_answered : (r : Result (Box (Canonical Response)) EvalError) → is_err r ≡ true → r ≢ Err error.NoSolution → IsAnswered r → ⊥
+never_answered (Ok b) fails other h = cc fails
+never_answered (Err error.NoSolution) fails other h = other refl
+never_answered (Err error.Memory) fails other h = h
+never_answered (Err error.Full) fails other h = h
+
 pub query_failed : {R : Rules} {a b : Cx} {g h : SearchGraph} {input : CanonicalInput} {step : PathKind} (r : Result (Box (Canonical Response)) EvalError) → is_err r ≡ true → r ≢ Err error.NoSolution → Grows a b → Searches a b g h → AnswersQuery R a b g h input step r
-query_failed r fails other grows searches = record { grows = grows; searches = searches; fits = IfOk-from_err r _ fails; proved = λ s. IfOk-from_err r _ fails; told = λ s tells. IfOk-from_err r _ fails; refuted = λ s tells n. absurd (other n) }
+query_failed r fails other grows searches = record { grows = grows; searches = searches; counted = λ none limit answered. absurd (never_answered r fails other answered); fits = IfOk-from_err r _ fails; proved = λ s. IfOk-from_err r _ fails; told = λ s tells. IfOk-from_err r _ fails; refuted = λ s tells n. absurd (other n) }
 
 pub goal_failed : {R : Rules} {a b : Cx} {g h : SearchGraph} {t : Table} {goal : Goal} {values : List GenericArg} (r : Result (Box (Canonical Response)) EvalError) → is_err r ≡ true → r ≢ Err error.NoSolution → Grows a b → Searches a b g h → AnswersGoal R a b g h t goal values r
 goal_failed r fails other grows searches = record { grows = grows; searches = searches; found = IfOk-from_err r _ fails; told = λ s tells. IfOk-from_err r _ fails; refuted = λ s tells n. absurd (other n) }

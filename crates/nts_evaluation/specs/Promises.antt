@@ -1,6 +1,6 @@
 -- What the calls of an evaluation promise: one record for each family of calls.
 use Rattle.std.specs.Global.{Box}
-use Rattle.std.specs.Prelude.{◌≡◌, ◌⊎◌, ℕ, ◌≤◌, List, Result, Err, ◌≢◌, [], ◌∷◌, Ok, IfOk, IfSome, OnOk, OnErr, IsTrue}
+use Rattle.std.specs.Prelude.{◌≡◌, ◌⊎◌, ℕ, ◌<◌, ◌≤◌, List, Result, Err, ◌≢◌, [], ◌∷◌, Ok, IfOk, IfSome, OnOk, OnErr, IsTrue}
 use Rattle.nts_model.specs.Terms.Trees.{Tree}
 use Rattle.nts_model.specs.Derivations.Handlers.{Handler}
 use Rattle.nts_model.specs.Derivations.Proofs.{Assumed, passed}
@@ -32,7 +32,7 @@ use Rattle.nts_table.specs.Tables.{Table}
 use Rattle.nts_delegate.specs.declared.delegate.CandidateData.{CandidateData}
 use Rattle.nts_search.specs.declared.kinds.CurrentGoalKind.{CurrentGoalKind}
 use Rattle.nts_search.specs.Kinds.{goal_kind_of}
-use Rattle.nts_search.specs.Searching.{entry_at, entries_at}
+use Rattle.nts_search.specs.Searching.{entry_at, entries_at, HasNoInput}
 use Rattle.nts_asking.specs.declared.response.Evaluated.{Evaluated}
 use Rattle.nts_trying.specs.declared.steps.Step.{Step}
 use Rattle.nts_asking.specs.declared.round.Round.{Round}
@@ -57,10 +57,18 @@ WhereTold R a g P = (s : Since R.ready a) → HeadsTell (R.handler s.base) a.nod
 abbrev pub assumed_behind : PathKind → Cx → SearchGraph → List Assumed
 assumed_behind k b h = passed (path_kind_of k) (assumed_in b.nodes h)
 
+-- a query's answer: a response, or that there is no solution
+abbrev pub IsAnswered : Result (Box (Canonical Response)) EvalError → Type 0
+IsAnswered (Ok b) = Unit {0}
+IsAnswered (Err error.NoSolution) = Unit {0}
+IsAnswered (Err e) = ⊥
+
 -- a query of that input is answered, which a step of that kind asks
 pub record AnswersQuery (R : Rules) (a b : Cx) (g h : SearchGraph) (input : CanonicalInput) (step : PathKind) (r : Result (Box (Canonical Response)) EvalError) : Type 0 where
   pub grows : Grows a b
   pub searches : Searches a b g h
+  -- a round was counted, where the input did not stand on the stack
+  pub counted : HasNoInput a.nodes g input → 0 < a.round_limit → IsAnswered r → 0 < h.most_rounds
   -- the answer can be applied wherever such an input is asked
   pub fits : IfAnswered r (IsAnswerTo b.nodes (kinds_of input))
   -- a certain one is derived from what is assumed
@@ -146,6 +154,7 @@ pub record StepsGoals (R : Rules) (a b : Cx) (g h : SearchGraph) (t u : Table) (
   pub runs : Runs a b t u
   pub searches : Searches a b g h
   pub steps : n ≤ a.step_limit
+  pub counted : 0 < a.step_limit → 0 < n
   pub posed : ArePosed b.nodes u gone
   pub left : AreLeft given gone
   pub labels : OnOk r (BringsOnlyOf (terms_of a.nodes given) a t b u)

@@ -1,5 +1,5 @@
 //! A canonical goal, asked at the root of a search.
-ghost use Rattle.std.specs.Prelude.{◌≡◌, ◌+◌, IfOk, IfSome, IsNone};
+ghost use Rattle.std.specs.Prelude.{◌≡◌, ◌<◌, ◌+◌, IfOk, IfSome, IsNone};
 ghost use Rattle.nts_model.specs.Derivations.Handlers.{meaning};
 ghost use Rattle.nts_certainty.specs.declared.certainty.Certainty.TheVariants as certainty;
 ghost use Rattle.nts_terms.specs.Modes.{mode_of};
@@ -37,6 +37,7 @@ pub fn evaluate_input<H: GoalHandler>(
     requires input { IsQueryInput cx.old.nodes input }
     requires ready { H.ready cx.old.nodes handler.now }
     ensures searches { Searches cx.old cx.new graph.old graph.new }
+    ensures counted { IfOk result (λ _. 0 < cx.old.round_limit → 0 < graph.new.most_rounds) }
     ensures grows { Grows cx.old cx.new }
     ensures fits { IfOk result (λ o. IfSome o (IsAnswerTo cx.new.nodes (kinds_of input))) }
     ensures proved { (let h = H.handler cx.old.nodes handler.now in IfOk result (λ o. IfSome o (λ r.

@@ -48,7 +48,7 @@ use Rattle.nts_search.specs.Kinds.{goal_kind_of}
 use Rattle.nts_search.specs.Searching.{entry_at, entries_at}
 use Rattle.nts_search.proofs.Stacked.{entries_pushed, entries_popped}
 use Rattle.nts_asking.specs.Searching.{HeadsTell, IsAnswerTold, IsHeadAnswer, assumed_in}
-use Rattle.nts_asking.proofs.Searching.{Searches-refl, Searches-trans, search_later, search_grown, search_grows, search_covers, covers_grown, stays_more, served_more, tell_grown, heads_tell_later, search_counted, search_marked, search_marked_again, head_answer_later, answer_told_later, form_later, input_later, later_long, goal_cut_earlier}
+use Rattle.nts_asking.proofs.Searching.{Searches-refl, Searches-trans, search_later, search_grown, search_grows, search_covers, covers_grown, stays_more, served_more, tell_grown, heads_tell_later, search_counted, search_marked, search_marked_again, input_stands, head_answer_later, answer_told_later, form_later, input_later, later_long, goal_cut_earlier}
 use Rattle.nts_search.specs.declared.stack.StackEntry.{StackEntry}
 use Rattle.nts_canonical.specs.declared.types.CanonicalInput.{CanonicalInput}
 use Rattle.nts_asking.specs.Answering.{IsAnswerTo, is_yes}
@@ -354,6 +354,10 @@ evaluate_rounds-returns g t c =
     record {
       grows = search rules;
       searches = let i = c.loop-round.invariant in search_grown (c.args.depth + 1) c.requires.search i.searches c.unchanged_answer.ensures.grows;
+      counted = λ none limit answered.
+          let i = c.loop-round.invariant in
+          let first = c.in_ok-asked.ensures.grows.rest.rounds in
+          i.counted (omega (arith, limit, first, c.loop-round-test.false, c.round_limit-round-end.ensures));
       fits = let i = c.loop-round.invariant in subst (λ (w : CanonicalInput). IsAnswerTo c.unchanged_answer.new.cx.nodes (kinds_of w) c.in_ok-answer.answer.value) i.input (rw c.deref-2.ensures at c.in_ok-answer.ensures.fits);
       proved = search rules;
       told = λ s tells. says_nothing (let i = c.loop-round.invariant in subst (λ (w : CanonicalInput). SaysNothing (kinds_of w) (response_at c.unchanged_answer.new.cx.nodes c.in_ok-answer.answer.value)) i.input (rw c.deref-2.ensures at c.in_ok-answer.ensures.nothing));
@@ -620,6 +624,7 @@ search-returns g t c =
     let e = c.evaluate_rounds-answer.ensures in
     record {
       grows = e.grows;
+      counted = e.counted;
       searches = search_marked_again false c.if-graph.graph e.searches (λ m. elim c.if-graph.branch [ search-then-graph w ↦ w.graph-is ∙ w.if-graph.true | search-else-graph w ↦ w.graph-is ∙ m ]);
       fits = e.fits;
       proved = e.proved;
@@ -635,6 +640,7 @@ search-returns-in-Some g t c =
     record {
       grows = search rules;
       searches = search rules;
+      counted = λ none limit answered. absurd (input_stands c.args.cx.now.nodes c.args.graph.now c.args.input.value c.in-Some.head none (rw c.deref.ensures at c.in-Some.ensures.found));
       fits = search rules;
       proved = λ s. ok_two c.answer_cycle.result (λ r fits usable sure. cycle_derived (meaning_since (λ ts. g.H.GoalHandler.handler ts c.args.handler.now) s) (mode_of c.args.input.value.typing_mode) (passed (path_kind_of c.args.step) (assumed_in c.answer_cycle.new.cx.nodes c.answer_cycle.new.graph)) c.args.cx.now.nodes c.answer_cycle.new.cx.nodes c.args.input.value r.value c.requires.input fits (usable sure)) (rw c.deref-in-Some.ensures at c.answer_cycle.ensures.fits) (rw c.deref-in-Some.ensures at c.answer_cycle.ensures.usable);
       told = λ s tells. IfOk-map c.answer_cycle.result (λ r x. cycle_told (g.H.GoalHandler.handler s.base c.args.handler.now) c.in-Some.head (c.args.depth + 1) c.args.input.value c.requires.search c.answer_cycle.ensures.grows (rw c.deref.ensures at c.in-Some.ensures.found) tells r.value x) (rw c.deref-in-Some.ensures at c.answer_cycle.ensures.some);
@@ -666,6 +672,7 @@ try_evaluate_goals-loop-step-init g t c = record {
   runs = Runs-refl c.requires.table;
   searches = Searches-refl (bound_of c.args.depth) c.requires.search (record { extends = Extends-refl _; rest = KeepsRest-refl _ });
   steps = omega arith;
+  counted = refl;
   posed = c.requires.posed;
   left = left_refl _;
   labels = only-refl _ _;
@@ -681,6 +688,7 @@ try_evaluate_goals-loop-step-preserved g t c =
       runs = Runs-trans i.runs e.runs;
       searches = Searches-trans i.searches e.searches;
       steps = omega (arith, c.loop-step-test.true, c.step_limit-step-end.ensures);
+      counted = refl;
       posed = e.posed;
       left = left_trans i.left (rw c.deref.ensures.value at e.left);
       labels = only-trans i.labels (only_left c.args.goals.now.items c.loop-step.goals.items i.runs.goes.extends c.requires.posed i.left (rw c.deref.ensures.value at e.labels));
@@ -701,6 +709,7 @@ try_evaluate_goals-returns g t c =
       runs = i.runs;
       searches = i.searches;
       steps = i.steps;
+      counted = λ limit. (let all = i.counted in omega (arith, limit, all, c.loop-step-test.false, c.step_limit-step-end.ensures));
       posed = i.posed;
       left = i.left;
       labels = i.labels;
@@ -718,6 +727,7 @@ try_evaluate_goals-returns-in_err-stepped g t c =
       runs = Runs-trans c.loop-step.invariant.runs c.evaluate_step.ensures.runs;
       searches = Searches-trans c.loop-step.invariant.searches c.evaluate_step.ensures.searches;
       steps = search rules;
+      counted = λ limit. omega arith;
       posed = posed_later c.loop-step.goals.items c.evaluate_step.ensures.runs.goes c.loop-step.invariant.posed;
       left = c.loop-step.invariant.left;
       labels = IfOk-from_err c.from_residual.result _ fails;
@@ -740,6 +750,7 @@ try_evaluate_goals-returns-then-not-stepped g t c =
       runs = Runs-trans c.loop-step.invariant.runs c.in_ok-stepped.ensures.runs;
       searches = Searches-trans c.loop-step.invariant.searches c.in_ok-stepped.ensures.searches;
       steps = search rules;
+      counted = λ limit. omega arith;
       posed = search rules;
       left = left_trans i.left (rw c.deref.ensures.value at c.in_ok-stepped.ensures.left);
       labels = only-trans i.labels (only_left c.args.goals.now.items c.loop-step.goals.items i.runs.goes.extends c.requires.posed i.left (rw c.deref.ensures.value at c.in_ok-stepped.ensures.labels));

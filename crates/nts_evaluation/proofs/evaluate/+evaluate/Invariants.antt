@@ -1,4 +1,4 @@
-use Rattle.std.proofs.Common.{◌≡◌, ◌+◌, ◌*◌, ◌≤◌, take, map, []}
+use Rattle.std.proofs.Common.{◌<◌, ◌≡◌, ◌+◌, ◌*◌, ◌≤◌, take, map, []}
 use Rattle.std.specs.Prelude.{All}
 use Rattle.nts_model.specs.Tables.Passing.{BringsOnly}
 use Rattle.nts_unify.specs.Reading.{content_of}
@@ -57,6 +57,7 @@ abbrev pub invariant-evaluate_rounds-loop-round : goal.invariant-evaluate_rounds
 invariant-evaluate_rounds-loop-round g l = record {
   grows : Grows l.fn.cx l.cx;
   searches : Searches l.fn.cx l.cx l.fn.graph l.graph;
+  counted : 0 < l.round → 0 < l.graph.most_rounds;
   input : l.asked.value.input ≡ l.fn.input.value;
   fits : IsHeadAnswer l.cx.nodes (kinds_of l.fn.input.value) l.asked.value.provisional;
   told : WhereTold (rules_of g.H.GoalHandler.ready g.H.GoalHandler.handler l.handler) l.fn.cx l.fn.graph (λ m. IsAnswerTold m (mode_of l.fn.input.value.typing_mode) l.cx.nodes (form_of l.fn.cx.nodes l.fn.input.value) l.asked.value.provisional);
@@ -78,6 +79,7 @@ invariant-try_evaluate_goals-loop-step g l = record {
   runs : Runs l.fn.cx l.cx l.fn.table l.table;
   searches : Searches l.fn.cx l.cx l.fn.graph l.graph;
   steps : l.last_steps ≤ l.fn.cx.step_limit;
+  counted : l.last_steps ≡ l.step;
   posed : ArePosed l.cx.nodes l.table l.goals.items;
   left : AreLeft l.fn.goals.items l.goals.items;
   labels : BringsOnly (terms_of l.fn.cx.nodes l.fn.goals.items) (content_of l.fn.cx.nodes l.fn.table.entries) (content_of l.cx.nodes l.table.entries);

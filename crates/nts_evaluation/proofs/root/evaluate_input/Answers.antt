@@ -10,6 +10,7 @@ use Rattle.nts_canonical.specs.Forms.{form_of}
 use Rattle.nts_response.specs.Forms.{response_at}
 use Rattle.nts_delegate.specs.Offered.{path_kind_of}
 use Rattle.nts_asking.proofs.Evaluating.{Since-now}
+use Rattle.nts_asking.proofs.Searching.{nothing_stands}
 use Rattle.nts_asking.proofs.Rounds.{empty_stack, tell_begun, nothing_left, never_cut}
 use Rattle.nts_evaluation.proofs.Coherence.{told_contains, refuted_has_no_input}
 use Rattle.nts_evaluation.proofs.root.evaluate_input.Goals as goal
@@ -49,3 +50,8 @@ returns-in-Err-NoSolution-clause-none g c = λ here q.
     let lawful = g.met.H.GoalHandler.lawful ts c.args.handler.now c.terms_are_formed.ensures c.requires.ready in
     let law = g.met.H.GoalHandler.offered ts c.args.handler.now c.terms_are_formed.ensures c.requires.ready in
     refuted_has_no_input c.requires.input lawful law here (returns-in-Err-NoSolution-clause-refuted g c q)
+
+pub returns-in-Ok-clause-counted : goal.returns-in-Ok-clause-counted
+returns-in-Ok-clause-counted g c = λ limit.
+    let none = empty_stack c.args.graph.now c.requires.search in
+    c.in-Ok.ensures.counted (nothing_stands c.args.cx.now.nodes c.args.graph.now _ none) limit tt

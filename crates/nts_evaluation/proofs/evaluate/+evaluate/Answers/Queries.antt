@@ -48,7 +48,7 @@ use Rattle.nts_search.specs.Kinds.{goal_kind_of}
 use Rattle.nts_search.specs.Searching.{entry_at, entries_at}
 use Rattle.nts_search.proofs.Stacked.{entries_pushed, entries_popped}
 use Rattle.nts_asking.specs.Searching.{HeadsTell, IsAnswerTold, IsHeadAnswer, assumed_in}
-use Rattle.nts_asking.proofs.Searching.{Searches-refl, Searches-trans, search_later, search_grown, search_grows, search_covers, covers_grown, stays_more, served_more, tell_grown, heads_tell_later, search_counted, search_marked, search_unmarked, search_marked_again, head_answer_later, answer_told_later, form_later, input_later, later_long}
+use Rattle.nts_asking.proofs.Searching.{Searches-refl, Searches-trans, search_later, search_grown, search_grows, search_covers, covers_grown, stays_more, served_more, tell_grown, heads_tell_later, search_counted, search_marked, search_unmarked, search_marked_again, round_counted, head_answer_later, answer_told_later, form_later, input_later, later_long}
 use Rattle.nts_search.specs.declared.stack.StackEntry.{StackEntry}
 use Rattle.nts_canonical.specs.declared.types.CanonicalInput.{CanonicalInput}
 use Rattle.nts_asking.specs.Answering.{IsAnswerTo, is_yes}
@@ -219,6 +219,7 @@ evaluate_rounds-loop-round-init g t c =
     record {
       grows = u.grows;
       searches = Searches-refl (c.args.depth + 1) c.requires.search u.grows;
+      counted = λ some. absurd (omega (arith, some));
       input = first.input;
       fits = first_fits c.first_round.new.cx.nodes c.args.input.value c.in_ok-asked.asked.value first;
       told = λ s tells. first_told (g.H.GoalHandler.handler s.base c.args.handler.now) (mode_of c.args.input.value.typing_mode) c.first_round.new.cx.nodes (form_of c.args.cx.now.nodes c.args.input.value) c.args.input.value c.in_ok-asked.asked.value refl first;
@@ -238,6 +239,7 @@ evaluate_rounds-loop-round-preserved g t c =
     record {
       grows = grown i.grows e.grows;
       searches = Searches-trans noted e.searches;
+      counted = λ some. round_counted c.loop-round.graph c.note_round.new.self (c.loop-round.round + 1) c.note_round.ensures (omega arith) e.searches;
       input = ap (λ (y : Round). y.input) next ∙ e.entry.0 ∙ i.input;
       fits = subst (λ (y : Round). IsHeadAnswer c.evaluate_round.new.cx.nodes (kinds_of c.args.input.value) y.provisional) (sym next) fits;
       told = λ s tells.
@@ -263,6 +265,7 @@ evaluate_rounds-returns-then-round_is_last g t c =
     record {
       grows = grown c.loop-round.invariant.grows c.in_ok-ended.ensures.grows;
       searches = Searches-trans noted e.searches;
+      counted = λ none limit answered. round_counted c.loop-round.graph c.note_round.new.self (c.loop-round.round + 1) c.note_round.ensures (omega arith) e.searches;
       fits = last_fits c.in_ok-ended.ended.value.answer c.last_answer.result c.last_answer.ensures.some c.last_answer.ensures.none z (kinds_of c.args.input.value) fits;
       proved = λ s.
           let m = meaning_since (λ ts. g.H.GoalHandler.handler ts c.args.handler.now) s in
