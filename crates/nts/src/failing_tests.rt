@@ -3,7 +3,9 @@ use nts_program::{Status, run};
 use std::io::{self, ErrorKind, Read, Write};
 use std::process::Abort;
 
-const TEXT: &[u8] = b"trait Clone(type)\ntype Vec(type)\nimpl Clone(u32)\nimpl Clone(Vec(?T)) <- Clone(?T)\ngoal Clone(Vec(u32))\ngoal Clone(u8)\ntrait Only(type)\nimpl Only(u32)\ngoal Only(?x)\n";
+const TEXT: &[u8] =
+    b"trait Clone(type)\ntype Vec(type)\nimpl Clone(u32)\nimpl Clone(Vec(?T)) <- Clone(?T)\ngoal Clone(Vec(u32))\ngoal Clone(u8)\ntrait Only(type)\nimpl Only(u32)\ngoal Only(?x)\n";
+
 const ANSWERS: &[u8] = b"yes\nno\nyes\n  ?x = u32\n";
 
 /// A reader that gives a few bytes a call, and fails at one call.
@@ -107,7 +109,8 @@ fn writes_that_fail(rt: HostRuntime) {
 /// answered.
 #[test]
 fn cut_texts(rt: HostRuntime) {
-    let text = b"trait Clone(type)\ntype Vec(type)\nimpl Clone(u32)\nimpl Clone(Vec(?T)) <- Clone(?T)\ngoal Clone(Vec(u32))\n";
+    let text =
+        b"trait Clone(type)\ntype Vec(type)\nimpl Clone(u32)\nimpl Clone(Vec(?T)) <- Clone(?T)\ngoal Clone(Vec(u32))\n";
     let whole = text.len() - 1;
     for end in 0..text.len() {
         let mut output = Vec::new(rt.alloc());

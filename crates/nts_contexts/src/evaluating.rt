@@ -1,5 +1,5 @@
 //! Goals of a context are evaluated.
-ghost use Rattle.std.specs.Prelude.{◌≡◌, ◌≤◌, ◌+◌, true, false, [], None, Ok, Err, IfOk};
+ghost use Rattle.std.specs.Prelude.{◌<◌, ◌≡◌, ◌≤◌, ◌+◌, true, false, [], None, Ok, Err, IfOk};
 ghost use Rattle.nts_certainty.specs.declared.certainty.Certainty.TheVariants as certainty;
 ghost use Rattle.nts_response.specs.Forms.{response_at, HoldsResponse};
 ghost use Rattle.nts_theory.specs.Telling.{IsResponseOf};
@@ -29,6 +29,8 @@ impl<H: GoalHandler> EvalCtxt<'_, H> {
             self.old self.new result }
         ensures steps { self.old.state.now.fault ≡ None →
             self.new.state.now.last_steps ≤ self.old.cx.now.step_limit }
+        ensures counted { self.old.state.now.fault ≡ None → 0 < self.old.cx.now.step_limit →
+            0 < self.new.state.now.last_steps }
         ensures sure { result ≡ Ok certainty.Yes → self.new.state.now.nested_goals.items ≡ [] }
         ensures told { Always (rules_of H.ready H.handler self.old.handler.now) self.old.cx.now
             (λ s. ReachesAdded (H.handler s.base self.old.handler.now) self.old self.new) }

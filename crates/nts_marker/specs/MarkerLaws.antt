@@ -55,7 +55,7 @@ commute : (i : ℕ) (z : Certainty) → CandidatesCommute (marking i z)
 commute i z =
     record {
       renaming = λ mode e g ρ plain asked.
-        ap (λ b. if b then fact z ∷ [] else []) (marks_asked i e g (λ l. leaf_tree (ρ.to l)) asked) ∙ renamed_offers z ρ (marks i g);
+          ap (λ b. if b then fact z ∷ [] else []) (marks_asked i e g (λ l. leaf_tree (ρ.to l)) asked) ∙ renamed_offers z ρ (marks i g);
     }
 
 -- the use of the fact
@@ -76,14 +76,14 @@ rules i z =
     record {
       instances = λ mode e g c ι a asked among sure is. marked_use i z e g c ι a asked (offered_is z (marks i g) c among) sure is;
       closed = λ mode a ι m.
-        record {
-          sure = m.sure;
-          conclusion = marks_kept i ι.value a.conclusion m.conclusion;
-          equations = ap (map (equation_by (instance_of ι))) m.equations;
-          goals = ap (map (premise_by (instance_of ι))) m.goals;
-          constraints = ap (map (constraint_by (instance_of ι))) m.constraints;
-          hidden = ap (map (hidden_by (instance_of ι))) m.hidden;
-        };
+          record {
+            sure = m.sure;
+            conclusion = marks_kept i ι.value a.conclusion m.conclusion;
+            equations = ap (map (equation_by (instance_of ι))) m.equations;
+            goals = ap (map (premise_by (instance_of ι))) m.goals;
+            constraints = ap (map (constraint_by (instance_of ι))) m.constraints;
+            hidden = ap (map (hidden_by (instance_of ι))) m.hidden;
+          };
     }
 
 sources : (i : ℕ) (z : Certainty) → RulesHaveSources (marking i z)
@@ -108,17 +108,17 @@ pub RulesAreOffered-marking : (i : ℕ) (z : Certainty) → RulesAreOffered (mar
 RulesAreOffered-marking i z =
     record {
       covered = λ e g ι a asked m env con.
-        let marked : marks i g ≡ true = sym (marks_asked i e g ι.value asked) ∙ ap (marks i) (sym con) ∙ m.conclusion in
-        record {
-          candidate = fact z;
-          offered = fact_offered z (marks i g) marked;
-          chosen = [];
-          values = tt;
-          of_rule = λ v x. absurd x;
-          equations = λ q x. absurd x;
-          constraints = λ q x. absurd x;
-          goals = λ q x. absurd x;
-        };
+          let marked : marks i g ≡ true = sym (marks_asked i e g ι.value asked) ∙ ap (marks i) (sym con) ∙ m.conclusion in
+          record {
+            candidate = fact z;
+            offered = fact_offered z (marks i g) marked;
+            chosen = [];
+            values = tt;
+            of_rule = λ v x. absurd x;
+            equations = λ q x. absurd x;
+            constraints = λ q x. absurd x;
+            goals = λ q x. absurd x;
+          };
     }
 
 -- it means the same in each store
