@@ -1,5 +1,5 @@
 //! What a cycle is answered, and what a query is answered before its first round and after too many.
-ghost use Rattle.std.specs.Prelude.{ℕ, ◌≡◌, ◌<◌, ◌+◌, ◌⊎◌, length, get_or, Option, Some, None, IfOk, IsOkUnless};
+ghost use Rattle.std.specs.Prelude.{ℕ, ◌≡◌, ◌<◌, ◌+◌, ◌≢◌, ◌⊎◌, length, get_or, Option, Some, None, IfOk, IsOkUnless};
 ghost use Rattle.nts_model.specs.Derivations.Proofs.{passed};
 ghost use Rattle.nts_model.specs.Searching.Stacks.{IsUsable};
 ghost use Rattle.nts_model.specs.Answers.Responses.{answer_sequent};
@@ -69,6 +69,7 @@ pub fn answer_of(
 ) -> Result<Box<CanonicalResponse>, EvalError>
     ensures some { (r : _) → answer ≡ Some r → IsBoxed r result }
     ensures none { answer ≡ None → result ≡ Err EvalError.NoSolution }
+    ensures full { result ≢ Err EvalError.Full }
 {
     match answer {
         Some(answer) => {
@@ -106,6 +107,7 @@ pub fn answer_cycle(
     ensures none { result ≡ Err EvalError.NoSolution → HasNoneAt graph.old.stack.items head ⊎
         IsCut cx.old.nodes graph.old (form_of cx.old.nodes input.now)
         input.now.typing_mode step }
+    ensures full { result ≢ Err EvalError.Full }
 {
     let kind = graph.path_kind(head, step);
     if kind == PathKind::Coinductive {
@@ -119,7 +121,8 @@ pub fn answer_cycle(
 
 /// The same answer once more.
 fn copy_answer(answer: &Option<CanonicalResponse>) -> Result<Option<CanonicalResponse>, Fault>
-    ensures { IfOk result (IsCopiedAnswer answer.now) }
+    ensures copied { IfOk result (IsCopiedAnswer answer.now) }
+    ensures memory { IsOkUnless result Fault.Memory }
 {
     match answer {
         Some(response) => {

@@ -1,6 +1,6 @@
 //! What a round of a query begins and ends with. It stands behind boxes, since a round stands on the machine's stack while the
 //! goals below it are evaluated.
-ghost use Rattle.std.specs.Prelude.{◌≡◌, ◌≢◌, ◌<◌, ◌≤◌, ◌++◌, ◌∷◌, [], ℕ, false, List, Option, Some, None, length, IfOk, OnOk, OnErr, IsOkUnless};
+ghost use Rattle.std.specs.Prelude.{◌≡◌, ◌≢◌, ◌<◌, ◌≤◌, ◌++◌, ◌∷◌, [], ℕ, false, List, Option, Some, None, length, ◌⊎◌, IfOk, IfErr, OnOk, OnErr, IsOkUnless};
 ghost use Rattle.nts_model.specs.Terms.Trees.{Tree};
 ghost use Rattle.nts_terms.specs.Rest.{Grows};
 ghost use Rattle.nts_canonical.specs.Forms.{HoldsQuery};
@@ -94,6 +94,7 @@ pub fn end_round(
         IfOk result (λ z. z.value.entry ≡ x) }
     ensures answer { IfOk result (λ z. EndsWith response z.value.answer) }
     ensures no { result ≢ Err EvalError.NoSolution }
+    ensures err { IfErr result (λ e. e ≡ EvalError.Memory ⊎ response ≡ Err e) }
 {
     let entry = graph.pop();
     let answer = match response {

@@ -90,7 +90,7 @@ fn handle_line<W: Write>(
         Ok(Some(text)) => put_answer(output, &text),
         Ok(None) => Ok(()),
         Err(Stop::Refused(refusal)) => {
-            put_refusal(program.alloc, output, number, refusal)?;
+            put_refusal(output, number, refusal)?;
             Err(Stop::Refused(refusal))
         }
         Err(stop) => Err(stop),

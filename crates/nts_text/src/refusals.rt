@@ -21,11 +21,12 @@ pub enum Refusal {
     ParameterInAClause,
 }
 
-impl fmt::Display for Refusal {
-    ghost output = { λ r. Some (words_of r) };
-
-    fn fmt<W: fmt::Write>(&self, f: &mut fmt::Formatter<W>) -> fmt::Result {
-        let words = match self {
+impl Refusal {
+    /// How the reason is printed.
+    pub fn words(self) -> &'static str
+        ensures { result.now ≡ words_of self }
+    {
+        match self {
             Refusal::UnknownCommand => "unknown command",
             Refusal::Syntax => "syntax",
             Refusal::NumberOutOfRange => "number out of range",
@@ -33,8 +34,15 @@ impl fmt::Display for Refusal {
             Refusal::NameDeclaredTwice => "name declared twice",
             Refusal::WrongArguments => "wrong arguments",
             Refusal::ParameterInAClause => "parameter in a clause",
-        };
-        f.write_str(words)
+        }
+    }
+}
+
+impl fmt::Display for Refusal {
+    ghost output = { λ r. Some (words_of r) };
+
+    fn fmt<W: fmt::Write>(&self, f: &mut fmt::Formatter<W>) -> fmt::Result {
+        f.write_str(self.words())
     }
 }
 

@@ -1,5 +1,5 @@
 //! One response for those of the candidates.
-ghost use Rattle.std.specs.Prelude.{◌≡◌, ◌≢◌, ◌↔◌, ◌<◌, ℕ, [], length, get_or, All, OnOk, OnErr, IsNone, IfSome, IsTrue, Ok};
+ghost use Rattle.std.specs.Prelude.{◌≡◌, ◌≢◌, ◌↔◌, ◌<◌, ℕ, [], length, get_or, All, ◌⊎◌, OnOk, OnErr, IfErr, IsNone, IfSome, IsTrue, Ok};
 ghost use Rattle.nts_canonical.specs.Building.{IsArgOf};
 ghost use Rattle.nts_canonical.specs.declared.types.Canonical.{Canonical};
 ghost use Rattle.nts_response.specs.declared.types.Response.{Response};
@@ -32,6 +32,7 @@ pub fn keep_response(
     ensures kept { OnOk result (responses.new.items ≡ kept_after responses.old.items answer) }
     ensures dropped { OnOk result (OnErr answer (answer ≡ Err EvalError.NoSolution)) }
     ensures no { result ≢ Err EvalError.NoSolution }
+    ensures err { IfErr result (λ e. e ≡ EvalError.Memory ⊎ answer ≡ Err e) }
 {
     match answer {
         Ok(response) => {

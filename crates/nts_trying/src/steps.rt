@@ -48,6 +48,8 @@ impl AvailableDepth {
         ensures within { IfSome result (λ n. n < bound_of self) }
         ensures whole { has_overflowed ≡ false → IfSome result (λ n. n + 1 ≡ bound_of self) }
         ensures root { (n : ℕ) → self ≡ available.Root n → result ≡ Some n }
+        ensures divided { (n : ℕ) → self ≡ available.Below n → has_overflowed ≡ true →
+            0 < division → n / division < n → result ≡ Some (n / division) }
     {
         match self {
             AvailableDepth::Root(depth) => Some(depth),

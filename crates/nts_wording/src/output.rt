@@ -5,8 +5,8 @@ ghost use Rattle.nts_wording.specs.Growing.{Begins, refusal_line};
 ghost use Rattle.nts_wording.specs.Statuses.{is_refusal};
 
 use crate::status::Stop;
+use itoa::Buffer;
 use nts_text::Refusal;
-use std::alloc::Global;
 use std::io::{ErrorKind, Write};
 
 /// Writes some of these bytes, and answers how many: none after an interruption.
@@ -61,19 +61,18 @@ pub fn put_answer<W: Write>(output: &mut W, bytes: &[u8]) -> Result<(), Stop>
     Ok(())
 }
 
-/// Writes why a line is refused.
+/// Writes why a line is refused. It takes no memory.
 #[tactic(auto, using(crate::proofs::Growths::writes))]
-pub fn put_refusal<W: Write>(
-    alloc: Global,
-    output: &mut W,
-    number: u64,
-    refusal: Refusal,
-) -> Result<(), Stop>
+pub fn put_refusal<W: Write>(output: &mut W, number: u64, refusal: Refusal) -> Result<(), Stop>
     ensures fault { IfErr result (λ s. is_refusal s ≡ false) }
     ensures said { OnOk result (Appends (W.contents output.old) (W.contents output.new)
         (refusal_line number refusal)) }
     ensures begins { Begins (W.contents output.old) (W.contents output.new) }
 {
-    let text = format!(in alloc; "line {number}: {refusal}\n")?;
-    put(output, text.as_bytes())
+    let mut digits = Buffer::new();
+    put(output, b"line ")?;
+    put(output, digits.format(number).as_bytes())?;
+    put(output, b": ")?;
+    put(output, refusal.words().as_bytes())?;
+    put(output, b"\n")
 }

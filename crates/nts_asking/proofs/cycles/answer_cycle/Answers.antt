@@ -13,18 +13,18 @@ pub returns-then-eq-clause-searches : goal.returns-then-eq-clause-searches
 returns-then-eq-clause-searches c = searched_read c.requires.search.0 c.args.head c.requires.search.1 c.read.ensures.items c.read.ensures.kept c.read.ensures.rest
 
 pub returns-then-eq-clause-fits : goal.returns-then-eq-clause-fits
-returns-then-eq-clause-fits c = read_fits c.requires.search.0 c.args.head c.requires.search.1 c.requires.head c.args.input.now c.requires.same c.in_ok-answer.answer c.answer_of.result c.answer_of.ensures.some c.answer_of.ensures.none c.index.result.now c.index.ensures c.in_ok-answer.ensures
+returns-then-eq-clause-fits c = read_fits c.requires.search.0 c.args.head c.requires.search.1 c.requires.head c.args.input.now c.requires.same c.in_ok-answer.answer c.answer_of.result c.answer_of.ensures.some c.answer_of.ensures.none c.index.result.now c.index.ensures c.in_ok-answer.ensures.copied
 
 pub returns-then-eq-clause-usable : goal.returns-then-eq-clause-usable
 returns-then-eq-clause-usable c =
     let cycle : c.path_kind-kind.result ≡ path.Coinductive = search rules in
-    read_used c.requires.search.0 c.args.head c.requires.search.1 c.requires.head c.args.input.now c.requires.same c.in_ok-answer.answer c.answer_of.result c.answer_of.ensures.some c.answer_of.ensures.none c.index.result.now c.index.ensures c.in_ok-answer.ensures c.read.new.self c.path_kind-kind.result c.args.step (c.read.ensures.entries _) cycle (c.path_kind-kind.ensures _)
+    read_used c.requires.search.0 c.args.head c.requires.search.1 c.requires.head c.args.input.now c.requires.same c.in_ok-answer.answer c.answer_of.result c.answer_of.ensures.some c.answer_of.ensures.none c.index.result.now c.index.ensures c.in_ok-answer.ensures.copied c.read.new.self c.path_kind-kind.result c.args.step (c.read.ensures.entries _) cycle (c.path_kind-kind.ensures _)
 
 pub returns-then-eq-clause-some : goal.returns-then-eq-clause-some
-returns-then-eq-clause-some c = read_answers c.requires.search.0 c.args.head c.requires.search.1 c.requires.head c.args.input.now c.requires.same c.in_ok-answer.answer c.answer_of.result c.answer_of.ensures.some c.answer_of.ensures.none c.index.result.now c.index.ensures c.in_ok-answer.ensures
+returns-then-eq-clause-some c = read_answers c.requires.search.0 c.args.head c.requires.search.1 c.requires.head c.args.input.now c.requires.same c.in_ok-answer.answer c.answer_of.result c.answer_of.ensures.some c.answer_of.ensures.none c.index.result.now c.index.ensures c.in_ok-answer.ensures.copied
 
 pub returns-then-eq-clause-none : goal.returns-then-eq-clause-none
-returns-then-eq-clause-none c = λ q. inl (read_refuted c.requires.search.0 c.args.head c.requires.search.1 c.requires.head c.args.input.now c.requires.same c.in_ok-answer.answer c.answer_of.result c.answer_of.ensures.some c.answer_of.ensures.none c.index.result.now c.index.ensures c.in_ok-answer.ensures q)
+returns-then-eq-clause-none c = λ q. inl (read_refuted c.requires.search.0 c.args.head c.requires.search.1 c.requires.head c.args.input.now c.requires.same c.in_ok-answer.answer c.answer_of.result c.answer_of.ensures.some c.answer_of.ensures.none c.index.result.now c.index.ensures c.in_ok-answer.ensures.copied q)
 
 pub returns-in_err-answer-2-clause-searches : goal.returns-in_err-answer-2-clause-searches
 returns-in_err-answer-2-clause-searches c = Searches-refl c.requires.search.0 c.requires.search.1 c.initial_provisional_result.ensures.grows
