@@ -11,7 +11,7 @@ use Rattle.nts_store.specs.declared.nodes.NodeId.{NodeId}
 use Rattle.nts_store.specs.declared.nodes.Node.{Node}
 use Rattle.nts_store.specs.contracts.nodes.NodePartialEq.TheImpl as node_eq
 use Rattle.nts_store.specs.TypeFlags.{flags_of}
-use Rattle.nts_store.specs.Growth.{tree_at, trees_at, IsIn, AllIn, AllBelow, Extends, AreApart}
+use Rattle.nts_store.specs.Growth.{tree_at, trees_at, IsIn, AllIn, AllBelow, Extends, AreApart, IsTheOne}
 use Rattle.nts_store.specs.Store.{tree_of_node, grown, trees, IsNode, IsGrown, IsShared}
 use Rattle.nts_store.proofs.Growing.{Extends-refl, Extends-trans, AllIn-extended, trees_at-extended, Extends-push, get_or-front, get_or-last}
 use Rattle.nts_store.proofs.Equal.{AreOne, one_answer, one_node, node_one}
@@ -198,3 +198,6 @@ answered ns ms n k at kept h e q =
       within = omega (arith, length-trees ms);
       is = (found ms (trees ms) at k refl kept.shared within here).is ∙ cc (same, w.labels);
     }
+
+pub only_one : {ns : List Node} (ms : List Node) (t : NodeId) → Kept ns ms → IsIn (trees ms) t → IsTheOne (trees ms) t
+only_one ms t kept h = λ u k e. term-apart (trees ms) u t kept.shared.apart k h e

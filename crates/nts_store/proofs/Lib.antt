@@ -8,4 +8,5 @@ pub mod Levels
 pub mod Pending
 pub mod Reading
 pub mod Replacing
+pub mod SharingExamples
 pub mod WellBound

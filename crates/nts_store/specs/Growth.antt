@@ -33,3 +33,7 @@ pub record Extends (old new : List Tree) : Type 0 where
 -- no tree stands twice
 abbrev pub AreApart : List Tree → Type 0
 AreApart ts = (i j : ℕ) → i < length ts → j < length ts → get_or ts i empty ≡ get_or ts j empty → i ≡ j
+
+-- the one term of the store with this tree
+abbrev pub IsTheOne : List Tree → NodeId → Type 0
+IsTheOne ts t = (u : NodeId) → IsIn ts u → tree_at ts u ≡ tree_at ts t → u ≡ t

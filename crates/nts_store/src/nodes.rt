@@ -2,7 +2,7 @@
 ghost use Rattle.std.specs.Prelude.{◌≡◌, ◌↔◌, ◌<◌, ◌+◌, ◌++◌, ◌∷◌, [], length, drop, IsTrue, OnOk, OnErr, IfOk, Some, Option};
 ghost use Rattle.nts_model.specs.Terms.Trees.{Tree, node, empty, more, label_of, children, row_length, row_at, IsRow, shape, Meets};
 ghost use Rattle.nts_model.specs.Terms.Scoping.{IsWellBound};
-ghost use Rattle.nts_store.specs.Growth.{tree_at, trees_at, IsIn, AllIn, AllBelow, Extends, AreApart};
+ghost use Rattle.nts_store.specs.Growth.{tree_at, trees_at, IsIn, AllIn, AllBelow, Extends, AreApart, IsTheOne};
 ghost use Rattle.nts_store.specs.Formed.{AreFormed};
 ghost use Rattle.nts_store.specs.TypeFlags.{flags_of};
 ghost use Rattle.nts_store.specs.Sorts.{ChildrenFit};
@@ -81,13 +81,14 @@ impl Nodes {
         let _ = self.nodes.len();
     }
 
-    /// The term with that label and these children. Every older term keeps its tree.
+    /// The term with that label and these children: the only one of the store with this tree. Every older term keeps its tree.
     pub fn make(&mut self, label: Label, children: &[NodeId]) -> Result<NodeId, AllocError>
         requires within { AllIn self.old children.now }
         requires formed { Meets (shape label) (trees_at self.old children.now) }
         ensures within { IfOk result (λ t. IsIn self.new t) }
         ensures tree { IfOk result (λ t. tree_at self.new t ≡ node label
             (trees_at self.old children.now)) }
+        ensures one { IfOk result (λ t. IsTheOne self.new t) }
         ensures extends { Extends self.old self.new }
         ensures err { OnErr result (self.new ≡ self.old) }
     {
@@ -201,11 +202,12 @@ impl Nodes {
         self.node(t).children[i]
     }
 
-    /// Whether two terms have equal trees.
+    /// Whether two terms have equal trees: exactly if they are one.
     pub fn same(&self, a: NodeId, b: NodeId) -> bool
         requires a_in { IsIn self.now a }
         requires b_in { IsIn self.now b }
-        ensures { IsTrue result ↔ (tree_at self.now a ≡ tree_at self.now b) }
+        ensures tree { IsTrue result ↔ (tree_at self.now a ≡ tree_at self.now b) }
+        ensures one { IsTrue result ↔ (a ≡ b) }
     {
         let _ = &self.nodes;
         a.number == b.number

@@ -8,6 +8,8 @@ mod fold_tests;
 #[cfg(test)]
 mod labels_tests;
 #[cfg(test)]
+mod making_tests;
+#[cfg(test)]
 mod seeing;
 #[cfg(test)]
 mod tests;

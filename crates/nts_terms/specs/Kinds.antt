@@ -19,6 +19,7 @@ use Rattle.nts_terms.specs.declared.handles.GenericArg.{GenericArg}
 use Rattle.nts_terms.specs.declared.handles.Predicate.{Predicate}
 use Rattle.nts_terms.specs.declared.handles.Binder.{Binder}
 use Rattle.nts_terms.specs.declared.handles.AliasTerm.{AliasTerm}
+use Rattle.nts_terms.specs.declared.handles.TraitId.{TraitId}
 use Rattle.nts_terms.specs.declared.kinds.InferTy.{InferTy}
 use Rattle.nts_terms.specs.declared.kinds.InferTy.TheVariants as infer
 use Rattle.nts_terms.specs.declared.kinds.TyKind.{TyKind}
@@ -204,3 +205,9 @@ row_of_sorts (s ∷ ss) = more (tree_of_sort s) (row_of_sorts ss)
 
 abbrev pub tree_of_vars : List Sort → Tree
 tree_of_vars ss = node (label.List list_head.Sorts) (row_of_sorts ss)
+
+-- that a trait holds for the arguments, under a binder of no variables
+abbrev pub tree_of_trait : List Tree → TraitId → List GenericArg → Tree
+tree_of_trait ts i xs =
+    let statement = node (label.Clause (clause_head.Trait i.number)) (more (tree_of_args ts xs) empty) in
+    node (label.List list_head.Binder) (more (tree_of_vars []) (more statement empty))

@@ -211,12 +211,13 @@ impl Cx {
         self.nodes.contains(node) && T::may_have(self.nodes.label(node))
     }
 
-    /// Whether two terms have equal trees.
+    /// Whether two terms have equal trees: exactly if they have one number.
     pub fn same<T: Stored>(&self, a: T, b: T) -> bool
         requires a_in { IsIn self.now.nodes (T.id a) }
         requires b_in { IsIn self.now.nodes (T.id b) }
-        ensures { IsTrue result ↔ (tree_at self.now.nodes (T.id a) ≡ tree_at self.now.nodes
+        ensures tree { IsTrue result ↔ (tree_at self.now.nodes (T.id a) ≡ tree_at self.now.nodes
             (T.id b)) }
+        ensures one { IsTrue result ↔ (T.id a ≡ T.id b) }
     {
         self.nodes.same(a.node(), b.node())
     }

@@ -3,7 +3,7 @@ ghost use Rattle.std.specs.Prelude.{◌≡◌, ◌<◌, List, All, map, IfOk, On
 ghost use Rattle.nts_model.specs.declared.labels.Label.TheVariants as label;
 ghost use Rattle.nts_model.specs.declared.labels.ListHead.TheVariants as list_head;
 ghost use Rattle.nts_model.specs.Terms.Trees.{Tree, node, empty, children, row_length, row_at, IsRow, Place, is, one_sort};
-ghost use Rattle.nts_store.specs.Growth.{tree_at, trees_at, IsIn, Extends};
+ghost use Rattle.nts_store.specs.Growth.{tree_at, trees_at, IsIn, Extends, IsTheOne};
 ghost use Rattle.nts_terms.specs.Handles.{Holds, HoldsArg, HoldsArgs, HoldsPredicate, HoldsEnv, HoldsVars};
 ghost use Rattle.nts_terms.specs.Kinds.{tree_of_args, tree_of_env, tree_of_vars, tree_of_sort};
 ghost use Rattle.nts_terms.specs.Rest.{Grows};
@@ -22,6 +22,7 @@ impl Cx {
         requires { All (λ a. HoldsArg self.old.nodes a) args.now }
         ensures tree { IfOk result (λ l. tree_at self.new.nodes l.node ≡ tree_of_args self.old.nodes
             args.now) }
+        ensures one { IfOk result (λ l. IsTheOne self.new.nodes l.node) }
         ensures holds { IfOk result (λ l. HoldsArgs self.new.nodes l) }
         ensures grows { Grows self.old self.new }
         ensures err { OnErr result (self.new.nodes ≡ self.old.nodes) }
@@ -38,6 +39,7 @@ impl Cx {
         requires { All (λ p. HoldsPredicate self.old.nodes p) predicates.now }
         ensures tree { IfOk result (λ e. tree_at self.new.nodes e.node ≡ tree_of_env self.old.nodes
             predicates.now) }
+        ensures one { IfOk result (λ e. IsTheOne self.new.nodes e.node) }
         ensures holds { IfOk result (λ e. HoldsEnv self.new.nodes e) }
         ensures grows { Grows self.old self.new }
         ensures err { OnErr result (self.new.nodes ≡ self.old.nodes) }
@@ -51,6 +53,7 @@ impl Cx {
     /// The list of these sorts, for a binder.
     pub fn mk_bound_vars(&mut self, sorts: &[Sort]) -> Result<BoundVars, Fault>
         ensures tree { IfOk result (λ v. tree_at self.new.nodes v.node ≡ tree_of_vars sorts.now) }
+        ensures one { IfOk result (λ v. IsTheOne self.new.nodes v.node) }
         ensures holds { IfOk result (λ v. HoldsVars self.new.nodes v) }
         ensures grows { Grows self.old self.new }
         ensures memory { IsOkUnless result Fault.Memory }

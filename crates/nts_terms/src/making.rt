@@ -1,15 +1,16 @@
 //! Making terms.
-ghost use Rattle.std.specs.Prelude.{◌≡◌, List, IfOk, OnErr, IsOkUnless};
+ghost use Rattle.std.specs.Prelude.{◌≡◌, ◌↔◌, List, All, IfOk, IfSome, IsSome, OnErr, IsOkUnless};
 ghost use Rattle.nts_model.specs.declared.labels.Label.TheVariants as label;
 ghost use Rattle.nts_model.specs.Terms.Trees.{node, empty, shape, Meets, Place, is, a_type, a_const, statement};
-ghost use Rattle.nts_store.specs.Growth.{tree_at, trees_at, IsIn, AllIn, Extends};
-ghost use Rattle.nts_terms.specs.Handles.{Holds, HoldsTy, HoldsRegion, HoldsConst, HoldsPredicate};
-ghost use Rattle.nts_terms.specs.Kinds.{tree_of_infer, tree_of_ty, TyFits, tree_of_region, tree_of_const, ConstFits, tree_of_clause, ClauseFits, tree_of_statement, StatementFits, tree_of_predicate, PredicateFits};
-ghost use Rattle.nts_terms.specs.Signatures.{TyIsDeclared, ConstIsDeclared, StatementIsDeclared};
+ghost use Rattle.nts_store.specs.Growth.{tree_at, trees_at, IsIn, AllIn, Extends, IsTheOne};
+ghost use Rattle.nts_terms.specs.Handles.{Holds, HoldsArg, HoldsTy, HoldsRegion, HoldsConst, HoldsPredicate};
+ghost use Rattle.nts_terms.specs.Kinds.{tree_of_infer, tree_of_ty, TyFits, tree_of_region, tree_of_const, ConstFits, tree_of_clause, ClauseFits, tree_of_statement, StatementFits, tree_of_predicate, PredicateFits, tree_of_args, tree_of_trait};
+ghost use Rattle.nts_terms.specs.Signatures.{TyIsDeclared, ConstIsDeclared, StatementIsDeclared, AreDeclared};
+ghost use Rattle.nts_terms.specs.declared.handles.DefId.TheVariants as def;
 ghost use Rattle.nts_terms.specs.Rest.{Grows};
 
 use crate::cx::Cx;
-use crate::handles::{Binder, Const, Predicate, Region, Ty};
+use crate::handles::{Binder, Const, DefId, GenericArg, Predicate, Region, TraitId, TraitRef, Ty};
 use crate::kinds::{ClauseKind, ConstKind, InferTy, PredicateKind, RegionKind, TyKind};
 use nts_model::{
     ClauseHead, ConstHead, Constant, FreeRegion, Label, Leaf, ListHead, PredicateHead, Sort,
@@ -18,13 +19,14 @@ use nts_model::{
 use nts_store::{Fault, NodeId};
 
 impl Cx {
-    /// The term with that label and these children.
+    /// The term with that label and these children: the only one with this tree.
     fn make(&mut self, label: Label, children: &[NodeId]) -> Result<NodeId, Fault>
         requires within { AllIn self.old.nodes children.now }
         requires formed { Meets (shape label) (trees_at self.old.nodes children.now) }
         ensures within { IfOk result (IsIn self.new.nodes) }
         ensures tree { IfOk result (λ n. tree_at self.new.nodes n ≡ node label
             (trees_at self.old.nodes children.now)) }
+        ensures one { IfOk result (λ n. IsTheOne self.new.nodes n) }
         ensures grows { Grows self.old self.new }
         ensures err { OnErr result (self.new.nodes ≡ self.old.nodes) }
         ensures memory { IsOkUnless result Fault.Memory }
@@ -38,6 +40,7 @@ impl Cx {
         requires declared { TyIsDeclared self.old.declarations self.old.nodes kind }
         ensures tree { IfOk result (λ t. tree_at self.new.nodes t.node ≡ tree_of_ty self.old.nodes
             kind) }
+        ensures one { IfOk result (λ t. IsTheOne self.new.nodes t.node) }
         ensures holds { IfOk result (λ t. HoldsTy self.new.nodes t) }
         ensures grows { Grows self.old self.new }
         ensures err { OnErr result (self.new.nodes ≡ self.old.nodes) }
@@ -52,6 +55,7 @@ impl Cx {
         requires { TyFits self.old.nodes kind }
         ensures tree { IfOk result (λ n. tree_at self.new.nodes n ≡ tree_of_ty self.old.nodes
             kind) }
+        ensures one { IfOk result (λ n. IsTheOne self.new.nodes n) }
         ensures holds { IfOk result (λ n. Holds a_type self.new.nodes n) }
         ensures grows { Grows self.old self.new }
         ensures err { OnErr result (self.new.nodes ≡ self.old.nodes) }
@@ -97,6 +101,7 @@ impl Cx {
     /// The region of that kind.
     pub fn mk_region(&mut self, kind: RegionKind) -> Result<Region, Fault>
         ensures tree { IfOk result (λ r. tree_at self.new.nodes r.node ≡ tree_of_region kind) }
+        ensures one { IfOk result (λ r. IsTheOne self.new.nodes r.node) }
         ensures holds { IfOk result (λ r. HoldsRegion self.new.nodes r) }
         ensures grows { Grows self.old self.new }
         ensures err { OnErr result (self.new.nodes ≡ self.old.nodes) }
@@ -124,6 +129,7 @@ impl Cx {
         requires declared { ConstIsDeclared self.old.declarations self.old.nodes kind }
         ensures tree { IfOk result (λ c. tree_at self.new.nodes c.node ≡ tree_of_const
             self.old.nodes kind) }
+        ensures one { IfOk result (λ c. IsTheOne self.new.nodes c.node) }
         ensures holds { IfOk result (λ c. HoldsConst self.new.nodes c) }
         ensures grows { Grows self.old self.new }
         ensures err { OnErr result (self.new.nodes ≡ self.old.nodes) }
@@ -138,6 +144,7 @@ impl Cx {
         requires { ConstFits self.old.nodes kind }
         ensures tree { IfOk result (λ n. tree_at self.new.nodes n ≡ tree_of_const self.old.nodes
             kind) }
+        ensures one { IfOk result (λ n. IsTheOne self.new.nodes n) }
         ensures holds { IfOk result (λ n. Holds a_const self.new.nodes n) }
         ensures grows { Grows self.old self.new }
         ensures err { OnErr result (self.new.nodes ≡ self.old.nodes) }
@@ -173,6 +180,7 @@ impl Cx {
             predicate.value }
         ensures tree { IfOk result (λ p. tree_at self.new.nodes p.node ≡ tree_of_predicate
             self.old.nodes predicate) }
+        ensures one { IfOk result (λ p. IsTheOne self.new.nodes p.node) }
         ensures holds { IfOk result (λ p. HoldsPredicate self.new.nodes p) }
         ensures grows { Grows self.old self.new }
         ensures memory { IsOkUnless result Fault.Memory }
@@ -181,6 +189,33 @@ impl Cx {
         let children = [predicate.vars.node, statement];
         let node = self.nodes.make(Label::List(ListHead::Binder), &children)?;
         Ok(Predicate { node })
+    }
+
+    /// That a trait holds for these arguments, of no bound variables; or nothing exactly where the trait is not declared, or
+    /// takes arguments of other sorts.
+    #[tactic(auto, using(crate::proofs::Moved::growth))]
+    pub fn trait_predicate(
+        &mut self,
+        id: TraitId,
+        args: &[GenericArg],
+    ) -> Result<Option<Predicate>, Fault>
+        requires { All (λ a. HoldsArg self.old.nodes a) args.now }
+        ensures fits { IfOk result (λ o. IsSome o ↔ AreDeclared self.old.declarations (def.Trait id)
+            (tree_of_args self.old.nodes args.now)) }
+        ensures tree { IfOk result (λ o. IfSome o (λ p. tree_at self.new.nodes p.node ≡
+            tree_of_trait self.old.nodes id args.now)) }
+        ensures one { IfOk result (λ o. IfSome o (λ p. IsTheOne self.new.nodes p.node)) }
+        ensures holds { IfOk result (λ o. IfSome o (HoldsPredicate self.new.nodes)) }
+        ensures grows { Grows self.old self.new }
+        ensures memory { IsOkUnless result Fault.Memory }
+    {
+        let args = self.mk_args(args)?;
+        if !self.fits(DefId::Trait(id), args) {
+            return Ok(None);
+        }
+        let vars = self.mk_bound_vars(&[])?;
+        let value = PredicateKind::Clause(ClauseKind::Trait(TraitRef { def_id: id, args }));
+        Ok(Some(self.mk_predicate(Binder { vars, value })?))
     }
 
     fn make_statement(&mut self, kind: PredicateKind) -> Result<NodeId, Fault>

@@ -10,7 +10,7 @@ pub returns-then-not-flags-clause-taken : goal.returns-then-not-flags-clause-tak
 returns-then-not-flags-clause-taken c =
     let ts = c.args.nodes.now in
     let p = c.args.pair in
-    let one = c.same.ensures.0 c.if-same.true in
+    let one = c.same.ensures.tree.0 c.if-same.true in
     (c.requires.lawful, takes_one (variances_in c.args.declarations.now) (content_of ts c.args.table.now.entries) p.variance (tree_at ts p.left) (tree_at ts p.right) c.requires.lawful.sound (λ f on. ap (deeply_resolved f) one))
 
 pub returns-then-eq-clause-taken : goal.returns-then-eq-clause-taken

@@ -5,7 +5,7 @@ use Rattle.nts_model.specs.Terms.Trees.{node}
 use Rattle.nts_store.specs.TypeFlags.{flags_of}
 use Rattle.nts_store.specs.Growth.{trees_at}
 use Rattle.nts_store.specs.Store.{trees, IsNode}
-use Rattle.nts_store.proofs.Inserting.{Kept, inserted, Answered, answered}
+use Rattle.nts_store.proofs.Inserting.{Kept, inserted, Answered, answered, only_one}
 use Rattle.nts_store.proofs.nodes.Nodes.make.Goals as goal
 
 copied : (c : goal.In_ok-number) → c.extend_from_slice.new.self.items ≡ c.args.children.now
@@ -41,3 +41,6 @@ returns-clause-tree c = rw (copied c, c.self.view_is) at (result_is c).is
 
 pub returns-clause-extends : goal.returns-clause-extends
 returns-clause-extends c = rw c.self.view_is at (kept c).extends
+
+pub returns-clause-one : goal.returns-clause-one
+returns-clause-one c = only_one c.insert_full.new.self.keys (record { number = c.in_ok-number.number }) (kept c) (result_is c).within

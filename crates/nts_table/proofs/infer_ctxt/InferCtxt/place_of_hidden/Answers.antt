@@ -30,7 +30,7 @@ returns-then-is_one_alias-clause-place c =
       old,
       record {
         at = c.hidden_type-old.ensures;
-        has = record { alias = yes.0; args = sym one ∙ c.same.ensures.0 yes.1 ∙ kept ∙ i.args };
+        has = record { alias = yes.0; args = sym one ∙ c.same.ensures.tree.0 yes.1 ∙ kept ∙ i.args };
         first = i.none;
       },
     )
@@ -49,5 +49,5 @@ loop-i-preserved c =
       within = IsIn-extended c.in_ok-old_args.ensures.extends _ i.within;
       args = kept ∙ i.args;
       none = none_more ts (content_of ts e) c.loop-i.i e.hidden.lookup c.args.hidden old i.none c.hidden_type-old.ensures
-          (λ (h : HasAliasOf ts (content_of ts e) old c.args.hidden). c.is_one_alias.ensures.no c.if-is_one_alias.false h.alias (c.same.ensures.1 (one ∙ h.args ∙ sym i.args ∙ sym kept)));
+          (λ (h : HasAliasOf ts (content_of ts e) old c.args.hidden). c.is_one_alias.ensures.no c.if-is_one_alias.false h.alias (c.same.ensures.tree.1 (one ∙ h.args ∙ sym i.args ∙ sym kept)));
     }

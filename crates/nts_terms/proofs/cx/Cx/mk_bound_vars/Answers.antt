@@ -1,9 +1,6 @@
-use Rattle.std.proofs.Common.{◌≡◌, List, arith}
-use Rattle.std.specs.Prelude.{Result, Ok, Err, IfOk, IsErrAnd, IsOkUnless}
+use Rattle.std.proofs.Common.{List, arith}
 use Rattle.nts_model.specs.Terms.Trees.{Tree}
 use Rattle.nts_store.specs.Growth.{Extends}
-use Rattle.nts_store.specs.declared.fault.Fault.{Fault}
-use Rattle.nts_store.specs.declared.fault.Fault.TheVariants.{Memory}
 use Rattle.nts_store.proofs.Growing.{Extends-trans}
 use Rattle.nts_terms.specs.Rest.{KeepsRest, Grows}
 use Rattle.nts_terms.specs.declared.cx.Cx.{Cx}
@@ -17,11 +14,6 @@ grown old mid ts rest up = record {
   rest = record { declarations = rest.declarations; limit = rest.limit; steps = rest.steps; rounds = rest.rounds; division = rest.division; fast_paths = rest.fast_paths };
 }
 
--- memory ran out
-no_vars : {T : Type 0} (P Q : T → Type 0) (G : Type 0) (r : Result T Fault) → IsErrAnd r (λ e. e ≡ Memory) → G → record { tree : IfOk r P; holds : IfOk r Q; grows : G; memory : IsOkUnless r Memory }
-no_vars P Q G (Ok x) h grows = absurd h
-no_vars P Q G (Err e) h grows = record { tree = tt; holds = tt; grows = grows; memory = h }
-
 pub loop-sort-preserved : goal.loop-sort-preserved
 loop-sort-preserved c = record {
   made = rw c.in_ok-push.ensures.items (one_sort_made c.args.self.now.nodes c.loop-sort.self.nodes c.make.new.self c.loop-sort.children.items c.args.sorts.now c.in_ok-node.node c.loop-sort.sort-index _ c.loop-sort.invariant.made c.in_ok-node.ensures.extends c.in_ok-node.ensures.within c.in_ok-node.ensures.tree (omega (arith, c.loop-sort-test.true)));
@@ -31,20 +23,17 @@ loop-sort-preserved c = record {
 pub make-requires-2-clause-formed : goal.make-requires-2-clause-formed
 make-requires-2-clause-formed c = rw (c.deref.ensures.value, c.loop-sort.invariant.made.are) (sorts_fit _)
 
-pub returns-in_err-node : goal.returns-in_err-node
-returns-in_err-node c =
-    let r = c.from_residual-in_err-node in
-    no_vars _ _ _ r.result r.ensures.1 (grown c.args.self.now c.loop-sort.self c.make.new.self c.loop-sort.invariant.rest (Extends-trans c.loop-sort.invariant.made.extends c.make.ensures.extends))
+pub returns-in_err-node-clause-grows : goal.returns-in_err-node-clause-grows
+returns-in_err-node-clause-grows c =
+    grown c.args.self.now c.loop-sort.self c.make.new.self c.loop-sort.invariant.rest (Extends-trans c.loop-sort.invariant.made.extends c.make.ensures.extends)
 
-pub returns-in_err-push : goal.returns-in_err-push
-returns-in_err-push c =
-    let r = c.from_residual-in_err-push in
-    no_vars _ _ _ r.result r.ensures.1 (grown c.args.self.now c.loop-sort.self c.make.new.self c.loop-sort.invariant.rest (Extends-trans c.loop-sort.invariant.made.extends c.make.ensures.extends))
+pub returns-in_err-push-clause-grows : goal.returns-in_err-push-clause-grows
+returns-in_err-push-clause-grows c =
+    grown c.args.self.now c.loop-sort.self c.make.new.self c.loop-sort.invariant.rest (Extends-trans c.loop-sort.invariant.made.extends c.make.ensures.extends)
 
-pub returns-in_err-node-2 : goal.returns-in_err-node-2
-returns-in_err-node-2 c =
-    let r = c.from_residual-in_err-node-2 in
-    no_vars _ _ _ r.result r.ensures.1 (grown c.args.self.now c.loop-sort.self c.make-2.new.self c.loop-sort.invariant.rest (Extends-trans c.loop-sort.invariant.made.extends c.make-2.ensures.extends))
+pub returns-in_err-node-2-clause-grows : goal.returns-in_err-node-2-clause-grows
+returns-in_err-node-2-clause-grows c =
+    grown c.args.self.now c.loop-sort.self c.make-2.new.self c.loop-sort.invariant.rest (Extends-trans c.loop-sort.invariant.made.extends c.make-2.ensures.extends)
 
 pub returns-clause-grows : goal.returns-clause-grows
 returns-clause-grows c =
