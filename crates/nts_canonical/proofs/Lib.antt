@@ -3,7 +3,6 @@ pub mod Built
 pub mod Canonizing
 pub mod Filled
 pub mod FilledQueries
-pub mod FoldedIn
 pub mod FoldedQueries
 pub mod Gathering
 pub mod Handed
@@ -15,6 +14,7 @@ pub mod Mapped
 pub mod PairLists
 pub mod Placing
 pub mod Registered
+pub mod Serving
 pub mod SubRooted
 pub mod Telling
 pub mod Trying

@@ -7,9 +7,11 @@ use Rattle.nts_model.specs.declared.labels.Label.TheVariants as label
 use Rattle.nts_model.specs.Terms.Trees.{Tree, empty, more, node, binders, kind_of_label, NodeKind, of_sort, arguments, environment, bound_predicate, statement, sort_list, one_sort, infer_of, variable_of}
 use Rattle.nts_model.specs.Tables.Contents.{Content}
 use Rattle.nts_model.specs.Tables.Resolving.{Knows, deeply_resolved}
+use Rattle.nts_model.specs.Terms.Substitutions.{filled}
 use Rattle.nts_model.specs.Canonical.Numbered.{seen}
 use Rattle.nts_model.specs.Answers.Responses.{is_fixed, positioned}
 use Rattle.nts_model.proofs.Tables.Resolved.{deeply_resolved-node, deeply_resolved-empty}
+use Rattle.nts_store.specs.Filled.{HasValues}
 use Rattle.nts_folding.specs.Folding.{StaysHere, StaysMade, MayAnswer, asked_as, HandsOver, AtBinder, Walk, done, next, answer, down}
 use Rattle.nts_canonical.specs.Mapping.{AnswersImage, IsAny, itself, same_state}
 use Rattle.nts_model.proofs.Tables.TableInstances.{deeply_resolved-more}
@@ -152,4 +154,27 @@ positioning = record {
   first = λ s a b p. tt;
   rest = λ s a b p. tt;
   below = λ s l c u p. tt;
+}
+
+-- values in place of positions
+filled_below : (s : List Tree) (l : Label) (c : Tree) → IsUnasked (asked_as (node l c)) → filled s (node l c) ≡ node l (filled s c)
+filled_below s (label.Leaf x) c h = absurd h
+filled_below s (label.Bound a b n) c h = absurd h
+filled_below s (label.Ty x) c h = refl
+filled_below s (label.Const x) c h = refl
+filled_below s (label.Clause x) c h = refl
+filled_below s (label.Predicate x) c h = refl
+filled_below s (label.List x) c h = refl
+
+pub filling : IsMapping HasValues filled same_state
+filling = record {
+  image_empty = λ s. refl;
+  image_more = λ s a b. refl;
+  image_node = filled_below;
+  after_empty = λ s. refl;
+  after_more = λ s a b. refl;
+  after_node = λ s l c u. refl;
+  first = λ s a b p. p.0;
+  rest = λ s a b p. p.1;
+  below = λ s l c u p. p.1;
 }

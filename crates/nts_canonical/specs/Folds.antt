@@ -1,4 +1,4 @@
--- What a folder that puts values in place of positions makes of a tree.
+-- What a growing store keeps of arguments, and of queries as folders see them.
 use Rattle.std.specs.Prelude.{◌≡◌, suc, List, [], ◌∷◌, Option, Some, None, All, map, refl}
 use Rattle.std.proofs.Common.{arith}
 use Rattle.nts_model.specs.Terms.Trees.{Tree, node, any_argument, arguments, environment, bound_predicate, is, a_type}
@@ -14,16 +14,6 @@ use Rattle.nts_folding.specs.FoldLaws.{Holds-kept, list_holds, same_pair, same_s
 use Rattle.nts_folding.specs.Folding.{tree_of_alias_args, tree_of_list}
 use Rattle.nts_canonical.specs.declared.types.QueryInput.{QueryInput}
 use Rattle.nts_canonical.specs.Forms.{trees_of, IsHidden, AreHidden, HoldsQuery}
-
--- the label names no position
-abbrev pub IsNoPosition : Tree → Type 0
-IsNoPosition (node l c) = position_of l ≡ None
-IsNoPosition t = Unit {0}
-
--- where the tree has values, an answer is the tree with them, and no answer is given for a position
-abbrev pub IsFoldAnswer : List Tree → Tree → Option Tree → Type 0
-IsFoldAnswer values x (Some y) = HasValues values x → y ≡ filled values x
-IsFoldAnswer values x None = HasValues values x → IsNoPosition x
 
 pub AreHeld-kept : (a b : List Tree) (xs : List GenericArg) → All (HoldsArg a) xs → Extends a b → All (HoldsArg b) xs
 AreHeld-kept a b xs h e = list_holds (HoldsArg a) (HoldsArg b) (λ x k. Holds-kept any_argument a b x.node k e) xs h

@@ -13,12 +13,13 @@ use nts_canonical::{
     canonicalize_goal, instantiate_canonical, instantiate_canonical_var, same_input,
 };
 use nts_fixtures::Fixture;
-use nts_model::Sort;
+use nts_model::{Sort, Variance};
+use nts_resolve::eager_resolve_vars;
 use nts_store::{EvalError, Fault};
 use nts_table::InferCtxt;
 use nts_terms::{
-    AliasDefId, AliasId, AliasTerm, ClauseKind, Cx, DefId, GenericArg, Goal, ParamEnv, Predicate,
-    PredicateKind, Span, TraitId, TraitRef, Ty, TypingMode,
+    AliasDefId, AliasId, AliasTerm, ClauseKind, CtorId, Cx, DefId, GenericArg, Goal, ParamEnv,
+    Predicate, PredicateKind, Span, TraitId, TraitRef, Ty, TypingMode,
 };
 use std::process::Abort;
 
@@ -35,6 +36,52 @@ pub fn declare(fixture: &mut Fixture, sorts: &[Sort]) -> Result<TraitId, EvalErr
     ensures { IsTable fixture.new.cx.nodes fixture.new.table }
 {
     Ok(fixture.cx.declare_trait(sorts)?)
+}
+
+/// A new constructor of two types, both invariant.
+pub fn declare_pair(fixture: &mut Fixture) -> Result<CtorId, EvalError>
+    requires { IsTable fixture.old.cx.nodes fixture.old.table }
+    ensures { IsTable fixture.new.cx.nodes fixture.new.table }
+{
+    let variances = [Variance::Invariant, Variance::Invariant];
+    Ok(fixture.cx.declare_ctor(&[Sort::Ty, Sort::Ty], &variances)?)
+}
+
+/// The constructor of two types over a type twice, and over that twice, and so on: that many levels.
+pub fn ladder(
+    fixture: &mut Fixture,
+    pair: CtorId,
+    lowest: GenericArg,
+    levels: u32,
+) -> Result<GenericArg, EvalError>
+    requires { IsTable fixture.old.cx.nodes fixture.old.table }
+    ensures { IsTable fixture.new.cx.nodes fixture.new.table }
+{
+    let mut top = lowest;
+    for _ in 0..levels {
+        top = fixture.apply(pair, &[top, top])?;
+    }
+    Ok(top)
+}
+
+/// Makes two arguments one.
+pub fn equate(fixture: &mut Fixture, x: GenericArg, y: GenericArg) -> Result<(), EvalError>
+    requires { IsTable fixture.old.cx.nodes fixture.old.table }
+    ensures { IsTable fixture.new.cx.nodes fixture.new.table }
+{
+    fixture.seen(x)?;
+    fixture.seen(y)?;
+    let (cx, table) = (&mut fixture.cx, &mut fixture.table);
+    table.eq_structurally_relating_aliases(cx, fixture.env, x, y, Span(0))
+}
+
+/// An argument with values of values in place of its variables.
+pub fn resolved(fixture: &mut Fixture, x: GenericArg) -> Result<GenericArg, EvalError>
+    requires { IsTable fixture.old.cx.nodes fixture.old.table }
+    ensures { IsTable fixture.new.cx.nodes fixture.new.table }
+{
+    fixture.seen(x)?;
+    Ok(eager_resolve_vars(&fixture.table, &mut fixture.cx, x)?)
 }
 
 /// Makes one sub-unification class of those of two variables.

@@ -7,3 +7,5 @@ mod canonical_tests;
 mod inputs;
 #[cfg(test)]
 mod merging_tests;
+#[cfg(test)]
+mod sharing_tests;
