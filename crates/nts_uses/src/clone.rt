@@ -1,7 +1,7 @@
 //! A store, two rules, and a goal.
 ghost use Rattle.std.specs.Prelude.{IfOk, IfSome, OnOk};
 ghost use Rattle.nts_store.specs.Growth.{Extends};
-ghost use Rattle.nts_terms.specs.Handles.{HoldsArg, HoldsTy, HoldsPredicate, HoldsGoal};
+ghost use Rattle.nts_terms.specs.Handles.{HoldsArg, HoldsTy, HoldsGoal};
 ghost use Rattle.nts_delegate.specs.Clauses.{AreClausesReady};
 ghost use Rattle.nts_terms.specs.Rest.{Grows};
 
@@ -9,31 +9,10 @@ use next_trait_solver::clauses::{Clause, Clauses};
 use next_trait_solver::delegate::GoalHandler;
 use next_trait_solver::solve::{evaluate_root_goal, goal_is_admitted};
 use next_trait_solver::ty::{
-    Binder, BoundTy, BoundVarIndexKind, Certainty, ClauseKind, CtorId, Cx, DefId, EvalError,
-    GenericArg, Goal, InferCtxt, Predicate, PredicateKind, Sort, Span, TraitId, TraitRef, Ty,
-    TyKind, TypingMode, UintTy, Variance,
+    BoundTy, BoundVarIndexKind, Certainty, CtorId, Cx, DefId, EvalError, GenericArg, Goal,
+    InferCtxt, Predicate, Sort, Span, TraitId, Ty, TyKind, TypingMode, UintTy, Variance,
 };
 use std::alloc::Global;
-
-/// That a trait holds for one argument, or nothing where it takes other arguments.
-pub(crate) fn holds_for(
-    cx: &mut Cx,
-    id: TraitId,
-    argument: GenericArg,
-) -> Result<Option<Predicate>, EvalError>
-    requires { HoldsArg cx.old.nodes argument }
-    ensures holds { IfOk result (λ p. IfSome p (HoldsPredicate cx.new.nodes)) }
-    ensures grows { Grows cx.old cx.new }
-{
-    let args = cx.mk_args(&[argument])?;
-    let vars = cx.mk_bound_vars(&[])?;
-    if !cx.holds(args) || !cx.fits(DefId::Trait(id), args) {
-        return Ok(None);
-    }
-    let trait_ref = TraitRef { def_id: id, args };
-    let value = PredicateKind::Clause(ClauseKind::Trait(trait_ref));
-    Ok(Some(cx.mk_predicate(Binder { vars, value })?))
-}
 
 /// Adds a rule: over variables of these sorts the trait holds for the argument where the conditions hold. It answers
 /// whether the rule fits.
@@ -110,7 +89,7 @@ pub(crate) fn add_rule_where(
     ensures grows { Grows cx.old cx.new }
 {
     let any = cx.mk_ty(TyKind::Bound(BoundVarIndexKind::Canonical, BoundTy { var: 0 }))?;
-    let Some(condition) = holds_for(cx, condition, any.into())? else {
+    let Some(condition) = cx.trait_predicate(condition, &[any.into()])? else {
         return Ok(false);
     };
     let Some(vec_of_any) = vec_of(cx, vec, any.into())? else {
@@ -169,7 +148,7 @@ pub fn clone_of_vec(alloc: Global) -> Result<Option<Certainty>, EvalError> {
     let Some(vec_of_word) = vec_of(&mut cx, vec, word.into())? else {
         return Ok(None);
     };
-    let Some(predicate) = holds_for(&mut cx, clone, vec_of_word.into())? else {
+    let Some(predicate) = cx.trait_predicate(clone, &[vec_of_word.into()])? else {
         return Ok(None);
     };
     let param_env = cx.mk_env(&[])?;

@@ -8,7 +8,7 @@ ghost use Rattle.nts_asking.specs.Evaluation.{IsPosed};
 ghost use Rattle.nts_contexts.specs.Related.{IsEnvOf};
 ghost use Rattle.nts_contexts.specs.Contexts.{IsContextReady, KeepsContext, IsGoalOfContext};
 
-use crate::clone::{add_rule, holds_for, vec_of};
+use crate::clone::{add_rule, vec_of};
 use crate::rule::is_plain;
 use next_trait_solver::clauses::Clauses;
 use next_trait_solver::solve::{EvalCtxt, goal_is_admitted};
@@ -144,13 +144,13 @@ pub fn goals_of_vec(alloc: Global) -> Result<Option<(usize, usize)>, EvalError> 
     if !cx.holds(element) {
         return Ok(None);
     }
-    let Some(first) = holds_for(&mut cx, clone, element)? else {
+    let Some(first) = cx.trait_predicate(clone, &[element])? else {
         return Ok(None);
     };
     if !cx.holds(other) {
         return Ok(None);
     }
-    let Some(second) = holds_for(&mut cx, clone, other)? else {
+    let Some(second) = cx.trait_predicate(clone, &[other])? else {
         return Ok(None);
     };
     let param_env = cx.mk_env(&[])?;

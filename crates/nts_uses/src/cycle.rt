@@ -3,7 +3,7 @@ ghost use Rattle.nts_table.specs.Tables.{IsTable};
 ghost use Rattle.nts_terms.specs.Handles.{HoldsGoal};
 ghost use Rattle.nts_delegate.specs.Clauses.{AreClausesReady};
 
-use crate::clone::{add_rule_of_vec, holds_for};
+use crate::clone::add_rule_of_vec;
 use next_trait_solver::clauses::Clauses;
 use next_trait_solver::search_graph::{SearchGraph, evaluate_goal, query_of};
 use next_trait_solver::solve::goal_is_admitted;
@@ -66,7 +66,7 @@ pub fn growing_answer(alloc: Global) -> Result<Option<Counted>, EvalError> {
     }
     let mut table = InferCtxt::new(alloc, TypingMode::PostAnalysis);
     let any = table.next_ty_infer(&mut cx)?;
-    let Some(predicate) = holds_for(&mut cx, auto, any.into())? else {
+    let Some(predicate) = cx.trait_predicate(auto, &[any.into()])? else {
         return Ok(None);
     };
     let param_env = cx.mk_env(&[])?;

@@ -1,5 +1,5 @@
 //! A handler of one's own beside a list of clauses.
-use crate::clone::{add_rule_where, ask, holds_for, vec_of};
+use crate::clone::{add_rule_where, ask, vec_of};
 use next_trait_solver::clauses::Clauses;
 use next_trait_solver::delegate::Both;
 use next_trait_solver::ty::{Certainty, Cx, EvalError, Goal, Sort, TyKind, UintTy, Variance};
@@ -22,7 +22,7 @@ pub fn clone_of_sized(alloc: Global) -> Result<Option<Certainty>, EvalError> {
     let Some(vec_of_word) = vec_of(&mut cx, vec, word.into())? else {
         return Ok(None);
     };
-    let Some(predicate) = holds_for(&mut cx, clone, vec_of_word.into())? else {
+    let Some(predicate) = cx.trait_predicate(clone, &[vec_of_word.into()])? else {
         return Ok(None);
     };
     let param_env = cx.mk_env(&[])?;

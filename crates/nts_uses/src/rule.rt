@@ -8,7 +8,7 @@ ghost use Rattle.nts_terms.specs.Rest.{Grows};
 ghost use Rattle.nts_asking.specs.Evaluation.{IsPosed};
 ghost use Rattle.nts_contexts.specs.Contexts.{IsContextReady, KeepsContext, IsGoalOfContext};
 
-use crate::clone::{add_rule, holds_for, vec_of};
+use crate::clone::{add_rule, vec_of};
 use next_trait_solver::clauses::Clauses;
 use next_trait_solver::solve::{EvalCtxt, goal_is_admitted};
 use next_trait_solver::ty::{
@@ -136,7 +136,7 @@ pub fn rule_of_vec(alloc: Global) -> Result<Option<Certainty>, EvalError> {
     if !cx.holds(element) {
         return Ok(None);
     }
-    let Some(predicate) = holds_for(&mut cx, clone, element)? else {
+    let Some(predicate) = cx.trait_predicate(clone, &[element])? else {
         return Ok(None);
     };
     let param_env = cx.mk_env(&[])?;
