@@ -1,3 +1,4 @@
+mod AssumedExamples
 pub mod Found
 pub mod Indexing
 pub mod Merging

@@ -19,7 +19,7 @@ either h k =
     }
 
 -- what stands in one of two lists, one behind the other
-parted : {X : Type 0} (xs ys : List X) (x : X) → Among (xs ++ ys) x → Among xs x ⊎ Among ys x
+pub parted : {X : Type 0} (xs ys : List X) (x : X) → Among (xs ++ ys) x → Among xs x ⊎ Among ys x
 parted [] ys x a = inr a
 parted (y ∷ xs) ys x (inl e) = inl (inl e)
 parted (y ∷ xs) ys x (inr a) = later (parted xs ys x a)
@@ -70,12 +70,12 @@ IsLawfulHandler-either h k p q =
     record { commute = commute h k p.commute q.commute; rules = rules h k p.rules q.rules; sources = sources h k p.sources q.sources; keep = keep h k p.keep q.keep }
 
 -- what one of them offers for a rule covers it
-in_first : {X : Type 0} (xs ys : List X) (x : X) → Among xs x → Among (xs ++ ys) x
+pub in_first : {X : Type 0} (xs ys : List X) (x : X) → Among xs x → Among (xs ++ ys) x
 in_first [] ys x a = absurd a
 in_first (y ∷ xs) ys x (inl e) = inl e
 in_first (y ∷ xs) ys x (inr a) = inr (in_first xs ys x a)
 
-in_second : {X : Type 0} (xs ys : List X) (x : X) → Among ys x → Among (xs ++ ys) x
+pub in_second : {X : Type 0} (xs ys : List X) (x : X) → Among ys x → Among (xs ++ ys) x
 in_second [] ys x a = a
 in_second (y ∷ xs) ys x a = inr (in_second xs ys x a)
 

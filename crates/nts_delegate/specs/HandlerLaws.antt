@@ -28,17 +28,17 @@ use Rattle.nts_delegate.specs.OwnClauses.{IsOwnTerm, AreOwnTerms, IsOwnClause, A
 use Rattle.nts_model.proofs.Terms.Substituting.{no_children as no_places}
 
 -- a goal that is asked is a trait's, or has no offers
-record IsTraitGoal (g : Tree) : Type 0 where
+pub record IsTraitGoal (g : Tree) : Type 0 where
   pub of_trait : ℕ
   pub with_arguments : Tree
   pub row : IsRow with_arguments
   pub is : g ≡ trait_goal of_trait with_arguments
 
-record IsOtherGoal (g : Tree) : Type 0 where
+pub record IsOtherGoal (g : Tree) : Type 0 where
   pub none : trait_of g ≡ None
   pub none_under : (f : Leaf → Tree) → trait_of (replace f g) ≡ None
 
-record AreArguments (ts : Tree) : Type 0 where
+pub record AreArguments (ts : Tree) : Type 0 where
   pub with_arguments : Tree
   pub row : IsRow with_arguments
   pub is : ts ≡ arguments with_arguments
@@ -48,7 +48,7 @@ row_of empty h = tt
 row_of (more a b) h = row_of b h.1
 row_of (node l c) h = absurd h
 
-one_list : (ts : Tree) → HavePlaces (trees.is trees.arguments ∷ []) ts → IsFormed ts → AreArguments ts
+pub one_list : (ts : Tree) → HavePlaces (trees.is trees.arguments ∷ []) ts → IsFormed ts → AreArguments ts
 one_list empty p f = absurd p
 one_list (more a b) p f =
     let listed : a ≡ node (label.List list.Args) (children a) = args_tree a p.0 in
@@ -72,7 +72,7 @@ goal_shape s h f = absurd h
 formed_goal : (e g : Tree) → (h : IsAsked e g) → IsFormed (pair e (unbound h.statement))
 formed_goal e g h = rw h.binds_nothing at h.formed
 
-trait_or_other : (e g : Tree) → IsAsked e g → IsTraitGoal g ⊎ IsOtherGoal g
+pub trait_or_other : (e g : Tree) → IsAsked e g → IsTraitGoal g ⊎ IsOtherGoal g
 trait_or_other e g h = rw h.binds_nothing (goal_shape h.statement h.handlers (formed_goal e g h).1.0.1.1.0)
 
 -- what the clauses that take as many arguments offer
@@ -130,14 +130,14 @@ commute clauses is_coinductive own =
 -- instances of candidates are rules
 
 -- what is asked for a trait: an environment and arguments without positions
-record IsAskedOf (e us : Tree) : Type 0 where
+pub record IsAskedOf (e us : Tree) : Type 0 where
   pub environment : any_label is_canonical e ≡ false
   pub arguments : any_label is_canonical us ≡ false
 
 or_false : (p : Bool) → (p || false) ≡ false → p ≡ false
 or_false p h = (both_false p false h).0
 
-asked_of : (e us : Tree) (i : ℕ) → any_label is_canonical (pair e (trait_goal i us)) ≡ false → IsAskedOf e us
+pub asked_of : (e us : Tree) (i : ℕ) → any_label is_canonical (pair e (trait_goal i us)) ≡ false → IsAskedOf e us
 asked_of e us i h =
     let s = both_false (any_label is_canonical e) (any_label is_canonical (more (trait_goal i us) empty)) h in
     record {
@@ -178,7 +178,7 @@ instance_shape clauses own e g c ι a n (inr o) among is =
     let nothing : Among (offers_by clauses e None) c = rw o.none at among in absurd nothing
 
 -- rules are closed under instances
-values_under : (ι : Instance) (ss : List Sort) (vs : List Tree) → AreValuesOf ss vs → AreValuesOf ss (map (instance_of ι) vs)
+pub values_under : (ι : Instance) (ss : List Sort) (vs : List Tree) → AreValuesOf ss vs → AreValuesOf ss (map (instance_of ι) vs)
 values_under ι [] [] h = tt
 values_under ι [] (v ∷ vs) h = absurd h
 values_under ι (s ∷ ss) [] h = absurd h
@@ -230,7 +230,7 @@ rest_over : (fresh : List Sort) (e g a b : Tree) → IsOver fresh e g (more a b)
 rest_over fresh e g a b o =
     record { names = o.names.1; leaves = λ l x. o.leaves l (inr x); formed = o.formed.1; closed = o.closed.1; well_bound = o.well_bound.1 }
 
-equations_over : (fresh : List Sort) (e g us hs : Tree) → IsOver fresh e g us → IsOver fresh e g hs → (q : Equation) → Among (equations_of us hs) q → IsEquationOver fresh e g q
+pub equations_over : (fresh : List Sort) (e g us hs : Tree) → IsOver fresh e g us → IsOver fresh e g hs → (q : Equation) → Among (equations_of us hs) q → IsEquationOver fresh e g q
 equations_over fresh e g (more a us) (more b hs) u h q (inl i) =
     rw i (first_over fresh e g a us u, first_over fresh e g b hs h)
 equations_over fresh e g (more a us) (more b hs) u h q (inr i) =
@@ -253,7 +253,7 @@ goals_over fresh e g (p ∷ ps) o q (inl i) =
     rw i (record { environment = refl; predicate = own_over fresh e g p o.0; emitted = emitted (statement_of p) (own_statement p o.0.own); source = tt })
 goals_over fresh e g (p ∷ ps) o q (inr i) = goals_over fresh e g ps o.1 q i
 
-args_over : (fresh : List Sort) (e us : Tree) (i : ℕ) → IsAsked e (trait_goal i us) → IsOver fresh e (trait_goal i us) us
+pub args_over : (fresh : List Sort) (e us : Tree) (i : ℕ) → IsAsked e (trait_goal i us) → IsOver fresh e (trait_goal i us) us
 args_over fresh e us i h =
     let said : node (label.Clause (clause.Trait i)) (arguments us) ≡ h.statement = ap statement_of h.binds_nothing in
     let closed : IsClosed (pair e (node (label.Clause (clause.Trait i)) (arguments us))) = rw (← said) at h.closed in
@@ -319,18 +319,18 @@ offer_has (c ∷ cs) d e us (inr i) t = later (takes_all us c) (offer_has cs d e
     later true j = inr j
     later false j = j
 
-mapped_among : {X Y : Type 0} (f : X → Y) (xs : List X) (x : X) → Among xs x → Among (map f xs) (f x)
+pub mapped_among : {X Y : Type 0} (f : X → Y) (xs : List X) (x : X) → Among xs x → Among (map f xs) (f x)
 mapped_among f [] x i = absurd i
 mapped_among f (y ∷ xs) x (inl e) = inl (ap f e)
 mapped_among f (y ∷ xs) x (inr i) = inr (mapped_among f xs x i)
 
-one_trait : (i j : ℕ) (us vs : Tree) → trait_goal i us ≡ trait_goal j vs → i ≡ j
+pub one_trait : (i j : ℕ) (us vs : Tree) → trait_goal i us ≡ trait_goal j vs → i ≡ j
 one_trait i j us vs e = cc e
 
-one_row : (i j : ℕ) (us vs : Tree) → trait_goal i us ≡ trait_goal j vs → us ≡ vs
+pub one_row : (i j : ℕ) (us vs : Tree) → trait_goal i us ≡ trait_goal j vs → us ≡ vs
 one_row i j us vs e = cc e
 
-none_trait : (i : ℕ) (us : Tree) → None ≡ trait_of (trait_goal i us) → ⊥
+pub none_trait : (i : ℕ) (us : Tree) → None ≡ trait_of (trait_goal i us) → ⊥
 none_trait i us e = cc e
 
 covered_trait : (clauses : ClausesOfTraits) → AreOwn clauses → (is_coinductive : ℕ → Bool) (e : Tree) (i : ℕ) (us : Tree) (ι : Instance) (a : Application) → IsRow us → IsAskedOf e us → IsInstanceOfClause clauses a

@@ -1,4 +1,8 @@
 pub mod Adding
+pub mod Assumed
+pub mod AssumedOffers
+pub mod Assuming
+pub mod Assumptions
 pub mod Both
 pub mod Candidates
 pub mod ClauseHandlers
@@ -12,5 +16,7 @@ pub mod Offers
 pub mod OwnClauses
 pub mod OwnTerms
 pub mod Places
+pub mod Positioned
+pub mod PositionedTerms
 pub mod Relevant
 pub mod SameHandlers

@@ -66,7 +66,7 @@ own_filled_under f k vs (node l c) h w =
     ap (value_or (position_of l) vs) (own_put_filled f k vs l c (filled_under f vs c) s.0 w (own_filled_under f k vs c s.1 w.1))
 
 -- values that are replaced
-value_replaced : (f : Leaf → Tree) (vs : List Tree) (i : ℕ) → replace f (get_or vs i empty) ≡ get_or (map (replace f) vs) i empty
+pub value_replaced : (f : Leaf → Tree) (vs : List Tree) (i : ℕ) → replace f (get_or vs i empty) ≡ get_or (map (replace f) vs) i empty
 value_replaced f [] i = refl
 value_replaced f (v ∷ vs) zero = refl
 value_replaced f (v ∷ vs) (suc i) = value_replaced f vs i
