@@ -6,4 +6,3 @@ mod Mapping
 mod OpeningLemmas
 mod Reaching
 mod Relabelling
-mod Walking

@@ -5,5 +5,4 @@ pub mod Inverse
 pub mod Knowing
 pub mod Opening
 pub mod OpeningLaws
-pub mod Under
 pub mod Universes

@@ -10,10 +10,9 @@ ghost use Rattle.nts_placeholder.specs.Closing.{mapped, placeholder_of, closed_l
 ghost use Rattle.nts_placeholder.specs.ClosingLaws.{Closing, CanClose, closing_of, closing_of-empty, closing_of-more, CanClose-more, closing_of-kind};
 
 use crate::maps::{Placeholder, PlaceholderMaps};
-use crate::under::{Place, ReplacerUnder, replace_under};
 use crate::universes::entry_of_universe;
 use nts_model::{BoundVarIndexKind, Constant, FreeRegion, Label, Leaf, Sort};
-use nts_store::{Fault, NodeId, Nodes};
+use nts_store::{Fault, NodeId, Nodes, Place, ReplacerUnder, replace_under};
 use nts_table::{InferCtxt, resolve_nodes};
 use nts_terms::{Cx, Stored, UniverseIndex};
 use std::alloc::{AllocError, Global};

@@ -6,11 +6,10 @@ mod escaping;
 mod laws;
 mod maps;
 mod opening;
-mod under;
 mod universes;
 
 pub use closing::PlaceholderReplacer;
 pub use laws::{closing_gives_back, known_stays_known};
 pub use maps::{BoundVar, Placeholder, PlaceholderMaps};
+pub use nts_store::{Place, ReplacerUnder, replace_under};
 pub use opening::BoundVarReplacer;
-pub use under::{Place, ReplacerUnder, replace_under};

@@ -19,10 +19,9 @@ ghost use Rattle.nts_placeholder.specs.OpeningLaws.{CanOpen, opened_by-empty, op
 
 use crate::escaping::{Escaping, escaping_variables, is_closed_under};
 use crate::maps::{Placeholder, PlaceholderMaps};
-use crate::under::{Place, ReplacerUnder, replace_under};
 use crate::universes::{Filled, fill, reach_of, universe_of_entry};
 use nts_model::{BoundVarIndexKind, Constant, FreeRegion, Label, Leaf, Sort};
-use nts_store::{Fault, NodeId, Nodes};
+use nts_store::{Fault, NodeId, Nodes, Place, ReplacerUnder, replace_under};
 use nts_table::InferCtxt;
 use nts_terms::{Cx, Stored, UniverseIndex};
 use std::alloc::{AllocError, Global};

@@ -9,4 +9,5 @@ pub mod Pending
 pub mod Reading
 pub mod Replacing
 pub mod SharingExamples
+pub mod Walking
 pub mod WellBound

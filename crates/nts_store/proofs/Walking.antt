@@ -14,11 +14,11 @@ use Rattle.nts_store.specs.Kept.{map-kept}
 use Rattle.nts_store.specs.Replacement.{IsFormedNode}
 use Rattle.nts_store.proofs.Growing.{IsIn-extended, AllIn-extended, AllIn-push}
 use Rattle.nts_store.proofs.Replacing.{map-push, row, row-trees, IsRow-Meets, AllIn-take, AllIn-drop, MayBuild, row_drop}
-use Rattle.nts_placeholder.specs.declared.under.Place.{Place}
-use Rattle.nts_placeholder.specs.declared.under.Task.{Task}
-use Rattle.nts_placeholder.specs.declared.under.Task.TheVariants as task
-use Rattle.nts_placeholder.specs.contracts.under.PlacePartialEq.TheImpl as place_eq
-use Rattle.nts_placeholder.specs.Under.{GoesInside, Job, enter, build, job, jobs, place_of, IsTaskAt, AreTasksFrom, AreTasksUnder, entered, building}
+use Rattle.nts_store.specs.declared.under.Place.{Place}
+use Rattle.nts_store.specs.declared.under.Task.{Task}
+use Rattle.nts_store.specs.declared.under.Task.TheVariants as task
+use Rattle.nts_store.specs.contracts.under.PlacePartialEq.TheImpl as place_eq
+use Rattle.nts_store.specs.Under.{GoesInside, Job, enter, build, job, jobs, place_of, IsTaskAt, AreTasksFrom, AreTasksUnder, entered, building}
 
 pub same_place : (p q : Place) → place_eq.ghosts.eq p q ≡ true → p ≡ q
 same_place p q h = search rules

@@ -8,3 +8,4 @@ pub mod Levels
 pub mod Replacement
 pub mod Sorts
 pub mod Store
+pub mod Under

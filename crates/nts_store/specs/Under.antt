@@ -4,9 +4,9 @@ use Rattle.nts_model.specs.declared.labels.Label.{Label}
 use Rattle.nts_model.specs.Terms.Trees.{Tree, empty, more, node, row_length, binders}
 use Rattle.nts_store.specs.declared.nodes.NodeId.{NodeId}
 use Rattle.nts_store.specs.Growth.{tree_at, IsIn}
-use Rattle.nts_placeholder.specs.declared.under.Place.{Place}
-use Rattle.nts_placeholder.specs.declared.under.Task.{Task}
-use Rattle.nts_placeholder.specs.declared.under.Task.TheVariants as task
+use Rattle.nts_store.specs.declared.under.Place.{Place}
+use Rattle.nts_store.specs.declared.under.Task.{Task}
+use Rattle.nts_store.specs.declared.under.Task.TheVariants as task
 
 -- the image of a node under d binders is the node with the images of its children, under its own binders too
 abbrev pub GoesInside : (ℕ → Tree → Type 0) → (ℕ → Tree → Tree) → ℕ → Tree → Type 0

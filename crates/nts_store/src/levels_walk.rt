@@ -84,7 +84,7 @@ fn next_level(
 }
 
 /// Whether no bound variable of that level or above escapes.
-fn is_closed_under(nodes: &Nodes, level: usize, t: NodeId) -> bool
+pub fn is_closed_under(nodes: &Nodes, level: usize, t: NodeId) -> bool
     requires { IsIn nodes.now t }
     ensures { result ≡ true → IsClosedUnder level (tree_at nodes.now t) }
 {

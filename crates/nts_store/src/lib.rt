@@ -13,11 +13,14 @@ mod nodes;
 mod replacement;
 mod sorts;
 mod type_flags;
+mod under;
 
 pub use fault::{EvalError, Fault};
 pub use instantiate::instantiate_canonical;
 pub use labels_walk::{LabelTest, all_labels};
+pub use levels_walk::is_closed_under;
 pub use nodes::{NodeId, Nodes};
 pub use replacement::{Replacer, Step, Task, push_node, replace};
 pub use sorts::sort_of;
 pub use type_flags::{TypeFlags, binders_of, may_vary};
+pub use under::{Place, ReplacerUnder, replace_under};

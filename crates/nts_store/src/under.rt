@@ -1,14 +1,15 @@
 //! One walk that replaces parts of a term by how many binders stand around them.
 ghost use Rattle.std.specs.Prelude.{◌≡◌, ◌++◌, ◌^◌, ◌<◌, ◌≤◌, [], ℕ, None, length, IfOk, OnOk};
 ghost use Rattle.std.specs.HashMap.{get};
-ghost use Rattle.nts_placeholder.specs.declared.under.Place.{Place};
+ghost use Rattle.nts_store.specs.declared.under.Place.{Place};
 ghost use Rattle.nts_model.specs.Terms.Trees.{Tree, empty, more, kind_of};
 ghost use Rattle.nts_store.specs.Growth.{tree_at, IsIn, Extends};
 ghost use Rattle.nts_store.specs.Replacement.{IsFormedNode};
-ghost use Rattle.nts_placeholder.specs.Under.{IsStepUnder, jobs, AreTasksUnder, building};
+ghost use Rattle.nts_store.specs.Under.{IsStepUnder, jobs, AreTasksUnder, building};
 
+use crate::nodes::{NodeId, Nodes};
+use crate::type_flags::binders_of;
 use nts_model::Label;
-use nts_store::{NodeId, Nodes, binders_of};
 use std::alloc::{AllocError, Global};
 use std::collections::HashMap;
 

@@ -2,10 +2,10 @@ use Rattle.std.proofs.Common.{◌≡◌, ◌≤◌, ◌+◌, ◌-◌, ◌++◌, 
 use Rattle.nts_model.specs.Terms.Trees.{binders}
 use Rattle.nts_store.specs.Growth.{tree_at}
 use Rattle.nts_store.proofs.Replacing.{formed_node}
-use Rattle.nts_placeholder.specs.Under.{AreTasksUnder}
-use Rattle.nts_placeholder.specs.declared.under.Task.TheVariants as task
-use Rattle.nts_placeholder.proofs.Walking.{binders_small, pushed_start, pushed_step, pushed_all, AreTasksUnder-push}
-use Rattle.nts_placeholder.proofs.under.push_node.Goals as goal
+use Rattle.nts_store.specs.Under.{AreTasksUnder}
+use Rattle.nts_store.specs.declared.under.Task.TheVariants as task
+use Rattle.nts_store.proofs.Walking.{binders_small, pushed_start, pushed_step, pushed_all, AreTasksUnder-push}
+use Rattle.nts_store.proofs.under.push_node.Goals as goal
 
 pub loop-i-preserved : goal.loop-i-preserved
 loop-i-preserved c =

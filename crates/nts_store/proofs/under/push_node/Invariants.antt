@@ -1,6 +1,6 @@
 use Rattle.nts_store.specs.Growth.{tree_at}
-use Rattle.nts_placeholder.proofs.Walking.{PushedFrom}
-use Rattle.nts_placeholder.proofs.under.push_node.Given as goal
+use Rattle.nts_store.proofs.Walking.{PushedFrom}
+use Rattle.nts_store.proofs.under.push_node.Given as goal
 
 abbrev pub decreases-loop-i : goal.decreases-loop-i
 decreases-loop-i l = l.i

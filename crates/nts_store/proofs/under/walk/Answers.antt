@@ -3,11 +3,11 @@ use Rattle.std.proofs.Common.{Some, sym, ap, ◌∙◌, ◌≡◌, ◌++◌, ◌
 use Rattle.nts_store.specs.Growth.{tree_at}
 use Rattle.nts_store.proofs.Growing.{Extends-trans}
 use Rattle.nts_store.proofs.Replacing.{MayBuild, slice_to_end}
-use Rattle.nts_placeholder.specs.contracts.under.PlacePartialEq.TheImpl as place_eq
-use Rattle.nts_placeholder.specs.Under.{GoesInside, IsStepUnder}
-use Rattle.nts_placeholder.proofs.Walking.{AreLaws, IsKnown, MayEnter, may_enter, may_build, may_keep, known_later, known_more, ends_done, ends_down, ends_known, ends_build, less_after, less_known, less_down, AreTasksUnder-extended}
-use Rattle.nts_placeholder.proofs.under.walk.Given.{Over}
-use Rattle.nts_placeholder.proofs.under.walk.Goals as goal
+use Rattle.nts_store.specs.contracts.under.PlacePartialEq.TheImpl as place_eq
+use Rattle.nts_store.specs.Under.{GoesInside, IsStepUnder}
+use Rattle.nts_store.proofs.Walking.{AreLaws, IsKnown, MayEnter, may_enter, may_build, may_keep, known_later, known_more, ends_done, ends_down, ends_known, ends_build, less_after, less_known, less_down, AreTasksUnder-extended}
+use Rattle.nts_store.proofs.under.walk.Given.{Over}
+use Rattle.nts_store.proofs.under.walk.Goals as goal
 
 laws : (g : Over) (m : g.R.ReplacerUnder.Meaning) → AreLaws (g.R.ReplacerUnder.covers m) (g.R.ReplacerUnder.image m)
 laws g m =

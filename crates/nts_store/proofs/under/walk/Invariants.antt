@@ -1,9 +1,9 @@
 use Rattle.std.specs.HashMap.{get}
 use Rattle.nts_store.specs.Growth.{tree_at, Extends}
-use Rattle.nts_placeholder.specs.contracts.under.PlacePartialEq.TheImpl as place_eq
-use Rattle.nts_placeholder.specs.Under.{jobs}
-use Rattle.nts_placeholder.proofs.Walking.{EndsWith, Known, weights}
-use Rattle.nts_placeholder.proofs.under.walk.Given as goal
+use Rattle.nts_store.specs.contracts.under.PlacePartialEq.TheImpl as place_eq
+use Rattle.nts_store.specs.Under.{jobs}
+use Rattle.nts_store.proofs.Walking.{EndsWith, Known, weights}
+use Rattle.nts_store.proofs.under.walk.Given as goal
 
 abbrev pub invariant-loop-task : goal.invariant-loop-task
 invariant-loop-task g l =
