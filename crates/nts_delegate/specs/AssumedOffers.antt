@@ -28,11 +28,11 @@ record IsEnvOf (f : Leaf → Tree) (e rows : Tree) : Type 0 where
   pub is : e ≡ node (label.List list.Env) own
   pub same : rows ≡ replace f own
 
-abbrev own_rows : Tree → Tree
+abbrev pub own_rows : Tree → Tree
 own_rows (node l ps) = ps
 own_rows t = empty
 
-env_is : (e : Tree) → kind_of e ≡ Some environment → e ≡ node (label.List list.Env) (own_rows e)
+pub env_is : (e : Tree) → kind_of e ≡ Some environment → e ≡ node (label.List list.Env) (own_rows e)
 env_is (node (label.List list.Env) ps) k = refl
 env_is (node (label.List list.Args) ps) k = cc
 env_is (node (label.List list.Sorts) ps) k = cc
@@ -63,7 +63,7 @@ row_of_instance f t (more p ps) h k (inr i) =
     record { predicate = r.predicate; among = inr r.among; kind = r.kind; formed = r.formed; same = r.same }
 row_of_instance f t (node l c) h k i = absurd h
 
-among_over : (i : ℕ) (us p ps : Tree) (c : Candidate) → IsInRow p ps → Among (offer_if i us p (trait_of p)) c → Among (offers_over i us ps) c
+pub among_over : (i : ℕ) (us p ps : Tree) (c : Candidate) → IsInRow p ps → Among (offer_if i us p (trait_of p)) c → Among (offers_over i us ps) c
 among_over i us p empty c m a = absurd m
 among_over i us p (more q ps) c (inl e) a =
     in_first (offer_if i us q (trait_of q)) (offers_over i us ps) c (subst (λ z. Among (offer_if i us z (trait_of z)) c) e a)

@@ -68,7 +68,7 @@ AreOffered-handler_of ts h f r = AreOffered-clauses (clauses_in_store ts h) (coi
 pair_read : (ts : List Tree) (a b : Tree) (q : EquationData) → IsArgumentPair ts a b q → equation_of ts q ≡ equation_as q.kind a b
 pair_read ts a b q p = cc (p.left, p.right)
 
-pairs_read : (ts : List Tree) (us vs : Tree) (qs : List EquationData) → AreArgumentPairs ts us vs qs → map (equation_of ts) qs ≡ equations_of us vs
+pub pairs_read : (ts : List Tree) (us vs : Tree) (qs : List EquationData) → AreArgumentPairs ts us vs qs → map (equation_of ts) qs ≡ equations_of us vs
 pairs_read ts empty empty [] p = refl
 pairs_read ts (more a us) (more b vs) (q ∷ qs) p =
     let here = pair_read ts a b q p.0 ∙ ap (λ k. equation_as k a b) p.0.kind in

@@ -9,6 +9,7 @@ pub mod ClauseHandlers
 pub mod Clauses
 pub mod ClausesKept
 pub mod ClausesLawful
+pub mod EnvironmentRows
 pub mod HandlerLaws
 pub mod Keeping
 pub mod Offered

@@ -32,6 +32,22 @@ valued_closed vs c empty h = refl
 valued_closed vs c (more a b) h = let x = valued_closed vs c a h.0 in let y = valued_closed vs c b h.1 in cc (x, y)
 valued_closed vs c (node l t) h = given_at_closed vs c l t (valued vs (c + binders l) t) h.0 (valued_closed vs (c + binders l) t h.1)
 
+-- .. also where positions are put in
+stays_at : (c : ℕ) (l : Label) (t x : Tree) → IsBoundBelow c l → x ≡ t → positioned_at c l x ≡ node l t
+stays_at c (label.Bound s (index.Bound d) n) t x h e = rw (not_same d c h) (ap (node (label.Bound s (index.Bound d) n)) e)
+stays_at c (label.Bound s index.Canonical n) t x h e = ap (node (label.Bound s index.Canonical n)) e
+stays_at c (label.Leaf y) t x h e = ap (node (label.Leaf y)) e
+stays_at c (label.Ty y) t x h e = ap (node (label.Ty y)) e
+stays_at c (label.Const y) t x h e = ap (node (label.Const y)) e
+stays_at c (label.Clause y) t x h e = ap (node (label.Clause y)) e
+stays_at c (label.Predicate y) t x h e = ap (node (label.Predicate y)) e
+stays_at c (label.List y) t x h e = ap (node (label.List y)) e
+
+pub stays_positioned : (c : ℕ) (t : Tree) → IsClosedUnder c t → positioned c t ≡ t
+stays_positioned c empty h = refl
+stays_positioned c (more a b) h = let x = stays_positioned c a h.0 in let y = stays_positioned c b h.1 in cc (x, y)
+stays_positioned c (node l t) h = stays_at c l t (positioned (c + binders l) t) h.0 (stays_positioned (c + binders l) t h.1)
+
 -- leaves stand for trees in which nothing names a binder around
 abbrev pub AreClosedBelow : (Leaf → Tree) → Type 0
 AreClosedBelow f = (c : ℕ) (l : Leaf) → IsClosedUnder c (f l)

@@ -24,7 +24,7 @@ kind_at c (label.Clause y) x t = refl
 kind_at c (label.Predicate y) x t = refl
 kind_at c (label.List y) x t = refl
 
-kind_positioned : (c : ℕ) (t : Tree) → kind_of (positioned c t) ≡ kind_of t
+pub kind_positioned : (c : ℕ) (t : Tree) → kind_of (positioned c t) ≡ kind_of t
 kind_positioned c empty = refl
 kind_positioned c (more a b) = refl
 kind_positioned c (node l t) = kind_at c l (positioned (c + binders l) t) t

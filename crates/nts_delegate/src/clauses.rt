@@ -354,7 +354,7 @@ fn head_of_clause(cx: &Cx, clause: &Clause) -> Option<TyHead>
 }
 
 /// The trait and the arguments that a trait's goal is about.
-fn trait_of_statement(kind: PredicateKind) -> Option<TraitRef>
+pub(crate) fn trait_of_statement(kind: PredicateKind) -> Option<TraitRef>
     ensures is { (ts : List Tree) → trait_read (tree_of_statement ts kind) ≡ read_trait ts result }
     ensures holds { (ts : List Tree) → StatementFits ts kind → HoldsTrait ts result }
 {
@@ -417,7 +417,7 @@ fn offer_of(
 }
 
 /// Each argument with the one of the head at its position.
-fn pairs_of(
+pub(crate) fn pairs_of(
     alloc: Global,
     cx: &Cx,
     args: GenericArgs,

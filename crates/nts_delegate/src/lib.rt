@@ -1,12 +1,16 @@
 //! What offers the rules of traits: the handler and its laws, and a handler that is a list of clauses.
 #![tactic(auto)]
 
+mod assembly;
+mod assumptions;
 mod both;
 mod clause_fits;
 mod clauses;
 mod delegate;
 mod head_index;
 
+pub use assembly::Assembly;
+pub use assumptions::Assumptions;
 pub use both::Both;
 pub use clause_fits::{is_foreign_leaf_of, names_fresh};
 pub use clauses::{Clause, Clauses};

@@ -1,0 +1,107 @@
+//! The clauses of an environment before the rules of another handler.
+ghost use Rattle.std.specs.Prelude.{◌≡◌};
+
+use crate::assumptions::Assumptions;
+use crate::both::Both;
+use crate::delegate::{CandidateData, GoalHandler};
+use nts_store::Fault;
+use nts_terms::{Cx, Goal, TraitId, TypingMode};
+
+/// A handler by which the environment of a goal is assumed: it offers the environment's clauses of the goal's trait, and then
+/// what the other handler offers, as a list of clauses. All else is as in that one.
+#[derive(Drop)]
+pub struct Assembly<C: GoalHandler + Drop> {
+    rules: Both<Assumptions, C>,
+}
+
+impl<C: GoalHandler + Drop> Assembly<C> {
+    /// The environment's clauses, and then these. It takes no memory.
+    pub fn new(clauses: C) -> Self
+        ensures { result.rules.second ≡ clauses }
+    {
+        Assembly {
+            rules: Both {
+                first: Assumptions,
+                second: clauses,
+            },
+        }
+    }
+}
+
+impl<C: GoalHandler + Drop> GoalHandler for Assembly<C> {
+    ghost use Rattle.nts_delegate.specs.Assumptions.{assuming};
+    ghost use Rattle.nts_delegate.specs.Assumed.{IsLawfulHandler-assuming};
+    ghost use Rattle.nts_delegate.specs.AssumedOffers.{RulesAreOffered-assuming, MeansSame-assuming};
+    ghost use Rattle.nts_delegate.specs.Both.{either, IsLawfulHandler-either, RulesAreOffered-either, MeansSame-either};
+
+    ghost ready = { λ ts s. C.ready ts s.rules.second };
+
+    ghost handler = { λ ts s. either assuming (C.handler ts s.rules.second) };
+
+    fn candidates(
+        &self,
+        cx: &mut Cx,
+        mode: &TypingMode,
+        goal: Goal,
+    ) -> Result<Vec<CandidateData>, Fault> {
+        self.rules.candidates(cx, mode, goal)
+    }
+
+    fn relevant_candidates(
+        &self,
+        cx: &mut Cx,
+        mode: &TypingMode,
+        goal: Goal,
+    ) -> Result<Vec<CandidateData>, Fault> {
+        self.rules.relevant_candidates(cx, mode, goal)
+    }
+
+    fn trait_is_coinductive(&self, id: TraitId) -> bool {
+        self.rules.trait_is_coinductive(id)
+    }
+
+    ghost lawful = { λ ts s f r. IsLawfulHandler-either assuming (C.handler ts s.rules.second) IsLawfulHandler-assuming (C.lawful ts s.rules.second f r) };
+
+    ghost offered = { λ ts s f r. RulesAreOffered-either assuming (C.handler ts s.rules.second) RulesAreOffered-assuming (C.offered ts s.rules.second f r) };
+
+    ghost handler_kept = { λ a b s r e. MeansSame-either MeansSame-assuming (C.handler_kept a b s.rules.second r e) };
+
+    ghost ready_kept = { λ a b s h e. C.ready_kept a b s.rules.second h e };
+}
+
+/// A handler that is lent.
+impl<H: GoalHandler> GoalHandler for &H {
+    ghost ready = { λ ts s. H.ready ts s.now };
+
+    ghost handler = { λ ts s. H.handler ts s.now };
+
+    fn candidates(
+        &self,
+        cx: &mut Cx,
+        mode: &TypingMode,
+        goal: Goal,
+    ) -> Result<Vec<CandidateData>, Fault> {
+        (**self).candidates(cx, mode, goal)
+    }
+
+    fn relevant_candidates(
+        &self,
+        cx: &mut Cx,
+        mode: &TypingMode,
+        goal: Goal,
+    ) -> Result<Vec<CandidateData>, Fault> {
+        (**self).relevant_candidates(cx, mode, goal)
+    }
+
+    fn trait_is_coinductive(&self, id: TraitId) -> bool {
+        (**self).trait_is_coinductive(id)
+    }
+
+    ghost lawful = { λ ts s f r. H.lawful ts s.now f r };
+
+    ghost offered = { λ ts s f r. H.offered ts s.now f r };
+
+    ghost handler_kept = { λ a b s r e. H.handler_kept a b s.now r e };
+
+    ghost ready_kept = { λ a b s h e. H.ready_kept a b s.now h e };
+}
