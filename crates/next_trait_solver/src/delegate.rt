@@ -1,5 +1,6 @@
 //! What offers the rules of traits.
 pub use nts_delegate::{
-    Both, CandidateData, CandidateGoal, Clause, Clauses, Equation, EquationKind, GoalHandler,
-    RegionConstraint,
+    Assembly, Assumptions, Both, CandidateData, CandidateGoal, Clause, Clauses, Equation,
+    EquationKind, GoalHandler, RegionConstraint,
 };
+pub use nts_leak_check::LeakChecked;

@@ -105,6 +105,22 @@ fn writes_that_fail(rt: HostRuntime) {
     assert!(rt; failed > 10 && failed < 99);
 }
 
+const ENDLESS: &[u8] =
+    b"trait D(type, type)\ntrait E(type, type)\ntrait F(type, type)\ntrait G(type, type)\ntype Q(type, type)\nimpl D(?X, Q(?X, ?X))\nimpl E(?X, ?Y) <- D(?X, ?A), D(?A, ?B), D(?B, ?C), D(?C, ?Y)\nimpl F(?X, ?Y) <- E(?X, ?A), E(?A, ?B), E(?B, ?C), E(?C, ?Y)\nimpl G(?X, ?Y) <- F(?X, ?A), F(?A, ?B), F(?B, ?C), F(?C, ?Y)\ngoal G(u8, ?y)\n";
+
+/// An answer of 2 to 64 parts, over 64 nodes: what is printed of it goes out as it is read, until a write fails.
+#[test]
+fn an_answer_is_not_made_in_memory(rt: HostRuntime) {
+    let mut output = FailingWrite {
+        taken: Vec::new(rt.alloc()),
+        calls: 0,
+        fails_at: 2000,
+    };
+    let status = run(rt.alloc(), ENDLESS, &mut output);
+    assert_eq!(rt; status, Status::Failed);
+    assert!(rt; output.taken.starts_with(b"yes\n  ?y = Q(Q(Q(Q("));
+}
+
 /// A text that is cut after each of its bytes: it is refused in one line or says nothing, and from its last bracket on it is
 /// answered.
 #[test]

@@ -4,18 +4,15 @@ ghost use Rattle.nts_delegate.specs.Clauses.{AreClausesReady};
 use nts_program::Program;
 use std::process::Abort;
 
-/// Obeys lines, and gives the answer to the last one that was answered.
-fn tell(rt: &impl Abort, program: &mut Program, lines: &[&[u8]]) -> Option<Vec<u8>>
+/// Obeys lines, none of which is a goal.
+fn tell(rt: &impl Abort, program: &mut Program, lines: &[&[u8]])
     requires { AreClausesReady program.old.cx.nodes program.old.clauses }
     ensures { AreClausesReady program.new.cx.nodes program.new.clauses }
 {
-    let mut last = None;
     for line in lines {
-        if let Some(answer) = program.obey(line).expect(rt, "a line that is taken") {
-            last = Some(answer);
-        }
+        let answer = program.obey(line).expect(rt, "a line that is taken");
+        assert!(rt; answer.is_none());
     }
-    last
 }
 
 /// Asks a goal, of which this is the answer.
@@ -24,7 +21,10 @@ fn see(rt: &impl Abort, program: &mut Program, goal: &[u8], answer: &[u8])
     ensures { AreClausesReady program.new.cx.nodes program.new.clauses }
 {
     let seen = program.obey(goal).expect(rt, "a goal that is taken");
-    assert!(rt; seen.expect(rt, "an answer").as_slice() == answer);
+    let seen = seen.expect(rt, "an answer");
+    let mut text = Vec::new(program.alloc);
+    assert!(rt; program.write_answer(&mut text, &seen).is_ok());
+    assert!(rt; text.as_slice() == answer);
 }
 
 /// Eight conditions, each of which tells the variable of the one before it: each step proves one of them, and one step more sees
@@ -44,11 +44,11 @@ fn steps(rt: HostRuntime) {
         b"impl N(i8, i16)",
         b"impl N(i16, i32)",
     ];
-    let _ = tell(&rt, &mut program, &facts);
+    tell(&rt, &mut program, &facts);
     let chain: [&[u8]; 1] = [
         b"impl G(u8) <- N(?X7, ?X8), N(?X6, ?X7), N(?X5, ?X6), N(?X4, ?X5), N(?X3, ?X4), N(?X2, ?X3), N(?X1, ?X2), N(u8, ?X1)",
     ];
-    let _ = tell(&rt, &mut program, &chain);
+    tell(&rt, &mut program, &chain);
     see(&rt, &mut program, b"goal G(u8)", b"maybe overflow\n");
     program.cx.set_step_limit(9);
     see(&rt, &mut program, b"goal G(u8)", b"yes\n");
@@ -64,7 +64,7 @@ fn one_step(rt: HostRuntime) {
         b"impl Clone(u32)",
         b"impl Clone(Vec(?T)) <- Clone(?T)",
     ];
-    let _ = tell(&rt, &mut program, &rules);
+    tell(&rt, &mut program, &rules);
     program.cx.set_step_limit(1);
     see(&rt, &mut program, b"goal Clone(Vec(u32))", b"yes\n");
 }
@@ -82,7 +82,7 @@ fn rounds(rt: HostRuntime) {
         b"impl Is(u8)",
         b"impl Auto(List) <- Auto(List)",
     ];
-    let _ = tell(&rt, &mut program, &rules);
+    tell(&rt, &mut program, &rules);
     program.cx.set_round_limit(2);
     see(
         &rt,
@@ -110,7 +110,7 @@ fn division(rt: HostRuntime) {
         b"impl A(u8) <- L(W(u8)), C(W(W(W(u8))))",
         b"depth 8",
     ];
-    let _ = tell(&rt, &mut program, &rules);
+    tell(&rt, &mut program, &rules);
     see(&rt, &mut program, b"goal L(W(u8))", b"maybe overflow\n");
     see(&rt, &mut program, b"goal A(u8)", b"maybe overflow\n");
     program.cx.set_depth_division(2);

@@ -67,6 +67,51 @@ fn answers(rt: HostRuntime) {
     );
 }
 
+/// The goals of a line are asked in the environment that the last line of one told.
+#[test]
+fn environments(rt: HostRuntime) {
+    check(
+        &rt,
+        rt.alloc(),
+        &[
+            done(
+                b"trait Clone(type)\ntype Vec(type)\nimpl Clone(u32)\nimpl Clone(Vec(?T)) <- Clone(?T)\nenv Clone(!A)\ngoal Clone(Vec(!A))\nenv\ngoal Clone(Vec(!A))\n",
+                b"yes\nno\n",
+            ),
+            done(
+                b"trait T(type)\ntype Ref(region, type)\nenv for<'a> T(Ref('a, !A))\ngoal T(Ref('b, !A))\n",
+                b"yes\n  'b == '_0\n",
+            ),
+            refused(
+                b"trait T(type)\nenv T(?x)\n",
+                b"line 2: variable in an environment\n",
+            ),
+            done(
+                b"trait T(type)\nenv T(!A)\nimpl T(u8)\ngoal T(?x)\n",
+                b"maybe ambiguity\n",
+            ),
+            done(
+                b"trait T(type)\ntrait S(type)\nenv S(!B), T(!A), for<P> S(P)\ngoal T(!A)\ngoal T(!B)\ngoal S(u8)\nenv T(!B)\ngoal T(!A)\ngoal T(!B)\n",
+                b"yes\nno\nyes\nno\nyes\n",
+            ),
+            refused(
+                b"trait T(type)\ntrait R(region)\nenv R('static), R('?r)\n",
+                b"line 3: variable in an environment\n",
+            ),
+            refused(
+                b"trait T(type)\nenv T(Zzz), T(?x)\n",
+                b"line 2: unknown name\n",
+            ),
+            refused(
+                b"trait T(type)\nenv T(?x), T(Zzz)\n",
+                b"line 2: variable in an environment\n",
+            ),
+            refused(b"trait T(type)\nenv T(u8),\n", b"line 2: syntax\n"),
+            refused(b"trait T(type)\nenv T\n", b"line 2: syntax\n"),
+        ],
+    );
+}
+
 #[test]
 fn cycles_and_depths(rt: HostRuntime) {
     check(
@@ -89,6 +134,11 @@ fn cycles_and_depths(rt: HostRuntime) {
             done(
                 b"trait Clone(type)\ntype Vec(type)\nimpl Clone(u32)\nimpl Clone(Vec(?T)) <- Clone(?T)\ndepth 2\ngoal Clone(Vec(Vec(u32)))\ngoal Clone(Vec(Vec(u8)))\ndepth 1\ngoal Clone(Vec(Vec(u32)))\ngoal Clone(Vec(Vec(u8)))\n",
                 b"yes\nno\nmaybe overflow\nmaybe overflow\n",
+            ),
+            // Two conditions that grow at the default depth: after each overflow a quarter of the depth is left.
+            done(
+                b"trait Auto(type)\ntype W(type)\nimpl Auto(W(?X)) <- Auto(W(W(?X))), Auto(W(W(?X)))\ngoal Auto(W(u32))\n",
+                b"maybe overflow\n",
             ),
             // After an overflow a goal has a quarter of the depth: two levels of eight, not three.
             done(

@@ -1,5 +1,5 @@
 -- What contexts keep, composed.
-use Rattle.std.proofs.Common.{◌≡◌, zero, suc, arith, List, [], ◌∷◌, ◌++◌, map, Option, Some, None, refl, ap, ◌∙◌, subst, MutBor}
+use Rattle.std.proofs.Common.{◌≡◌, true, zero, suc, arith, List, [], ◌∷◌, ◌++◌, map, Option, Some, None, refl, ap, ◌∙◌, subst, MutBor}
 use Rattle.std.specs.Prelude.{IfSome, All, Result, Ok, Err, OnOk, OnErr}
 use Rattle.std.proofs.lemmas.List.Elements.{All-append, All-map}
 use Rattle.nts_model.specs.Terms.Trees.{Tree}
@@ -107,13 +107,14 @@ pub posed_after : {ts : List Tree} {t : Table} {R E : Type 0} (r : Result R E) (
 posed_after (Ok x) gs hs more e q h p = rw e p
 posed_after (Err x) gs hs more e q h p = rw q h
 
--- a context without a fault after a call on its store and table, which left the state m with goals of both, and in which the answer was noted
-pub keeps_grown : {H : Type 0} {ready : List Tree → H → Type 0} {a b : EvalCtxt H} (m : EvalState) (f : Option Fault)
+-- a context without a fault after a call on its store and table, which left the state m with goals of both, tainted at least as
+-- before, and in which the answer was noted
+pub keeps_ended : {H : Type 0} {ready : List Tree → H → Type 0} {a b : EvalCtxt H} (m : EvalState) (f : Option Fault)
     → ((x y : List Tree) (h : H) → ready x h → Extends x y → ready y h) → IsContextReady ready a
     → b.table.ghost_name ≡ a.table.ghost_name → b.cx.ghost_name ≡ a.cx.ghost_name → b.handler ≡ a.handler → b.state.ghost_name ≡ a.state.ghost_name
     → Runs a.cx.now b.cx.now a.table.now b.table.now → b.state.now ≡ record m { fault = f } → ArePosed b.cx.now.nodes b.table.now m.nested_goals.items
-    → a.state.now.fault ≡ None → m.is_tainted ≡ a.state.now.is_tainted → m.root_depth ≡ a.state.now.root_depth → KeepsContext ready a b
-keeps_grown {H} {ready} {a} {b} m f law h nt nc nh ns k s p none t d =
+    → a.state.now.fault ≡ None → (a.state.now.is_tainted ≡ true → m.is_tainted ≡ true) → m.root_depth ≡ a.state.now.root_depth → KeepsContext ready a b
+keeps_ended {H} {ready} {a} {b} m f law h nt nc nh ns k s p none t d =
     let g = k.goes in
     record {
       table = nt;
@@ -127,9 +128,17 @@ keeps_grown {H} {ready} {a} {b} m f law h nt nc nh ns k s p none t d =
         handler = rw nh (law a.cx.now.nodes b.cx.now.nodes a.handler.now h.handler g.extends);
       };
       fault = none_kept _ a.state.now.fault none;
-      taint = λ x. ap (λ (z : EvalState). z.is_tainted) s ∙ t ∙ x;
+      taint = λ x. ap (λ (z : EvalState). z.is_tainted) s ∙ t x;
       depth = ap (λ (z : EvalState). z.root_depth) s ∙ d;
     }
+
+-- .. tainted as before
+pub keeps_grown : {H : Type 0} {ready : List Tree → H → Type 0} {a b : EvalCtxt H} (m : EvalState) (f : Option Fault)
+    → ((x y : List Tree) (h : H) → ready x h → Extends x y → ready y h) → IsContextReady ready a
+    → b.table.ghost_name ≡ a.table.ghost_name → b.cx.ghost_name ≡ a.cx.ghost_name → b.handler ≡ a.handler → b.state.ghost_name ≡ a.state.ghost_name
+    → Runs a.cx.now b.cx.now a.table.now b.table.now → b.state.now ≡ record m { fault = f } → ArePosed b.cx.now.nodes b.table.now m.nested_goals.items
+    → a.state.now.fault ≡ None → m.is_tainted ≡ a.state.now.is_tainted → m.root_depth ≡ a.state.now.root_depth → KeepsContext ready a b
+keeps_grown m f law h nt nc nh ns k s p none t d = keeps_ended m f law h nt nc nh ns k s p none (λ x. t ∙ x) d
 
 -- .. whose goals were of the store and the table before
 pub keeps_ran : {H : Type 0} {ready : List Tree → H → Type 0} {a b : EvalCtxt H} (m : EvalState) (f : Option Fault)

@@ -1,5 +1,8 @@
 //! Goals of a context are evaluated.
-ghost use Rattle.std.specs.Prelude.{◌<◌, ◌≡◌, ◌≤◌, ◌+◌, true, false, [], None, Ok, Err, IfOk};
+ghost use Rattle.std.specs.Prelude.{◌<◌, ◌≡◌, ◌≤◌, ◌⊎◌, true, false, [], None, Ok, Err, IfOk};
+ghost use Rattle.nts_table.specs.Tables.{IsTable};
+ghost use Rattle.nts_terms.specs.Rest.{Grows};
+ghost use Rattle.nts_unify.specs.Reading.{content_of};
 ghost use Rattle.nts_certainty.specs.declared.certainty.Certainty.TheVariants as certainty;
 ghost use Rattle.nts_response.specs.Forms.{response_at, HoldsResponse};
 ghost use Rattle.nts_theory.specs.Telling.{IsResponseOf};
@@ -17,6 +20,8 @@ use nts_evaluation::try_evaluate_goals;
 use nts_response::CanonicalResponse;
 use nts_search::{CurrentGoalKind, SearchGraph};
 use nts_store::EvalError;
+use nts_table::InferCtxt;
+use nts_terms::Cx;
 use nts_trying::AvailableDepth;
 
 impl<H: GoalHandler> EvalCtxt<'_, H> {
@@ -61,7 +66,8 @@ impl<H: GoalHandler> EvalCtxt<'_, H> {
     }
 
     /// Evaluates the goals that were added, and answers what a context without values found out: its region constraints where all
-    /// is certain, and how sure it is. A context that is tainted has no solution.
+    /// is certain, and how sure it is. A context that is tainted has no solution. Nor has one of which the handler's leak check says
+    /// so, and it is tainted then.
     pub fn evaluate_added_goals_and_make_canonical_response(
         &mut self,
         shallow_certainty: Certainty,
@@ -84,7 +90,8 @@ impl<H: GoalHandler> EvalCtxt<'_, H> {
             (λ s. ReachesAdded (H.handler s.base self.old.handler.now) self.old self.new) }
         ensures refuted { Always (rules_of H.ready H.handler self.old.handler.now) self.old.cx.now
             (λ s. self.old.state.now.is_tainted ≡ false → result ≡ Err EvalError.NoSolution →
-            RefusesOneAdded (H.handler s.base self.old.handler.now) self.old) }
+            RefusesOneAdded (H.handler s.base self.old.handler.now) self.old ⊎
+            (H.handler s.base self.old.handler.now).leaks (content_in self.new) 0) }
         ensures taint { self.new.state.now.is_tainted
             ≡ tainted_after self.old.state.now.is_tainted result }
         ensures fault { self.new.state.now.fault ≡ fault_after self.old.state.now.fault result }
@@ -95,9 +102,30 @@ impl<H: GoalHandler> EvalCtxt<'_, H> {
         }
         let goals_certainty = self.try_evaluate_added_goals()?;
         let certainty = shallow_certainty.and(goals_certainty);
-        match make_response(self.table, self.cx, &[], certainty) {
-            Ok(response) => Ok(response),
-            Err(fault) => self.state.note(Err(EvalError::from(fault))),
-        }
+        let response = checked_response(self.table, self.cx, self.handler, certainty);
+        self.state.end_answer(response)
     }
+}
+
+/// A response of the table without values, unless the handler's leak check says that nothing which the root names meets the region
+/// constraints.
+fn checked_response<H: GoalHandler>(
+    table: &InferCtxt,
+    cx: &mut Cx,
+    handler: &H,
+    certainty: Certainty,
+) -> Result<CanonicalResponse, EvalError>
+    requires table { IsTable cx.old.nodes table.now }
+    requires ready { H.ready cx.old.nodes handler.now }
+    ensures certainty { IfOk result (λ r. r.value.certainty ≡ certainty) }
+    ensures says { IfOk result (λ r. IsResponseOf (told_in certainty
+        (content_of cx.old.nodes table.now.entries)) [] (response_at cx.new.nodes r)) }
+    ensures holds { IfOk result (λ r. HoldsResponse cx.new.nodes r.value) }
+    ensures leaks { result ≡ Err EvalError.NoSolution →
+        (H.handler cx.old.nodes handler.now).leaks (content_of cx.old.nodes table.now.entries) 0 }
+    ensures grows { Grows cx.old cx.new }
+{
+    handler.leak_check(cx, table, 0)?;
+    let response = make_response(table, cx, &[], certainty)?;
+    Ok(response)
 }

@@ -103,6 +103,18 @@ impl EvalState {
     {
         self.nested_goals = goals;
         self.last_steps = last_steps;
+        self.end_answer(answer)
+    }
+
+    /// Hands on an answer: a fault is kept if it is the first one, and that there is no solution taints the context.
+    pub(crate) fn end_answer<R>(&mut self, answer: Result<R, EvalError>) -> Result<R, EvalError>
+        ensures same { result ≡ answer }
+        ensures state { self.new ≡ record self.old {
+          is_tainted = tainted_after self.old.is_tainted answer;
+          fault = fault_after
+              self.old.fault answer;
+        } }
+    {
         if let Err(EvalError::NoSolution) = &answer {
             self.is_tainted = true;
         }

@@ -11,7 +11,7 @@ use Rattle.nts_model.specs.Terms.Trees.{Tree, empty, more, node, binders, childr
 use Rattle.nts_model.specs.Derivations.Related.{pair, arguments}
 use Rattle.nts_model.specs.Terms.Scoping.{sorts_of}
 use Rattle.nts_model.specs.Derivations.Rules.{Application}
-use Rattle.nts_model.specs.Derivations.Handlers.{Candidate, certain, never, AreValuesOf, Handler}
+use Rattle.nts_model.specs.Derivations.Handlers.{Candidate, certain, never, AreValuesOf, Handler, never_leaks}
 use Rattle.nts_delegate.specs.Offers.{trait_of}
 use Rattle.nts_delegate.specs.ClauseHandlers.{equations_of, trait_goal}
 
@@ -121,4 +121,5 @@ assuming =
       applies = λ mode a. IsAssumed a;
       offers = λ mode e g. assumed_offers e (trait_of g);
       is_coinductive = λ i. false;
+      leaks = never_leaks;
     }

@@ -1,4 +1,4 @@
--- Two handlers as one, over trees: the rules of both, and the offers of the first before those of the second.
+-- Two handlers as one, over trees: the rules of both, the offers of the first before those of the second, and the leaks of both.
 use Rattle.std.specs.Prelude.{◌⊎◌, ◌||◌, List, [], ◌∷◌, ◌++◌}
 use Rattle.std.proofs.Common.{inl, inr, sym, ◌∙◌}
 use Rattle.std.proofs.lemmas.List.{map-append}
@@ -16,6 +16,7 @@ either h k =
       applies = λ mode a. h.applies mode a ⊎ k.applies mode a;
       offers = λ mode e g. h.offers mode e g ++ k.offers mode e g;
       is_coinductive = λ i. h.is_coinductive i || k.is_coinductive i;
+      leaks = λ c u. h.leaks c u ⊎ k.leaks c u;
     }
 
 -- what stands in one of two lists, one behind the other
@@ -116,4 +117,8 @@ MeansSame-either {h} {l} {k} {m} p q =
       );
       offers = λ mode e g. cc (p.offers mode e g, q.offers mode e g);
       is_coinductive = λ i. cc (p.is_coinductive i, q.is_coinductive i);
+      leaks = λ c u l. elim l [
+        | inl a ↦ inl (p.leaks c u a)
+        | inr b ↦ inr (q.leaks c u b)
+      ];
     }

@@ -10,7 +10,7 @@ use Rattle.nts_model.specs.Lists.{Among}
 use Rattle.nts_model.specs.Derivations.Sequents.{impl_where_bound, Premise}
 use Rattle.nts_model.specs.Derivations.Rules.{Equation, related, Application}
 use Rattle.nts_model.specs.Terms.Substitutions.{filled}
-use Rattle.nts_model.specs.Derivations.Handlers.{Candidate, certain, never, AreValuesOf, Handler}
+use Rattle.nts_model.specs.Derivations.Handlers.{Candidate, certain, never, AreValuesOf, Handler, never_leaks}
 use Rattle.nts_store.specs.Growth.{tree_at}
 use Rattle.nts_delegate.specs.Clauses.{clauses_of, coinductive_of}
 use Rattle.nts_delegate.specs.Offers.{trait_of}
@@ -89,6 +89,7 @@ handler_by clauses is_coinductive =
       applies = λ mode a. IsInstanceOfClause clauses a;
       offers = λ mode e g. offers_by clauses e (trait_of g);
       is_coinductive = is_coinductive;
+      leaks = never_leaks;
     }
 
 -- the clauses of a store as trees

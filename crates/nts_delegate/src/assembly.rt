@@ -4,8 +4,9 @@ ghost use Rattle.std.specs.Prelude.{◌≡◌};
 use crate::assumptions::Assumptions;
 use crate::both::Both;
 use crate::delegate::{CandidateData, GoalHandler};
-use nts_store::Fault;
-use nts_terms::{Cx, Goal, TraitId, TypingMode};
+use nts_store::{EvalError, Fault};
+use nts_table::InferCtxt;
+use nts_terms::{Cx, Goal, TraitId, TypingMode, UniverseIndex};
 
 /// A handler by which the environment of a goal is assumed: it offers the environment's clauses of the goal's trait, and then
 /// what the other handler offers, as a list of clauses. All else is as in that one.
@@ -60,6 +61,15 @@ impl<C: GoalHandler + Drop> GoalHandler for Assembly<C> {
         self.rules.trait_is_coinductive(id)
     }
 
+    fn leak_check(
+        &self,
+        cx: &mut Cx,
+        table: &InferCtxt,
+        max_input_universe: UniverseIndex,
+    ) -> Result<(), EvalError> {
+        self.rules.leak_check(cx, table, max_input_universe)
+    }
+
     ghost lawful = { λ ts s f r. IsLawfulHandler-either assuming (C.handler ts s.rules.second) IsLawfulHandler-assuming (C.lawful ts s.rules.second f r) };
 
     ghost offered = { λ ts s f r. RulesAreOffered-either assuming (C.handler ts s.rules.second) RulesAreOffered-assuming (C.offered ts s.rules.second f r) };
@@ -95,6 +105,15 @@ impl<H: GoalHandler> GoalHandler for &H {
 
     fn trait_is_coinductive(&self, id: TraitId) -> bool {
         (**self).trait_is_coinductive(id)
+    }
+
+    fn leak_check(
+        &self,
+        cx: &mut Cx,
+        table: &InferCtxt,
+        max_input_universe: UniverseIndex,
+    ) -> Result<(), EvalError> {
+        (**self).leak_check(cx, table, max_input_universe)
     }
 
     ghost lawful = { λ ts s f r. H.lawful ts s.now f r };

@@ -5,11 +5,12 @@ ghost use Rattle.nts_store.specs.Growth.{tree_at};
 ghost use Rattle.nts_terms.specs.Rest.{Grows};
 
 use crate::delegate::{CandidateData, GoalHandler};
-use nts_store::Fault;
-use nts_terms::{Cx, Goal, TraitId, TypingMode};
+use nts_store::{EvalError, Fault};
+use nts_table::InferCtxt;
+use nts_terms::{Cx, Goal, TraitId, TypingMode, UniverseIndex};
 
 /// The rules of two handlers, as one handler: it offers the candidates of the first, and then those of the second. A trait is
-/// coinductive if it is for one of them. So a caller who has rules of his own for some traits writes a handler for these alone,
+/// coinductive if it is for one of them, and a leak is one for one of them. So a caller who has rules of his own for some traits writes a handler for these alone,
 /// and puts it beside `Clauses`.
 #[derive(Drop)]
 pub struct Both<A: GoalHandler + Drop, B: GoalHandler + Drop> {
@@ -52,6 +53,16 @@ impl<A: GoalHandler + Drop, B: GoalHandler + Drop> GoalHandler for Both<A, B> {
         let first = self.first.trait_is_coinductive(id);
         let second = self.second.trait_is_coinductive(id);
         first || second
+    }
+
+    fn leak_check(
+        &self,
+        cx: &mut Cx,
+        table: &InferCtxt,
+        max_input_universe: UniverseIndex,
+    ) -> Result<(), EvalError> {
+        self.first.leak_check(cx, table, max_input_universe)?;
+        self.second.leak_check(cx, table, max_input_universe)
     }
 
     ghost lawful = { λ ts s f r. IsLawfulHandler-either (A.handler ts s.first) (B.handler ts s.second) (A.lawful ts s.first f r.0) (B.lawful ts s.second f r.1) };

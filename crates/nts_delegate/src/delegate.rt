@@ -1,13 +1,14 @@
 //! What offers the rules of traits.
-ghost use Rattle.std.specs.Prelude.{List, IfOk, IsOkUnless};
+ghost use Rattle.std.specs.Prelude.{◌≡◌, ◌≢◌, List, Err, IfOk, IsOkUnless};
 ghost use Rattle.nts_model.specs.Terms.Trees.{Tree};
 ghost use Rattle.nts_store.specs.Growth.{Extends};
 ghost use Rattle.nts_terms.specs.Rest.{Grows};
 
 use nts_certainty::{Certainty, GoalSource, RerunCondition};
 use nts_model::{Relation, Sort};
-use nts_store::Fault;
-use nts_terms::{AliasTerm, Cx, GenericArg, Goal, Region, TraitId, Ty, TypingMode};
+use nts_store::{EvalError, Fault};
+use nts_table::InferCtxt;
+use nts_terms::{AliasTerm, Cx, GenericArg, Goal, Region, TraitId, Ty, TypingMode, UniverseIndex};
 
 /// How the two sides of an equation are made equal.
 #[derive(Clone, Copy)]
@@ -68,6 +69,8 @@ pub trait GoalHandler {
     ghost use Rattle.nts_delegate.specs.Relevant.{LeavesOut};
     ghost use Rattle.nts_terms.specs.Modes.{mode_of};
     ghost use Rattle.nts_delegate.specs.SameHandlers.{MeansSame};
+    ghost use Rattle.nts_unify.specs.Reading.{content_of};
+    ghost use Rattle.nts_table.specs.Tables.{IsTable};
 
     /// The handler's own terms are of a store of these trees.
     ghost ready: { List Tree → Self → Type 0 };
@@ -115,6 +118,26 @@ pub trait GoalHandler {
     fn trait_is_coinductive(&self, id: TraitId) -> bool
         ensures meaning { (ts : List Tree) →
             result ≡ (handler ts self.now).is_coinductive id.number };
+
+    /// Whether what this universe names can meet the region constraints of a table: `NoSolution` where nothing can, and then the
+    /// candidate after which the table stands so fails. The engine asks for the root, whatever mode it is in. A handler that
+    /// leaves the judgement to who asked says nothing, as this body does.
+    fn leak_check(
+        &self,
+        cx: &mut Cx,
+        table: &InferCtxt,
+        max_input_universe: UniverseIndex,
+    ) -> Result<(), EvalError>
+        requires ready { ready cx.old.nodes self.now }
+        requires table { IsTable cx.old.nodes table.now }
+        ensures leaks { result ≡ Err EvalError.NoSolution → (handler cx.old.nodes self.now).leaks
+            (content_of cx.old.nodes table.now.entries) max_input_universe }
+        ensures grows { Grows cx.old cx.new }
+        ensures full { result ≢ Err EvalError.Full }
+    {
+        let _ = (cx.alloc, table.universe(), max_input_universe);
+        Ok(())
+    }
 
     /// The handler keeps the laws: candidates commute with plain renaming, their instances are rules, rules are closed
     /// under instances, and candidates keep the environment and have no foreign leaves, sorts or sources.

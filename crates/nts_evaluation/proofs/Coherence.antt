@@ -55,9 +55,9 @@ module _ {h : Handler} {ts : List Tree} {t : Table} {g : Goal} (table : IsTable 
 -- what a query tells contains each solution of its input, and what it refutes has none
 module _ {h : Handler} {ts : List Tree} {input : CanonicalInput} (asks : IsQueryInput ts input) (lawful : IsLawfulHandler h) (law : RulesAreOffered h) (here : IsCoherenceOf h input.typing_mode) where
   pub told_contains : (b : List Tree) (r : Canonical Response) → IsQueryTold h (mode_of input.typing_mode) ts input b r → ContainsEach h (form_of ts input) (response_at b r)
-  told_contains b r x truth fair v =
-      answer_contains_each queries begins_each h v truth lawful law here.no_aliases fair (form_of ts input) (verdict_at b r) (first_of_query asks) (subst (λ m. QueryTells h m (form_of ts input) (verdict_at b r)) here.in_coherence x)
+  told_contains b r x truth fair respects v =
+      answer_contains_each queries begins_each h v truth lawful law here.no_aliases fair respects (form_of ts input) (verdict_at b r) (first_of_query asks) (subst (λ m. QueryTells h m (form_of ts input) (verdict_at b r)) here.in_coherence x)
 
   pub refuted_has_no_input : IsQueryRefuted h (mode_of input.typing_mode) ts input → HasNoInputSolution h (form_of ts input)
-  refuted_has_no_input x truth fair v =
-      refuted_has_none_met queries begins_each h v truth lawful law here.no_aliases fair (form_of ts input) (first_of_query asks) (subst (λ m. QueryRefutes h m (form_of ts input)) here.in_coherence x)
+  refuted_has_no_input x truth fair respects v =
+      refuted_has_none_met queries begins_each h v truth lawful law here.no_aliases fair respects (form_of ts input) (first_of_query asks) (subst (λ m. QueryRefutes h m (form_of ts input)) here.in_coherence x)

@@ -1,2 +1,4 @@
 mod Failing
 mod Coherence
+mod Leaking
+mod AnswerExamples

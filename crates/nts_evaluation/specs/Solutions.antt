@@ -7,7 +7,7 @@ use Rattle.nts_model.specs.Canonical.Inputs.{CanonicalInput as Form}
 use Rattle.nts_model.specs.Answers.Responses.{Response}
 use Rattle.nts_model.specs.Refutation.Containing.{Truth, AnswerContains, HasNoSolution}
 use Rattle.nts_model.specs.Derivations.Rules.{coherence}
-use Rattle.nts_theory.specs.Refutation.Refutation.{HasNoAliases, IsFair, HasMetProof, HasNoSolutionIn, KeepsSolutionsOf}
+use Rattle.nts_theory.specs.Refutation.Refutation.{HasNoAliases, IsFair, RespectsLeaks, HasMetProof, HasNoSolutionIn, KeepsSolutionsOf}
 use Rattle.nts_certainty.specs.declared.certainty.Certainty.{Certainty}
 use Rattle.nts_certainty.specs.declared.certainty.Certainty.TheVariants as certainty
 use Rattle.nts_certainty.specs.declared.certainty.OpaqueTypesJank.TheVariants as jank
@@ -36,10 +36,10 @@ KeepsSolutionsUnder h a t b u g = KeepsSolutionsOf h (content_of a t.entries) (c
 -- an answer contains each solution of a canonical input: values for its positions with which its goal has a settled proof whose
 -- region constraints are true. And the input has none
 abbrev pub ContainsEach : Handler → Form → Response → Type 0
-ContainsEach h f r = (truth : Truth) → IsFair truth → (v : ℕ → List Variance) → AnswerContains truth (HasMetProof (meaning h v) truth) f r
+ContainsEach h f r = (truth : Truth) → IsFair truth → RespectsLeaks h truth → (v : ℕ → List Variance) → AnswerContains truth (HasMetProof (meaning h v) truth) f r
 
 abbrev pub HasNoInputSolution : Handler → Form → Type 0
-HasNoInputSolution h f = (truth : Truth) → IsFair truth → (v : ℕ → List Variance) → HasNoSolution (HasMetProof (meaning h v) truth) f
+HasNoInputSolution h f = (truth : Truth) → IsFair truth → RespectsLeaks h truth → (v : ℕ → List Variance) → HasNoSolution (HasMetProof (meaning h v) truth) f
 
 -- the goal was evaluated with that certainty, and what that left of the table is gone
 pub record WasEvaluated (h : Handler) (mode : TypingMode) (a : List Tree) (t : Table) (g : Goal) (sure : Certainty) : Type 0 where

@@ -25,8 +25,8 @@ use nts_store::EvalError;
 use nts_table::InferCtxt;
 use nts_terms::{Cx, GenericArg, Goal};
 use nts_trying::{
-    AvailableDepth, GoalRow, Step, Trial, enter_forall, equate, goal_kind, goal_row, keep_met,
-    keep_response, merge_responses, record_constraints,
+    AvailableDepth, GoalRow, Step, Trial, check_leaks, enter_forall, equate, goal_kind, goal_row,
+    keep_met, keep_response, merge_responses, record_constraints,
 };
 
 /// Evaluates a goal in a query of its own: its leaves give place to positions, the search answers the query, and the response is
@@ -246,9 +246,32 @@ fn probe_candidate<H: GoalHandler>(
     Ok(response)
 }
 
-/// Runs a candidate: its equations, its region constraints, and its goals in steps.
+/// Runs a candidate: it is tried, and then the handler's leak check may say that what was found can't be.
 #[cycle(evaluate)]
 fn run_candidate<H: GoalHandler>(
+    table: &mut InferCtxt,
+    cx: &mut Cx,
+    handler: &H,
+    graph: &mut SearchGraph,
+    goal: Goal,
+    candidate: &CandidateData,
+    depth: usize,
+) -> Result<Certainty, EvalError>
+    requires posed { IsPosed cx.old.nodes table.old goal }
+    requires asked { IsAskedGoal cx.old.nodes goal }
+    requires ready { H.ready cx.old.nodes handler.now }
+    requires candidate { IsCandidate cx.old.nodes goal candidate.now }
+    requires search { IsSearch cx.old graph.old (depth) }
+    ensures { RunsOne (rules_of H.ready H.handler handler.now) cx.old cx.new graph.old graph.new
+        table.old table.new goal candidate.now result }
+{
+    let tried = try_candidate(table, cx, handler, graph, goal, candidate, depth);
+    check_leaks(table, cx, handler, tried)
+}
+
+/// Tries a candidate: its equations, its region constraints, and its goals in steps.
+#[cycle(evaluate)]
+fn try_candidate<H: GoalHandler>(
     table: &mut InferCtxt,
     cx: &mut Cx,
     handler: &H,

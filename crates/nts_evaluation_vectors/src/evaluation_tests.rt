@@ -29,12 +29,25 @@ pub(crate) fn goal_about(cx: &mut Cx, id: TraitId, argument: GenericArg) -> Resu
     ensures holds { IfOk result (λ g. HoldsGoal cx.new.nodes g) }
     ensures grows { Grows cx.old cx.new }
 {
+    goal_under(cx, &[], id, argument)
+}
+
+/// The same under a binder of variables of these sorts.
+pub(crate) fn goal_under(
+    cx: &mut Cx,
+    bound: &[Sort],
+    id: TraitId,
+    argument: GenericArg,
+) -> Result<Goal, Fail>
+    ensures holds { IfOk result (λ g. HoldsGoal cx.new.nodes g) }
+    ensures grows { Grows cx.old cx.new }
+{
     if !cx.holds(argument) {
         return Err(Fail::new("no argument of the store"));
     }
     let args = cx.mk_args(&[argument])?;
     let param_env = cx.mk_env(&[])?;
-    let vars = cx.mk_bound_vars(&[])?;
+    let vars = cx.mk_bound_vars(bound)?;
     if !cx.holds(args) || !cx.fits(DefId::Trait(id), args) {
         return Err(Fail::new("the trait takes other arguments"));
     }
@@ -48,7 +61,7 @@ pub(crate) fn goal_about(cx: &mut Cx, id: TraitId, argument: GenericArg) -> Resu
 
 /// How sure it is that a goal holds, and whether its variables changed, or nothing where it has no solution; asked through the bound.
 #[tactic(auto, using(nts_asking::proofs::Asking::asking))]
-fn evaluated<H: GoalHandler>(
+pub(crate) fn evaluated<H: GoalHandler>(
     table: &mut InferCtxt,
     cx: &mut Cx,
     handler: &H,

@@ -2,6 +2,12 @@
 #![tactic(auto)]
 
 #[cfg(test)]
+mod assumed_tests;
+#[cfg(test)]
+mod doubt_tests;
+#[cfg(test)]
 mod evaluation_tests;
+#[cfg(test)]
+mod leak_tests;
 #[cfg(test)]
 mod may_hold_tests;

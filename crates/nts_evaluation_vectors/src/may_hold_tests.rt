@@ -10,7 +10,7 @@ use nts_delegate::{Clauses, GoalHandler};
 use nts_evaluation::{
     goal_is_admitted, root_goal_may_hold_opaque_types_jank, root_goal_may_hold_with_depth,
 };
-use nts_marker::Marker;
+use nts_marker::{Circular, Marker};
 use nts_model::{Sort, UintTy};
 use nts_table::InferCtxt;
 use nts_terms::{BoundTy, Cx, Goal, PlaceholderType, TyKind, TypingMode};
@@ -18,7 +18,7 @@ use std::test::Fail;
 
 /// What the two calls answer: the first at that depth. The table is as before.
 #[tactic(auto, using(nts_asking::proofs::Asking::asking))]
-fn may_hold<H: GoalHandler>(
+pub(crate) fn may_hold<H: GoalHandler>(
     table: &mut InferCtxt,
     cx: &mut Cx,
     handler: &H,
@@ -128,6 +128,37 @@ fn a_placeholder_that_the_variable_cannot_name_does_not(rt: HostRuntime) -> Resu
     let p = cx.mk_ty(TyKind::Placeholder(PlaceholderType { universe, bound }))?;
     rule_of_one(&mut cx, &mut handler, same)?;
     let goal = goal_between(&mut cx, same, x.into(), p.into())?;
+    let found = may_hold(&mut table, &mut cx, &handler, goal, 128)?;
+    assert!(rt; found == (false, false));
+    Ok(())
+}
+
+/// A goal that asks for itself by an inductive step is a cycle. In coherence that is in doubt: what is refused there has no proof,
+/// and of a cycle that isn't known.
+#[test]
+#[tactic(auto, using(nts_asking::proofs::Asking::asking))]
+fn an_inductive_cycle_may_hold_in_coherence(rt: HostRuntime) -> Result<(), Fail> {
+    let mut cx = Cx::new(rt.alloc());
+    let mut table = InferCtxt::new(rt.alloc(), TypingMode::Coherence);
+    let id = cx.declare_trait(&[Sort::Ty])?;
+    let byte = uint(&mut cx, UintTy::U8)?;
+    let handler = Circular { id };
+    let goal = goal_about(&mut cx, id, byte.into())?;
+    let found = may_hold(&mut table, &mut cx, &handler, goal, 128)?;
+    assert!(rt; found == (true, true));
+    Ok(())
+}
+
+/// Elsewhere it has no solution.
+#[test]
+#[tactic(auto, using(nts_asking::proofs::Asking::asking))]
+fn an_inductive_cycle_does_not_hold_elsewhere(rt: HostRuntime) -> Result<(), Fail> {
+    let mut cx = Cx::new(rt.alloc());
+    let mut table = InferCtxt::new(rt.alloc(), TypingMode::PostAnalysis);
+    let id = cx.declare_trait(&[Sort::Ty])?;
+    let byte = uint(&mut cx, UintTy::U8)?;
+    let handler = Circular { id };
+    let goal = goal_about(&mut cx, id, byte.into())?;
     let found = may_hold(&mut table, &mut cx, &handler, goal, 128)?;
     assert!(rt; found == (false, false));
     Ok(())

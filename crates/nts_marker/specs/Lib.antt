@@ -1,2 +1,4 @@
 pub mod Marking
 pub mod MarkerLaws
+pub mod Circling
+pub mod CircularLaws

@@ -24,7 +24,7 @@ is_of_handlers i (node (label.Clause (clause.Projection j)) ts) f h = refl
 is_of_handlers i (node (label.Predicate (predicate.NormalizesTo j)) ts) f h = refl
 is_of_handlers i s f h = absurd h
 
-marks_asked : (i : ℕ) (e g : Tree) (f : Leaf → Tree) → IsAsked e g → marks i (replace f g) ≡ marks i g
+pub marks_asked : (i : ℕ) (e g : Tree) (f : Leaf → Tree) → IsAsked e g → marks i (replace f g) ≡ marks i g
 marks_asked i e g f h =
     ap (λ t. marks i (replace f t)) h.binds_nothing ∙ is_of_handlers i h.statement f h.handlers ∙ ap (marks i) (sym h.binds_nothing)
 
@@ -33,7 +33,7 @@ is_of_kept : (i : ℕ) (f : Leaf → Tree) (s : Tree) → is_of i s ≡ true →
 is_of_kept i f (node (label.Clause (clause.Trait j)) ts) e = e
 is_of_kept i f s e = cc
 
-marks_kept : (i : ℕ) (f : Leaf → Tree) (g : Tree) → marks i g ≡ true → marks i (replace f g) ≡ true
+pub marks_kept : (i : ℕ) (f : Leaf → Tree) (g : Tree) → marks i g ≡ true → marks i (replace f g) ≡ true
 marks_kept i f (node (label.List list.Binder) (more v (more s empty))) e = is_of_kept i f s e
 marks_kept i f g e = cc
 
@@ -123,4 +123,4 @@ RulesAreOffered-marking i z =
 
 -- it means the same in each store
 pub MeansSame-itself : (h : Handler) → MeansSame h h
-MeansSame-itself h = record { applies = λ mode a. (λ x. x, λ x. x); offers = λ mode e g. refl; is_coinductive = λ i. refl }
+MeansSame-itself h = record { applies = λ mode a. (λ x. x, λ x. x); offers = λ mode e g. refl; is_coinductive = λ i. refl; leaks = λ c u l. l }

@@ -39,16 +39,14 @@ fn bare(alloc: Global, certainty: Certainty) -> CandidateData
     }
 }
 
-impl Marker {
-    /// Whether a goal is one of the trait.
-    fn marks(&self, cx: &Cx, goal: Goal) -> bool
-        requires { HoldsGoal cx.now.nodes goal }
-        ensures { result ≡ marks self.now.id.number (tree_at cx.now.nodes goal.predicate.node) }
-    {
-        match goal.predicate.kind(cx).value {
-            PredicateKind::Clause(ClauseKind::Trait(of)) => of.def_id.number == self.id.number,
-            _ => false,
-        }
+/// Whether a goal is one of the trait.
+pub(crate) fn marks(id: TraitId, cx: &Cx, goal: Goal) -> bool
+    requires { HoldsGoal cx.now.nodes goal }
+    ensures { result ≡ marks id.number (tree_at cx.now.nodes goal.predicate.node) }
+{
+    match goal.predicate.kind(cx).value {
+        PredicateKind::Clause(ClauseKind::Trait(of)) => of.def_id.number == id.number,
+        _ => false,
     }
 }
 
@@ -69,7 +67,7 @@ impl GoalHandler for Marker {
     ) -> Result<Vec<CandidateData>, Fault> {
         let _ = mode;
         let mut found = Vec::new(cx.alloc);
-        if self.marks(cx, goal) {
+        if marks(self.id, cx, goal) {
             found.push(bare(cx.alloc, self.certainty))?;
         }
         Ok(found)

@@ -1,7 +1,7 @@
 -- What a line does, by its command.
 use Rattle.std.proofs.Common.{◌≡◌, ℕ, true, false, List, Option, Result, Ok, Err, inr}
 use Rattle.std.specs.Prelude.{IfOk, OnOk}
-use Rattle.std.specs.Global.{Vec}
+use Rattle.nts_wording.specs.declared.answer.Answer.{Answer}
 use Rattle.nts_text.specs.Commands.{IsCommandOf}
 use Rattle.nts_text.specs.Spelled.{KeepsNumbers}
 use Rattle.nts_text.specs.declared.commands.Command.{Command}
@@ -17,21 +17,20 @@ once_read p names scope = record p { names = names; scope = scope }
 
 module _ (old new : Program) (names : NameTable) (scope : Scope) where
   rules_from : KeepsRules (once_read old names scope) new → KeepsRules old new
-  rules_from h = record { clauses = h.clauses; mode = h.mode }
+  rules_from h = record { clauses = h.clauses; mode = h.mode; env = h.env }
 
   -- names and variables of the line play no part
-  follows_from : (command : Command) (o : Option (Vec ℕ)) → Follows (once_read old names scope) new command o → Follows old new command o
+  follows_from : (command : Command) (o : Option Answer) → Follows (once_read old names scope) new command o → Follows old new command o
   follows_from (commands.Mode m) o h = h
   follows_from (commands.Depth d) o h = (h.0, rules_from h.1, h.2)
   follows_from (commands.Type n params) o h = (h.0, rules_from h.1, h.2)
   follows_from (commands.Trait n true) o h = h
   follows_from (commands.Trait n false) o h = (h.0, rules_from h.1, h.2)
   follows_from (commands.Impl head body) o h = h
-  follows_from (commands.Goal nodes) o h =
-      let t = h.2 in
-      (h.0, h.1, record { answer = t.answer; says = t.says; justified = t.justified }, h.3, rules_from h.4)
+  follows_from (commands.Goal nodes) o h = (h.0, h.1, h.2, h.3, rules_from h.4)
+  follows_from (commands.Env nodes) o h = h
 
-  pub obeyed : {E : Type 0} (line : List ℕ) (command : Command) (r : Result (Option (Vec ℕ)) E)
+  pub obeyed : {E : Type 0} (line : List ℕ) (command : Command) (r : Result (Option Answer) E)
       → new.names ≡ names → new.scope ≡ scope → IsCommandOf line old.names names scope command → KeepsNumbers old.scope.parameters scope.parameters
       → IfOk r (Follows (once_read old names scope) new command) → IfOk r (IsObeyed line old new)
   obeyed line command (Err x) same here is kept h = tt

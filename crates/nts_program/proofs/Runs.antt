@@ -1,6 +1,7 @@
 -- Lines that are obeyed one after the other.
 use Rattle.std.proofs.Common.{◌≡◌, ℕ, ◌+◌, ◌<◌, List, [], ◌∷◌, ◌++◌, length, Option, None, Some, length-append, refl, sym, ap, subst, ◌∙◌, append_assoc, arith}
-use Rattle.std.specs.Global.{Vec}
+use Rattle.nts_wording.specs.declared.answer.Answer.{Answer}
+use Rattle.nts_wording.specs.Answers.{IsAnswerPut}
 use Rattle.std.specs.Io.Buffered.{reader_inner, reader_buffer, reader_capacity, reader_remaining}
 use Rattle.std.specs.declared.io.buffered.BufReader.{BufReader}
 use Rattle.std.proofs.KnownBytes.{prepend_known-nil, Appends-kept}
@@ -19,16 +20,16 @@ use Rattle.nts_wording.specs.declared.status.Stop.TheVariants as stop
 use Rattle.nts_wording.specs.Growing.{refusal_line, IsStopTold}
 use Rattle.nts_wording.specs.Statuses.{status_of}
 use Rattle.nts_program.specs.Obeying.{IsNewProgram, IsObeyed}
-use Rattle.nts_program.specs.Running.{answer_text, IsAnsweredLine, AreObeyed, AnswersAll, StopsAtRefusal}
+use Rattle.nts_program.specs.Running.{IsTextOf, IsAnsweredLine, AreObeyed, AnswersAll, StopsAtRefusal}
 use Rattle.nts_wording.proofs.Growths.{Appends-trans, Appends-none}
 
-obeyed_more : (lines : List (List ℕ)) (line : List ℕ) (p q r : Program) (s : List ℕ) (o : Option (Vec ℕ))
-    → AreObeyed lines p q s → IsObeyed line q r o → AreObeyed (lines ++ line ∷ []) p r (s ++ answer_text o)
-obeyed_more [] line p q r s o h k =
-    (o, r, [], subst (λ m. IsObeyed line m r o) h.0 k, (refl, refl), ap (λ w. w ++ answer_text o) h.1 ∙ sym (append-nil (answer_text o)))
-obeyed_more (l ∷ ls) line p q r s o h k =
-    let (a, between, rest, first, others, e) = h in
-    (a, between, rest ++ answer_text o, first, obeyed_more ls line between q r rest o others k, ap (λ w. w ++ answer_text o) e ∙ append_assoc (answer_text a) rest (answer_text o))
+obeyed_more : (lines : List (List ℕ)) (line : List ℕ) (p q r : Program) (s t : List ℕ) (o : Option Answer)
+    → AreObeyed lines p q s → IsObeyed line q r o → IsTextOf r o t → AreObeyed (lines ++ line ∷ []) p r (s ++ t)
+obeyed_more [] line p q r s t o h k says =
+    (o, r, t, [], subst (λ m. IsObeyed line m r o) h.0 k, says, (refl, refl), ap (λ w. w ++ t) h.1 ∙ sym (append-nil t))
+obeyed_more (l ∷ ls) line p q r s t o h k says =
+    let (a, between, x, rest, first, text, others, e) = h in
+    (a, between, x, rest ++ t, first, text, obeyed_more ls line between q r rest t o others k says, ap (λ w. w ++ t) e ∙ append_assoc x rest t)
 
 -- the lines that were read are answered, and the other lines are left
 pub record HasRun (input left before after : Option (List ℕ)) (program : Program) (number : ℕ) : Type 0 where
@@ -83,12 +84,12 @@ pub run_more : {input left next before mid after : Option (List ℕ)} {p q : Pro
     → IsAnsweredLine line p q mid after → HasRun input next before after q (n + 1)
 run_more {input} {left} {next} {before} {mid} {after} {p} {q} {n} line h some is rest k = record {
   lines = h.lines ++ line ∷ [];
-  text = h.text ++ answer_text k.answer;
+  text = h.text ++ k.text;
   first = h.first;
   new = h.new;
   counted = omega (arith, h.counted, length-append h.lines (line ∷ []));
-  obeyed = obeyed_more h.lines line h.first p q h.text k.answer h.obeyed k.obeyed;
-  written = Appends-trans before mid after h.text (answer_text k.answer) h.written k.written;
+  obeyed = obeyed_more h.lines line h.first p q h.text k.text k.answer h.obeyed k.obeyed k.says;
+  written = Appends-trans before mid after h.text k.text h.written k.written;
   others = behind input (rest_read input left next h.lines line h.others some is rest);
 }
   where
@@ -166,7 +167,7 @@ not_done stop.Failed e = cc
 not_done (stop.Refused r) e = cc
 
 -- a line is answered where it is obeyed and its answer is written
-pub answered_where : {T E : Type 0} (r : Result T E) (line : List ℕ) (p q : Program) (before after : Option (List ℕ)) (text : Vec ℕ) (bytes : List ℕ)
-    → IsObeyed line p q (Some text) → bytes ≡ text.items → OnOk r (Appends before after bytes) → OnOk r (IsAnsweredLine line p q before after)
-answered_where (Ok x) line p q before after text bytes h e w = record { answer = Some text; obeyed = h; written = rw e at w }
-answered_where (Err x) line p q before after text bytes h e w = tt
+pub answered_where : {T E : Type 0} (r : Result T E) (line : List ℕ) (p q : Program) (before after : Option (List ℕ)) (answer : Answer)
+    → IsObeyed line p q (Some answer) → OnOk r (IsAnswerPut q.cx.nodes q.names q.scope answer before after) → OnOk r (IsAnsweredLine line p q before after)
+answered_where (Ok x) line p q before after answer h w = record { answer = Some answer; obeyed = h; text = w.0; says = w.1; written = w.2 }
+answered_where (Err x) line p q before after answer h w = tt

@@ -1,6 +1,6 @@
 -- How names and declarations stay in step.
 use Rattle.std.proofs.Common.{◌≡◌, ℕ, zero, suc, true, false, List, [], ◌∷◌, ◌++◌, inl, inr, Option, Some, length, map, slice_get, refl, sym, ap, ◌∙◌}
-use Rattle.std.specs.Global.{Vec}
+use Rattle.nts_wording.specs.declared.answer.Answer.{Answer}
 use Rattle.std.specs.Option.{option_map_or}
 use Rattle.std.specs.Prelude.{vec_len, Result, Ok, Err, IfOk, OnOk}
 use Rattle.std.proofs.lemmas.List.{map-append, length-map}
@@ -76,7 +76,7 @@ step_trait old new name sorts n adds named cx h =
     }
 
 -- by what the line says
-step_line : (line : List ℕ) (old new : Program) (parsed : Line) (command : Command) (o : Option (Vec ℕ)) → Declares line old.names new.names parsed → IsMeant new.names new.scope line parsed command
+step_line : (line : List ℕ) (old new : Program) (parsed : Line) (command : Command) (o : Option Answer) → Declares line old.names new.names parsed → IsMeant new.names new.scope line parsed command
     → Follows old new command o → IsInStep old → IsInStep new
 step_line line old new (lines.Mode m) (commands.Mode n) o d s f h = step_same old new d (ap (λ c. c.declarations) f.1) h
 step_line line old new (lines.Depth m) (commands.Depth n) o d s f h = step_same old new d (ap (λ c. c.declarations) f.0) h
@@ -87,10 +87,11 @@ step_line line old new (lines.Trait name sorts w) (commands.Trait n true) o d s 
 step_line line old new (lines.Trait name sorts w) (commands.Trait n false) o d s f h = step_trait old new (bytes_of line name) sorts.items n d s.0 f.0 h
 step_line line old new (lines.Impl a b) (commands.Impl head body) o d s f h = step_same old new d f.3.rest.declarations h
 step_line line old new (lines.Goal ns) (commands.Goal nodes) o d s f h = step_same old new d f.3.rest.declarations h
+step_line line old new (lines.Env ns) (commands.Env nodes) o d s f h = step_same old new d f.1.rest.declarations h
 step_line line old new _ _ o d s f h = absurd s
 
 -- a line that is obeyed keeps the step
-pub step_kept : {E : Type 0} (r : Result (Option (Vec ℕ)) E) (line : List ℕ) (old new : Program) → IfOk r (IsObeyed line old new) → OnOk r (IsInStep old → IsInStep new)
+pub step_kept : {E : Type 0} (r : Result (Option Answer) E) (line : List ℕ) (old new : Program) → IfOk r (IsObeyed line old new) → OnOk r (IsInStep old → IsInStep new)
 step_kept (Err e) line old new h = tt
 step_kept (Ok o) line old new (inl h) = step_same old new h.names (ap (λ c. c.declarations) h.cx)
 step_kept (Ok o) line old new (inr h) = step_line line old new h.is.parsed h.command o h.is.declares h.is.means h.follows

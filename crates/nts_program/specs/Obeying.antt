@@ -1,8 +1,8 @@
 -- What the lines of a run do.
 use Rattle.std.specs.Prelude.{◌≡◌, ◌⊎◌, ℕ, true, false, List, [], length, map, Option, None, Some}
-use Rattle.std.specs.Global.{Vec}
 use Rattle.nts_model.specs.declared.labels.Sort.{Sort}
 use Rattle.nts_terms.specs.declared.cx.Cx.{Cx}
+use Rattle.nts_terms.specs.declared.handles.ParamEnv.{ParamEnv}
 use Rattle.nts_terms.specs.Rest.{Grows}
 use Rattle.nts_terms.specs.Signatures.{nothing_declared, with_ctor, with_trait}
 use Rattle.nts_delegate.specs.Adding.{AddsClause, MakesCoinductive}
@@ -20,8 +20,7 @@ use Rattle.nts_text.specs.declared.parser.Param.{Param}
 use Rattle.nts_text.specs.declared.resolver.Resolved.{Resolved}
 use Rattle.nts_program.specs.declared.program.Program.{Program}
 use Rattle.nts_wording.specs.declared.answer.Answer.{Answer}
-use Rattle.nts_wording.specs.Answers.{IsAnswerText}
-use Rattle.nts_wording.specs.Meaning.{IsRuleOf}
+use Rattle.nts_wording.specs.Meaning.{IsRuleOf, IsEnvironmentFor}
 use Rattle.nts_program.specs.Proving.{IsJustifiedAnswer}
 
 -- a program that was told nothing: there are no terms, declarations, rules, names or parameters, and
@@ -40,6 +39,7 @@ pub record IsNewProgram (p : Program) : Type 0 where
   pub types : type_names p.scope.parameters ≡ []
   pub regions : region_names p.scope.parameters ≡ []
   pub mode : p.mode ≡ modes.Analysis
+  pub env : p.env ≡ None
 
 -- names and declarations are in step: the types and the traits that have names are those of the store,
 -- in order, with their sorts
@@ -47,17 +47,19 @@ pub record IsInStep (p : Program) : Type 0 where
   pub types : map (λ s. s.sorts.items) p.names.types.items ≡ map (λ d. d.sorts) p.cx.declarations.ctors
   pub traits : map (λ s. s.sorts.items) p.names.traits.items ≡ p.cx.declarations.traits
 
--- what is written of a goal: the text of an answer, which is `yes` only where the goal that the nodes
--- say is proved
-pub record IsAnswerWritten (old new : Program) (rs : List Resolved) (text : List ℕ) : Type 0 where
-  pub answer : Answer
-  pub says : IsAnswerText new.cx.nodes new.names new.scope answer text
-  pub justified : IsJustifiedAnswer old.mode rs old.cx new.cx.nodes old.clauses answer
+-- what a goal is answered: it is `yes` only where the goal that the nodes say is proved
+abbrev pub IsAnswerTo : Program → Program → List Resolved → Answer → Type 0
+IsAnswerTo old new rs answer = IsJustifiedAnswer old.mode old.env rs old.cx new.cx.nodes old.clauses answer
 
--- the rules and the mode stay
+-- the rules, the mode and the environment stay
 pub record KeepsRules (old new : Program) : Type 0 where
   pub clauses : new.clauses ≡ old.clauses
   pub mode : new.mode ≡ old.mode
+  pub env : new.env ≡ old.env
+
+-- the environment is that of the predicates that the nodes say
+abbrev pub AssumesNodes : List Resolved → Program → Type 0
+AssumesNodes rs new = (e : ParamEnv) × (new.env ≡ Some e) × IsEnvironmentFor new.cx.nodes rs e
 
 -- a type is declared with these parameters, and a trait over these sorts: nothing else of the store changes
 abbrev pub DeclaresType : List Param → Cx → Cx → Type 0
@@ -68,21 +70,23 @@ abbrev pub DeclaresTrait : List Sort → Cx → Cx → Type 0
 DeclaresTrait sorts old new = new ≡ record old { declarations = with_trait old.declarations sorts }
 
 -- what a command changes, and how it is answered
-abbrev pub Follows : Program → Program → Command → Option (Vec ℕ) → Type 0
-Follows old new (commands.Mode m) o = (new.mode ≡ m) × (new.cx ≡ old.cx) × (new.clauses ≡ old.clauses) × (o ≡ None)
+abbrev pub Follows : Program → Program → Command → Option Answer → Type 0
+Follows old new (commands.Mode m) o = (new.mode ≡ m) × (new.cx ≡ old.cx) × (new.clauses ≡ old.clauses) × (new.env ≡ old.env) × (o ≡ None)
 Follows old new (commands.Depth d) o = (new.cx ≡ record old.cx { recursion_limit = d }) × KeepsRules old new × (o ≡ None)
 Follows old new (commands.Type n params) o = DeclaresType params.items old.cx new.cx × KeepsRules old new × (o ≡ None)
 Follows old new (commands.Trait n true) o =
-    DeclaresTrait (trait_sorts new.names n) old.cx new.cx × MakesCoinductive old.clauses new.clauses (length old.cx.declarations.traits) × (new.mode ≡ old.mode) × (o ≡ None)
+    DeclaresTrait (trait_sorts new.names n) old.cx new.cx × MakesCoinductive old.clauses new.clauses (length old.cx.declarations.traits) × (new.mode ≡ old.mode) × (new.env ≡ old.env) × (o ≡ None)
 Follows old new (commands.Trait n false) o = DeclaresTrait (trait_sorts new.names n) old.cx new.cx × KeepsRules old new × (o ≡ None)
 Follows old new (commands.Impl head body) o =
     (c : Clause) × AddsClause old.clauses new.clauses c × IsRuleOf new.cx.nodes head.items body.items c
-    × Grows old.cx new.cx × (new.mode ≡ old.mode) × (o ≡ None)
+    × Grows old.cx new.cx × (new.mode ≡ old.mode) × (new.env ≡ old.env) × (o ≡ None)
 Follows old new (commands.Goal nodes) o =
-    (text : Vec ℕ) × (o ≡ Some text) × IsAnswerWritten old new nodes.items text.items × Grows old.cx new.cx × KeepsRules old new
+    (answer : Answer) × (o ≡ Some answer) × IsAnswerTo old new nodes.items answer × Grows old.cx new.cx × KeepsRules old new
+Follows old new (commands.Env nodes) o =
+    AssumesNodes nodes.items new × Grows old.cx new.cx × (new.clauses ≡ old.clauses) × (new.mode ≡ old.mode) × (o ≡ None)
 
 -- a line that is passed over changes nothing
-pub record PassesOver (line : List ℕ) (old new : Program) (o : Option (Vec ℕ)) : Type 0 where
+pub record PassesOver (line : List ℕ) (old new : Program) (o : Option Answer) : Type 0 where
   pub passed : IsPassedOver line
   pub cx : new.cx ≡ old.cx
   pub rules : KeepsRules old new
@@ -92,12 +96,12 @@ pub record PassesOver (line : List ℕ) (old new : Program) (o : Option (Vec ℕ
 
 -- a line's command is followed, once the names that it declares are added, and parameters that it
 -- is the first to name
-pub record FollowsLine (line : List ℕ) (old new : Program) (o : Option (Vec ℕ)) : Type 0 where
+pub record FollowsLine (line : List ℕ) (old new : Program) (o : Option Answer) : Type 0 where
   pub command : Command
   pub is : IsCommandOf line old.names new.names new.scope command
   pub parameters : KeepsNumbers old.scope.parameters new.scope.parameters
   pub follows : Follows old new command o
 
 -- a line that is passed over, or whose command is followed
-abbrev pub IsObeyed : List ℕ → Program → Program → Option (Vec ℕ) → Type 0
+abbrev pub IsObeyed : List ℕ → Program → Program → Option Answer → Type 0
 IsObeyed line old new o = PassesOver line old new o ⊎ FollowsLine line old new o

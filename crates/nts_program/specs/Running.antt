@@ -1,31 +1,34 @@
 -- What a run does.
 use Rattle.std.specs.Prelude.{◌≡◌, ℕ, ◌+◌, List, [], ◌∷◌, ◌++◌, length, Option, None, Some, IfSome}
-use Rattle.std.specs.Global.{Vec}
 use Rattle.std.specs.Io.KnownBytes.{Appends}
 use Rattle.nts_text.specs.Input.{lines_of}
 use Rattle.nts_text.specs.Lines.{IsPassedOver}
 use Rattle.nts_text.specs.declared.refusals.Refusal.{Refusal}
 use Rattle.nts_program.specs.declared.program.Program.{Program}
+use Rattle.nts_wording.specs.declared.answer.Answer.{Answer}
+use Rattle.nts_wording.specs.Answers.{IsAnswerText}
 use Rattle.nts_wording.specs.Growing.{refusal_line}
 use Rattle.nts_program.specs.Obeying.{IsNewProgram, IsObeyed}
 
--- the text of an answer, which only a goal has
-abbrev pub answer_text : Option (Vec ℕ) → List ℕ
-answer_text None = []
-answer_text (Some text) = text.items
+-- what is written once a line is obeyed: the text of the answer, which only a goal has
+abbrev pub IsTextOf : Program → Option Answer → List ℕ → Type 0
+IsTextOf new None text = text ≡ []
+IsTextOf new (Some answer) text = IsAnswerText new.cx.nodes new.names new.scope answer text
 
 -- a line is obeyed, and its answer is written
 pub record IsAnsweredLine (line : List ℕ) (old new : Program) (before after : Option (List ℕ)) : Type 0 where
-  pub answer : Option (Vec ℕ)
+  pub answer : Option Answer
   pub obeyed : IsObeyed line old new answer
-  pub written : Appends before after (answer_text answer)
+  pub text : List ℕ
+  pub says : IsTextOf new answer text
+  pub written : Appends before after text
 
 -- lines are obeyed one after the other, and this is the text of their answers
 abbrev pub AreObeyed : List (List ℕ) → Program → Program → List ℕ → Type 0
 AreObeyed [] old new text = (new ≡ old) × (text ≡ [])
 AreObeyed (line ∷ lines) old new text =
-    (answer : Option (Vec ℕ)) × (between : Program) × (rest : List ℕ)
-    × IsObeyed line old between answer × AreObeyed lines between new rest × (text ≡ answer_text answer ++ rest)
+    (answer : Option Answer) × (between : Program) × (first rest : List ℕ)
+    × IsObeyed line old between answer × IsTextOf between answer first × AreObeyed lines between new rest × (text ≡ first ++ rest)
 
 -- lines are obeyed one after the other, the first by a program that was told nothing, and the text
 -- of their answers is written

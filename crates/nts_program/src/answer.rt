@@ -14,12 +14,12 @@ ghost use Rattle.nts_store.specs.Growth.{tree_at};
 ghost use Rattle.nts_terms.specs.Rest.{Grows};
 
 use nts_certainty::{Certainty, MaybeCause};
-use nts_delegate::Clauses;
+use nts_delegate::{Assembly, Clauses};
 use nts_evaluation::{evaluate_root_goal, goal_is_admitted};
 use nts_model::Sort;
 use nts_store::{EvalError, NodeId};
 use nts_table::InferCtxt;
-use nts_terms::{Cx, GenericArg, Goal, Span, TypingMode};
+use nts_terms::{Cx, GenericArg, Goal, ParamEnv, Span, TypingMode};
 use nts_text::{Mode, Resolved};
 use nts_wording::{Answer, LineVariables, MISFIT, Stop, Terms, answer_of, goal_of};
 use std::alloc::{AllocError, Global};
@@ -37,11 +37,17 @@ fn typing_mode(alloc: Global, mode: Mode) -> TypingMode
     }
 }
 
-/// Asks a goal, with these clauses as the rules.
+/// Asks a goal in this environment, or in the empty one, with its clauses and these as the rules.
 #[tactic(auto, using(crate::proofs::Asking::asking))]
-pub fn ask(cx: &mut Cx, clauses: &Clauses, mode: Mode, nodes: &[Resolved]) -> Result<Answer, Stop>
+pub fn ask(
+    cx: &mut Cx,
+    clauses: &Clauses,
+    env: Option<ParamEnv>,
+    mode: Mode,
+    nodes: &[Resolved],
+) -> Result<Answer, Stop>
     requires ready { AreClausesReady cx.old.nodes clauses.now }
-    ensures yes { IfOk result (IsJustifiedAnswer mode nodes.now cx.old cx.new.nodes
+    ensures yes { IfOk result (IsJustifiedAnswer mode env nodes.now cx.old cx.new.nodes
         clauses.now) }
     ensures grows { Grows cx.old cx.new }
 {
@@ -53,7 +59,7 @@ pub fn ask(cx: &mut Cx, clauses: &Clauses, mode: Mode, nodes: &[Resolved]) -> Re
         variables: &variables,
         values: &values,
     };
-    let goal = goal_of(cx, nodes, terms)?;
+    let goal = goal_of(cx, env, nodes, terms)?;
     match evaluated(&mut table, cx, clauses, goal, &values)? {
         None => Ok(Answer::No),
         Some(Certainty::Yes) => answer_of(&table, cx, variables, &values),
@@ -119,7 +125,8 @@ fn evaluated(
     if !admitted {
         return Err(MISFIT);
     }
-    match evaluate_root_goal(table, cx, clauses, goal, Span(0), None) {
+    let rules = Assembly::new(clauses);
+    match evaluate_root_goal(table, cx, &rules, goal, Span(0), None) {
         Ok(evaluation) => Ok(Some(evaluation.certainty)),
         Err(EvalError::NoSolution) => Ok(None),
         Err(EvalError::Memory | EvalError::Full) => Err(Stop::Memory),

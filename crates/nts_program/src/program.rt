@@ -1,21 +1,25 @@
 //! The state of a run, and what each command does to it.
-ghost use Rattle.std.specs.Prelude.{◌≡◌, true, false, length, map, IsNone, IfOk, OnOk, OnErr};
+ghost use Rattle.std.specs.Prelude.{◌≡◌, true, false, length, map, IsNone, IfOk, IfErr, OnOk, OnErr};
 ghost use Rattle.nts_delegate.specs.Adding.{AddsClause, MakesCoinductive};
 ghost use Rattle.nts_delegate.specs.Clauses.{AreClausesReady};
 ghost use Rattle.nts_delegate.specs.declared.clauses.Clause.{Clause};
 ghost use Rattle.nts_text.specs.Lines.{IsPassedOver};
 ghost use Rattle.nts_text.specs.Resolution.{trait_sorts};
 ghost use Rattle.nts_wording.specs.Meaning.{IsRuleOf};
-ghost use Rattle.nts_program.specs.Obeying.{IsNewProgram, DeclaresType, DeclaresTrait, Follows, KeepsRules, IsAnswerWritten, IsObeyed, IsInStep};
+ghost use Rattle.nts_wording.specs.Answers.{IsAnswerPut};
+ghost use Rattle.nts_wording.specs.Growing.{Begins};
+ghost use Rattle.nts_wording.specs.Statuses.{is_refusal};
+ghost use Rattle.nts_program.specs.Obeying.{IsNewProgram, DeclaresType, DeclaresTrait, Follows, KeepsRules, AssumesNodes, IsObeyed, IsInStep};
 ghost use Rattle.nts_terms.specs.Rest.{Grows};
 
 use crate::answer::ask;
 use nts_delegate::Clauses;
 use nts_model::{Sort, Variance};
-use nts_terms::{Cx, are_variances};
+use nts_terms::{Cx, ParamEnv, are_variances};
 use nts_text::{Command, Mode, NameTable, Param, Resolved, Scope, read_command};
-use nts_wording::{MISFIT, Stop, clause_of, text_of};
+use nts_wording::{Answer, MISFIT, Stop, clause_of, environment_of, write_answer};
 use std::alloc::{AllocError, Global};
+use std::io::Write;
 
 /// What the lines of a run have said so far.
 #[derive(Drop)]
@@ -24,6 +28,8 @@ pub struct Program {
     /// The terms, what is declared, and the depth.
     pub cx: Cx,
     pub clauses: Clauses,
+    /// The environment of the goals, if a line told it.
+    pub env: Option<ParamEnv>,
     /// The names that are declared.
     pub names: NameTable,
     /// The variables of the last line, and the parameters of all.
@@ -42,14 +48,15 @@ impl Program {
             alloc,
             cx: Cx::new(alloc),
             clauses: Clauses::new(alloc),
+            env: None,
             names: NameTable::new(alloc),
             scope: Scope::new(alloc),
             mode: Mode::Analysis,
         }
     }
 
-    /// Does what a line says. The result is the text of its answer, if it asks for one.
-    pub fn obey(&mut self, line: &[u8]) -> Result<Option<Vec<u8>>, Stop>
+    /// Does what a line says. The result is its answer, if it asks for one.
+    pub fn obey(&mut self, line: &[u8]) -> Result<Option<Answer>, Stop>
         requires ready { AreClausesReady self.old.cx.nodes self.old.clauses }
         ensures ready { OnOk result (AreClausesReady self.new.cx.nodes self.new.clauses) }
         ensures passed { IfOk result (λ o. IsPassedOver line.now → IsNone o) }
@@ -63,8 +70,27 @@ impl Program {
         }
     }
 
+    /// Writes the answer to the last line, and lets it out. Whatever happens, what was written before stays.
+    #[tactic(auto, using(nts_wording::proofs::Growths::writes))]
+    pub fn write_answer<W: Write>(&self, output: &mut W, answer: &Answer) -> Result<(), Stop>
+        ensures told { OnOk result (IsAnswerPut self.now.cx.nodes self.now.names self.now.scope
+            answer.now (W.contents output.old) (W.contents output.new)) }
+        ensures fault { IfErr result (λ s. is_refusal s ≡ false) }
+        ensures begins { Begins (W.contents output.old) (W.contents output.new) }
+    {
+        write_answer(
+            self.alloc,
+            output,
+            &self.cx.nodes,
+            &self.names,
+            &self.scope,
+            answer,
+        )
+    }
+
     /// Does what a command says, likewise.
-    fn follow(&mut self, command: Command) -> Result<Option<Vec<u8>>, Stop>
+    #[tactic(auto, using(crate::proofs::Asking::keeping))]
+    fn follow(&mut self, command: Command) -> Result<Option<Answer>, Stop>
         requires ready { AreClausesReady self.old.cx.nodes self.old.clauses }
         ensures ready { OnOk result (AreClausesReady self.new.cx.nodes self.new.clauses) }
         ensures names { self.new.names ≡ self.old.names }
@@ -96,8 +122,12 @@ impl Program {
                 Ok(None)
             }
             Command::Goal(nodes) => {
-                let text = self.answer(&nodes)?;
-                Ok(Some(text))
+                let answer = ask(&mut self.cx, &self.clauses, self.env, self.mode, &nodes)?;
+                Ok(Some(answer))
+            }
+            Command::Env(nodes) => {
+                self.assume(&nodes)?;
+                Ok(None)
             }
         }
     }
@@ -132,6 +162,7 @@ impl Program {
         ensures inductive { OnOk result (coinductive ≡ false →
             self.new.clauses ≡ self.old.clauses) }
         ensures mode { self.new.mode ≡ self.old.mode }
+        ensures env { self.new.env ≡ self.old.env }
         ensures names { self.new.names ≡ self.old.names }
         ensures scope { self.new.scope ≡ self.old.scope }
     {
@@ -154,6 +185,7 @@ impl Program {
             × IsRuleOf self.new.cx.nodes head.now body.now c) }
         ensures grows { OnOk result (Grows self.old.cx self.new.cx) }
         ensures mode { self.new.mode ≡ self.old.mode }
+        ensures env { self.new.env ≡ self.old.env }
         ensures names { self.new.names ≡ self.old.names }
         ensures scope { self.new.scope ≡ self.old.scope }
     {
@@ -165,26 +197,21 @@ impl Program {
         Ok(())
     }
 
+    /// Assumes the environment that these nodes say, in place of the one before.
     #[tactic(auto, using(crate::proofs::Asking::keeping))]
-    fn answer(&mut self, nodes: &[Resolved]) -> Result<Vec<u8>, Stop>
+    fn assume(&mut self, nodes: &[Resolved]) -> Result<(), Stop>
         requires ready { AreClausesReady self.old.cx.nodes self.old.clauses }
         ensures ready { OnOk result (AreClausesReady self.new.cx.nodes self.new.clauses) }
-        ensures told { IfOk result (λ text. IsAnswerWritten self.old self.new nodes.now
-            text.items) }
+        ensures assumed { OnOk result (AssumesNodes nodes.now self.new) }
         ensures grows { OnOk result (Grows self.old.cx self.new.cx) }
-        ensures rules { KeepsRules self.old self.new }
+        ensures clauses { self.new.clauses ≡ self.old.clauses }
+        ensures mode { self.new.mode ≡ self.old.mode }
         ensures names { self.new.names ≡ self.old.names }
         ensures scope { self.new.scope ≡ self.old.scope }
     {
-        let answer = ask(&mut self.cx, &self.clauses, self.mode, nodes)?;
-        let text = text_of(
-            self.alloc,
-            &self.cx.nodes,
-            &self.names,
-            &self.scope,
-            &answer,
-        )?;
-        Ok(text)
+        let env = environment_of(&mut self.cx, nodes)?;
+        self.env = Some(env);
+        Ok(())
     }
 }
 

@@ -9,7 +9,7 @@ ghost use Rattle.nts_wording.specs.declared.status.Status.TheVariants.{Done, Ref
 
 use crate::program::Program;
 use nts_text::next_line;
-use nts_wording::{Status, Stop, put_answer, put_refusal};
+use nts_wording::{Status, Stop, put_refusal};
 use std::alloc::Global;
 use std::io::{BufRead, BufReader, Read, Write};
 
@@ -87,7 +87,7 @@ fn handle_line<W: Write>(
     ensures passed { OnOk result (IsPassedOver line.now → output.new ≡ output.old) }
 {
     match program.obey(line) {
-        Ok(Some(text)) => put_answer(output, &text),
+        Ok(Some(answer)) => program.write_answer(output, &answer),
         Ok(None) => Ok(()),
         Err(Stop::Refused(refusal)) => {
             put_refusal(output, number, refusal)?;

@@ -79,6 +79,7 @@ module _ (line : List ℕ) (ts : List Token) where
   says_no_fact none fails (lines.Type name params) says = says
   says_no_fact none fails (lines.Trait name sorts coinductive) says = says
   says_no_fact none fails (lines.Goal ns) says = says
+  says_no_fact none fails (lines.Env ns) says = says
   says_no_fact none fails (lines.Impl head body) (inl h) = let f : true ≡ false = sym h.0 ∙ fails in cc
   says_no_fact none fails (lines.Impl head body) (inr (before, after, t, parts, arrow, is, head_is, are, body_is)) =
       holds_between IsNoArrow before t after (subst (All IsNoArrow) parts none) arrow
@@ -91,6 +92,7 @@ module _ (line : List ℕ) (ts : List Token) where
   says_no_rule at lt here first fails (lines.Type name params) says = says
   says_no_rule at lt here first fails (lines.Trait name sorts coinductive) says = says
   says_no_rule at lt here first fails (lines.Goal ns) says = says
+  says_no_rule at lt here first fails (lines.Env ns) says = says
   says_no_rule at lt here first fails (lines.Impl head body) (inl h) =
       let d : Token = record { kind = Name; start = 0; end = 0 } in
       let arrow : (get_or ts at d).kind ≡ Arrow = subst (λ o. IfSome o (λ t. t.kind ≡ Arrow)) (slice_get-get_or ts at d lt) here in

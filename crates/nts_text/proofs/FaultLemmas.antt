@@ -54,6 +54,7 @@ no_coinductive_trait line ts rest list r ends none (lines.Depth d) says = says
 no_coinductive_trait line ts rest list r ends none (lines.Type name params) says = says
 no_coinductive_trait line ts rest list r ends none (lines.Impl head body) says = says
 no_coinductive_trait line ts rest list r ends none (lines.Goal ns) says = says
+no_coinductive_trait line ts rest list r ends none (lines.Env ns) says = says
 no_coinductive_trait line ts rest list r ends none (lines.Trait name sorts true) says =
     let (others, all, named, body) = says in
     let same : others ≡ rest = ap (drop 1) (sym all) ∙ sym r in
@@ -72,6 +73,7 @@ no_trait line ts rest r other none (lines.Depth d) says = says
 no_trait line ts rest r other none (lines.Type name params) says = says
 no_trait line ts rest r other none (lines.Impl head body) says = says
 no_trait line ts rest r other none (lines.Goal ns) says = says
+no_trait line ts rest r other none (lines.Env ns) says = says
 no_trait line ts rest r other none (lines.Trait name sorts true) says =
     let (others, all, named, body) = says in
     let same : others ≡ rest = ap (drop 1) (sym all) ∙ sym r in
@@ -100,28 +102,43 @@ twice_on (Ok x) e A h k is = cc
 twice_on (Err x) e A h k is = k (sym h ∙ (let f : x ≡ Refused reasons.NameDeclaredTwice = cc in f))
 
 -- why the nodes of a clause are refused, and those of a goal
-pub bad_clause : (names : NameTable) (line : List ℕ) (head body : Vec Node) (e : TextError) → is_name_reason e ≡ true
+pub bad_clause : (names : NameTable) (line : List ℕ) (head body : Vec Node) (e : TextError) → is_name_reason e ≡ true → (e ≡ Refused reasons.VariableInAnEnvironment → sites.Clause ≡ sites.Environment)
     → (e ≡ Refused reasons.UnknownName → HasFreeName names line head.items ⊎ HasFreeName names line body.items)
     → (e ≡ Refused reasons.NameDeclaredTwice → HasBoundTwice names line head.items ⊎ HasBoundTwice names line body.items) → HasBadNames names line e (lines.Impl head body)
-bad_clause names line head body Memory reason unknown twice = tt
-bad_clause names line head body (Refused reasons.UnknownName) reason unknown twice = unknown refl
-bad_clause names line head body (Refused reasons.NameDeclaredTwice) reason unknown twice = twice refl
-bad_clause names line head body (Refused reasons.WrongArguments) reason unknown twice = tt
-bad_clause names line head body (Refused reasons.ParameterInAClause) reason unknown twice = tt
-bad_clause names line head body (Refused reasons.UnknownCommand) reason unknown twice = cc
-bad_clause names line head body (Refused reasons.Syntax) reason unknown twice = cc
-bad_clause names line head body (Refused reasons.NumberOutOfRange) reason unknown twice = cc
+bad_clause names line head body Memory reason variable unknown twice = tt
+bad_clause names line head body (Refused reasons.UnknownName) reason variable unknown twice = unknown refl
+bad_clause names line head body (Refused reasons.NameDeclaredTwice) reason variable unknown twice = twice refl
+bad_clause names line head body (Refused reasons.WrongArguments) reason variable unknown twice = tt
+bad_clause names line head body (Refused reasons.ParameterInAClause) reason variable unknown twice = tt
+bad_clause names line head body (Refused reasons.VariableInAnEnvironment) reason variable unknown twice = let f : sites.Clause ≡ sites.Environment = variable refl in cc
+bad_clause names line head body (Refused reasons.UnknownCommand) reason variable unknown twice = cc
+bad_clause names line head body (Refused reasons.Syntax) reason variable unknown twice = cc
+bad_clause names line head body (Refused reasons.NumberOutOfRange) reason variable unknown twice = cc
 
-pub bad_goal : (names : NameTable) (line : List ℕ) (ns : Vec Node) (e : TextError) → is_name_reason e ≡ true → (e ≡ Refused reasons.ParameterInAClause → sites.Goal ≡ sites.Clause)
+pub bad_goal : (names : NameTable) (line : List ℕ) (ns : Vec Node) (e : TextError) → is_name_reason e ≡ true → (e ≡ Refused reasons.ParameterInAClause → sites.Goal ≡ sites.Clause) → (e ≡ Refused reasons.VariableInAnEnvironment → sites.Goal ≡ sites.Environment)
     → (e ≡ Refused reasons.UnknownName → HasFreeName names line ns.items) → (e ≡ Refused reasons.NameDeclaredTwice → HasBoundTwice names line ns.items) → HasBadNames names line e (lines.Goal ns)
-bad_goal names line ns Memory reason parameter unknown twice = tt
-bad_goal names line ns (Refused reasons.UnknownName) reason parameter unknown twice = unknown refl
-bad_goal names line ns (Refused reasons.NameDeclaredTwice) reason parameter unknown twice = twice refl
-bad_goal names line ns (Refused reasons.WrongArguments) reason parameter unknown twice = tt
-bad_goal names line ns (Refused reasons.ParameterInAClause) reason parameter unknown twice = let f : sites.Goal ≡ sites.Clause = parameter refl in cc
-bad_goal names line ns (Refused reasons.UnknownCommand) reason parameter unknown twice = cc
-bad_goal names line ns (Refused reasons.Syntax) reason parameter unknown twice = cc
-bad_goal names line ns (Refused reasons.NumberOutOfRange) reason parameter unknown twice = cc
+bad_goal names line ns Memory reason parameter variable unknown twice = tt
+bad_goal names line ns (Refused reasons.UnknownName) reason parameter variable unknown twice = unknown refl
+bad_goal names line ns (Refused reasons.NameDeclaredTwice) reason parameter variable unknown twice = twice refl
+bad_goal names line ns (Refused reasons.WrongArguments) reason parameter variable unknown twice = tt
+bad_goal names line ns (Refused reasons.ParameterInAClause) reason parameter variable unknown twice = let f : sites.Goal ≡ sites.Clause = parameter refl in cc
+bad_goal names line ns (Refused reasons.VariableInAnEnvironment) reason parameter variable unknown twice = let f : sites.Goal ≡ sites.Environment = variable refl in cc
+bad_goal names line ns (Refused reasons.UnknownCommand) reason parameter variable unknown twice = cc
+bad_goal names line ns (Refused reasons.Syntax) reason parameter variable unknown twice = cc
+bad_goal names line ns (Refused reasons.NumberOutOfRange) reason parameter variable unknown twice = cc
+
+-- .. and those of an environment
+pub bad_env : (names : NameTable) (line : List ℕ) (ns : Vec Node) (e : TextError) → is_name_reason e ≡ true → (e ≡ Refused reasons.ParameterInAClause → sites.Environment ≡ sites.Clause)
+    → (e ≡ Refused reasons.UnknownName → HasFreeName names line ns.items) → (e ≡ Refused reasons.NameDeclaredTwice → HasBoundTwice names line ns.items) → HasBadNames names line e (lines.Env ns)
+bad_env names line ns Memory reason parameter unknown twice = tt
+bad_env names line ns (Refused reasons.UnknownName) reason parameter unknown twice = unknown refl
+bad_env names line ns (Refused reasons.NameDeclaredTwice) reason parameter unknown twice = twice refl
+bad_env names line ns (Refused reasons.WrongArguments) reason parameter unknown twice = tt
+bad_env names line ns (Refused reasons.VariableInAnEnvironment) reason parameter unknown twice = tt
+bad_env names line ns (Refused reasons.ParameterInAClause) reason parameter unknown twice = let f : sites.Environment ≡ sites.Clause = parameter refl in cc
+bad_env names line ns (Refused reasons.UnknownCommand) reason parameter unknown twice = cc
+bad_env names line ns (Refused reasons.Syntax) reason parameter unknown twice = cc
+bad_env names line ns (Refused reasons.NumberOutOfRange) reason parameter unknown twice = cc
 
 -- why a declaration is refused
 pub bad_type : (names : NameTable) (line : List ℕ) (name : Token) (params : Vec Param) (e : TextError)
@@ -183,3 +200,4 @@ fault_of_names names line k end ts l (Refused reasons.UnknownName) begins cut sa
 fault_of_names names line k end ts l (Refused reasons.NameDeclaredTwice) begins cut says bad = record { keyword = k; end = end; tokens = ts; parsed = l; begins = begins; cut = cut; says = says; bad = bad }
 fault_of_names names line k end ts l (Refused reasons.WrongArguments) begins cut says bad = record { keyword = k; end = end; tokens = ts; parsed = l; begins = begins; cut = cut; says = says; bad = bad }
 fault_of_names names line k end ts l (Refused reasons.ParameterInAClause) begins cut says bad = record { keyword = k; end = end; tokens = ts; parsed = l; begins = begins; cut = cut; says = says; bad = bad }
+fault_of_names names line k end ts l (Refused reasons.VariableInAnEnvironment) begins cut says bad = record { keyword = k; end = end; tokens = ts; parsed = l; begins = begins; cut = cut; says = says; bad = bad }

@@ -1,19 +1,22 @@
 -- What a node in the place of an argument is answered, at each of the ways out.
-use Rattle.std.proofs.Common.{◌≡◌, ◌≢◌, true, Result, Ok, Err, IfOk, IfErr, IsErr, IsErrAnd, Some, refl, ap}
+use Rattle.std.proofs.Common.{◌≡◌, ◌≢◌, true, Result, Ok, Err, IfOk, IfErr, IsErr, IsErrAnd, Some, ℕ, List, refl, sym, ap, ◌∙◌}
 use Rattle.nts_model.specs.declared.labels.Sort.{Sort}
 use Rattle.nts_text.specs.Binders.{BoundNames}
 use Rattle.nts_text.specs.Reasons.{is_name_reason}
-use Rattle.nts_text.specs.Resolution.{sort_of, role_of, IsDeclared, IsMeaningOf}
+use Rattle.nts_text.specs.Resolution.{sort_of, role_of, IsDeclared, IsMeaningOf, IsNoVariable}
 use Rattle.nts_text.specs.Spelled.{KeepsNames}
 use Rattle.nts_text.specs.declared.names.Scope.{Scope}
 use Rattle.nts_text.specs.declared.predicates.Node.{Node}
 use Rattle.nts_text.specs.declared.predicates.Role.TheVariants.{Argument}
-use Rattle.nts_text.specs.declared.refusals.Refusal.TheVariants.{ParameterInAClause, UnknownName, NameDeclaredTwice, WrongArguments}
+use Rattle.nts_text.specs.declared.refusals.Refusal.TheVariants.{ParameterInAClause, VariableInAnEnvironment, UnknownName, NameDeclaredTwice, WrongArguments}
 use Rattle.nts_text.specs.declared.refusals.TextError.{TextError}
 use Rattle.nts_text.specs.declared.refusals.TextError.TheVariants.{Memory, Refused}
 use Rattle.nts_text.specs.declared.resolver.Resolved.{Resolved}
+use Rattle.nts_text.specs.declared.resolver.Resolved.TheVariants as nodes
+use Rattle.nts_text.specs.declared.names.NameTable.{NameTable}
+use Rattle.nts_text.specs.declared.lexer.TokenKind.TheVariants.{Name, TypeVariable, RegionVariable}
 use Rattle.nts_text.specs.declared.resolver.Reading.{Reading}
-use Rattle.nts_text.specs.declared.resolver.Site.TheVariants.{Clause}
+use Rattle.nts_text.specs.declared.resolver.Site.TheVariants.{Clause, Environment}
 
 -- The clauses of `type_node`, `region_name` and `region_node`, where `U` is what an unknown name says.
 abbrev pub AnswersNode : Reading → BoundNames → Node → Sort → Type 0 → Scope → Scope → Result Resolved TextError → Type 0
@@ -25,15 +28,17 @@ AnswersNode reading b node wanted U old new r = record {
   kept : KeepsNames old new;
   reasons : IfErr r (λ e. is_name_reason e ≡ true);
   parameter : r ≡ Err (Refused ParameterInAClause) → reading.site ≡ Clause;
+  variable : r ≡ Err (Refused VariableInAnEnvironment) → reading.site ≡ Environment;
+  free : reading.site ≡ Environment → IfOk r IsNoVariable;
   unknown : r ≡ Err (Refused UnknownName) → U;
   twice : r ≡ Err (Refused NameDeclaredTwice) → ⊥;
 }
 
 -- a node that is taken
 pub taken : (reading : Reading) (b : BoundNames) (node : Node) (wanted : Sort) (U : Type 0) (old new : Scope) (x : Resolved)
-    → sort_of x ≡ Some wanted → role_of x ≡ Argument → IsDeclared reading.names.now x → IsMeaningOf reading.names.now new reading.line.now b node x → KeepsNames old new
+    → sort_of x ≡ Some wanted → role_of x ≡ Argument → IsDeclared reading.names.now x → IsMeaningOf reading.names.now new reading.line.now b node x → KeepsNames old new → (reading.site ≡ Environment → IsNoVariable x)
     → AnswersNode reading b node wanted U old new (Ok x)
-taken reading b node wanted U old new x sort role declared means kept = record {
+taken reading b node wanted U old new x sort role declared means kept free = record {
   sort = sort;
   role = role;
   declared = declared;
@@ -41,6 +46,8 @@ taken reading b node wanted U old new x sort role declared means kept = record {
   kept = kept;
   reasons = tt;
   parameter = λ is. cc;
+  variable = λ is. cc;
+  free = free;
   unknown = λ is. cc;
   twice = λ is. cc;
 }
@@ -57,6 +64,8 @@ no_memory reading b node wanted U old new (Err e) h kept = record {
   kept = kept;
   reasons = rw h refl;
   parameter = λ is. cc;
+  variable = λ is. cc;
+  free = λ is. tt;
   unknown = λ is. cc;
   twice = λ is. cc;
 }
@@ -73,9 +82,40 @@ no_parameter reading b node wanted U scope (Err x) e h k kept = record {
   kept = kept;
   reasons = rw (h, k.0) refl;
   parameter = λ is. k.1;
+  variable = λ is. cc;
+  free = λ is. tt;
   unknown = λ is. cc;
   twice = λ is. cc;
 }
+
+-- a variable where none may stand
+pub no_variable : (reading : Reading) (b : BoundNames) (node : Node) (wanted : Sort) (U : Type 0) (scope : Scope) (r : Result Resolved TextError) (e : TextError)
+    → IsErrAnd r (λ x. x ≡ e) → (e ≡ Refused VariableInAnEnvironment) × (reading.site ≡ Environment) → KeepsNames scope scope → AnswersNode reading b node wanted U scope scope r
+no_variable reading b node wanted U scope (Ok x) e h k kept = absurd h
+no_variable reading b node wanted U scope (Err x) e h k kept = record {
+  sort = tt;
+  role = tt;
+  declared = tt;
+  means = tt;
+  kept = kept;
+  reasons = rw (h, k.0) refl;
+  parameter = λ is. cc;
+  variable = λ is. k.1;
+  free = λ is. tt;
+  unknown = λ is. cc;
+  twice = λ is. cc;
+}
+
+-- what is no argument is no variable, and a name is none
+pub no_argument : (x : Resolved) → (role_of x ≡ Argument → ⊥) → IsNoVariable x
+no_argument (nodes.TypeVariable n) h = absurd (h refl)
+no_argument (nodes.RegionVariable n) h = absurd (h refl)
+no_argument x h = refl
+
+pub name_is_free : (names : NameTable) (scope : Scope) (line : List ℕ) (b : BoundNames) (node : Node) (x : Resolved) → node.token.kind ≡ Name → IsMeaningOf names scope line b node x → IsNoVariable x
+name_is_free names scope line b node (nodes.TypeVariable n) k h = let f : Name ≡ TypeVariable = sym k ∙ h.0 in cc
+name_is_free names scope line b node (nodes.RegionVariable n) k h = let f : Name ≡ RegionVariable = sym k ∙ h.0 in cc
+name_is_free names scope line b node x k h = refl
 
 -- a node of another form, or with the wrong number of arguments
 pub wrong_node : (reading : Reading) (b : BoundNames) (node : Node) (wanted : Sort) (U : Type 0) (scope : Scope) (r : Result Resolved TextError)
@@ -91,6 +131,8 @@ wrong_node reading b node wanted U scope (Err e) h kept =
       kept = kept;
       reasons = rw same refl;
       parameter = λ is. cc;
+      variable = λ is. cc;
+      free = λ is. tt;
       unknown = λ is. cc;
       twice = λ is. cc;
     }
@@ -108,6 +150,8 @@ no_region reading b node wanted U scope (Err (Refused UnknownName)) none wrong u
   kept = kept;
   reasons = refl;
   parameter = λ is. cc;
+  variable = λ is. cc;
+  free = λ is. tt;
   unknown = unknown;
   twice = λ is. cc;
 }
@@ -123,6 +167,7 @@ pub unknown_name : (S R D : Resolved → Type 0) (M : Scope → BoundNames → R
       means : (scope : Scope) (b : BoundNames) → IfOk r (M scope b);
       reasons : IfErr r (λ e. is_name_reason e ≡ true);
       reason : r ≢ Err (Refused ParameterInAClause);
+      variable : r ≢ Err (Refused VariableInAnEnvironment);
       unknown : r ≡ Err (Refused UnknownName) → U;
       declares : r ≢ Err (Refused NameDeclaredTwice);
     }
@@ -134,6 +179,7 @@ unknown_name S R D M U (Err x) e h k = record {
   means = λ scope b. tt;
   reasons = rw (h, k.0) refl;
   reason = λ is. cc;
+  variable = λ is. cc;
   unknown = λ is. k.1;
   declares = λ is. cc;
 }
@@ -146,6 +192,7 @@ pub wrong_name : (S R D : Resolved → Type 0) (M : Scope → BoundNames → Res
       means : (scope : Scope) (b : BoundNames) → IfOk r (M scope b);
       reasons : IfErr r (λ e. is_name_reason e ≡ true);
       reason : r ≢ Err (Refused ParameterInAClause);
+      variable : r ≢ Err (Refused VariableInAnEnvironment);
       unknown : r ≡ Err (Refused UnknownName) → U;
       declares : r ≢ Err (Refused NameDeclaredTwice);
     }
@@ -159,6 +206,11 @@ wrong_name S R D M U (Err e) h =
       means = λ scope b. tt;
       reasons = rw same refl;
       reason = λ is. cc;
+      variable = λ is. cc;
       unknown = λ is. cc;
       declares = λ is. cc;
     }
+
+pub IfOk-map : {A E : Type 0} {P Q : A → Type 0} (r : Result A E) → ((x : A) → P x → Q x) → IfOk r P → IfOk r Q
+IfOk-map (Ok x) f h = f x h
+IfOk-map (Err e) f h = tt

@@ -1,9 +1,9 @@
 -- What commands say.
-use Rattle.std.specs.Prelude.{◌≡◌, ℕ, List, [], map, Some}
+use Rattle.std.specs.Prelude.{◌≡◌, ℕ, List, [], map, Some, All}
 use Rattle.nts_text.specs.Lines.{bytes_of, BeginsWithKeyword, Says}
 use Rattle.nts_text.specs.NameTable.{declared_as, AddsType, AddsTrait}
 use Rattle.nts_text.specs.Binders.{nothing_bound}
-use Rattle.nts_text.specs.Resolution.{AreSorted, AreMeanings}
+use Rattle.nts_text.specs.Resolution.{AreSorted, AreMeanings, IsNoVariable}
 use Rattle.nts_text.specs.Tokens.{AreTokensFrom}
 use Rattle.nts_text.specs.declared.commands.Command.{Command}
 use Rattle.nts_text.specs.declared.commands.Command.TheVariants as commands
@@ -19,6 +19,7 @@ use Rattle.nts_text.specs.declared.parser.Line.TheVariants as lines
 abbrev pub IsSorted : NameTable → Command → Type 0
 IsSorted names (commands.Impl head body) = AreSorted names [] head.items × AreSorted names [] body.items
 IsSorted names (commands.Goal nodes) = AreSorted names [] nodes.items
+IsSorted names (commands.Env nodes) = AreSorted names [] nodes.items
 IsSorted names _ = Unit {0}
 
 -- the command is what the line says, with each name replaced by what it means
@@ -34,6 +35,8 @@ IsMeant names scope line (lines.Impl head body) (commands.Impl first rest) =
     × AreMeanings names scope line nothing_bound body.items rest.items
 IsMeant names scope line (lines.Goal ns) (commands.Goal nodes) =
     AreMeanings names scope line nothing_bound ns.items nodes.items
+IsMeant names scope line (lines.Env ns) (commands.Env nodes) =
+    AreMeanings names scope line nothing_bound ns.items nodes.items × All IsNoVariable nodes.items
 IsMeant names scope line _ _ = ⊥
 
 -- a declaration adds the type or trait that the line names, and no other line changes a name

@@ -14,7 +14,7 @@ use Rattle.nts_text.specs.declared.parser.Line.{Line}
 use Rattle.nts_text.specs.declared.parser.Line.TheVariants as lines
 use Rattle.nts_text.specs.declared.predicates.Node.{Node}
 use Rattle.nts_text.specs.declared.predicates.Role.TheVariants.{Bound}
-use Rattle.nts_text.specs.declared.refusals.Refusal.TheVariants.{UnknownCommand, Syntax, NumberOutOfRange, UnknownName, NameDeclaredTwice, WrongArguments, ParameterInAClause}
+use Rattle.nts_text.specs.declared.refusals.Refusal.TheVariants.{UnknownCommand, Syntax, NumberOutOfRange, UnknownName, NameDeclaredTwice, WrongArguments, ParameterInAClause, VariableInAnEnvironment}
 use Rattle.nts_text.specs.declared.refusals.TextError.{TextError}
 use Rattle.nts_text.specs.declared.refusals.TextError.TheVariants.{Memory, Refused}
 
@@ -47,12 +47,16 @@ HasBadNames names line (Refused NameDeclaredTwice) (lines.Trait name sorts coind
 HasBadNames names line (Refused NameDeclaredTwice) (lines.Impl head body) =
     HasBoundTwice names line head.items ⊎ HasBoundTwice names line body.items
 HasBadNames names line (Refused NameDeclaredTwice) (lines.Goal ns) = HasBoundTwice names line ns.items
+HasBadNames names line (Refused NameDeclaredTwice) (lines.Env ns) = HasBoundTwice names line ns.items
 HasBadNames names line (Refused UnknownName) (lines.Impl head body) =
     HasFreeName names line head.items ⊎ HasFreeName names line body.items
 HasBadNames names line (Refused UnknownName) (lines.Goal ns) = HasFreeName names line ns.items
+HasBadNames names line (Refused UnknownName) (lines.Env ns) = HasFreeName names line ns.items
 HasBadNames names line (Refused WrongArguments) (lines.Impl head body) = Unit {0}
 HasBadNames names line (Refused WrongArguments) (lines.Goal ns) = Unit {0}
+HasBadNames names line (Refused WrongArguments) (lines.Env ns) = Unit {0}
 HasBadNames names line (Refused ParameterInAClause) (lines.Impl head body) = Unit {0}
+HasBadNames names line (Refused VariableInAnEnvironment) (lines.Env ns) = Unit {0}
 HasBadNames names line e l = ⊥
 
 -- behind its keyword the line has a byte of no token, or tokens that say nothing

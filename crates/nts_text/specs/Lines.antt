@@ -23,6 +23,7 @@ word_of_keyword keywords.Type = codes "type"
 word_of_keyword keywords.Trait = codes "trait"
 word_of_keyword keywords.Impl = codes "impl"
 word_of_keyword keywords.Goal = codes "goal"
+word_of_keyword keywords.Env = codes "env"
 
 abbrev pub word_of_mode : Mode → List ℕ
 word_of_mode modes.Coherence = codes "coherence"
@@ -53,6 +54,11 @@ IsClause ts head body =
     × (are_predicates wanted.Base before ≡ true) × (head ≡ written_nodes before)
     × (are_predicates wanted.Many after ≡ true) × (body ≡ written_nodes after))
 
+-- there are no tokens, or they are predicates
+abbrev pub IsEnvironment : List Token → List Node → Type 0
+IsEnvironment ts ns =
+    ((ts ≡ []) × (ns ≡ [])) ⊎ ((are_predicates wanted.Many ts ≡ true) × (ns ≡ written_nodes ts))
+
 -- what the tokens behind a keyword say
 abbrev pub Says : List ℕ → List Token → Keyword → Line → Type 0
 Says line ts keywords.Mode (lines.Mode m) = (t : Token) × (ts ≡ t ∷ []) × (bytes_of line t ≡ word_of_mode m)
@@ -64,6 +70,7 @@ Says line ts keywords.Trait (lines.Trait name sorts coinductive) =
     (rest : List Token) × (ts ≡ name ∷ rest) × (name.kind ≡ Name) × IsTraitBody line rest sorts.items coinductive
 Says line ts keywords.Impl (lines.Impl head body) = IsClause ts head.items body.items
 Says line ts keywords.Goal (lines.Goal ns) = (are_predicates wanted.One ts ≡ true) × (ns.items ≡ written_nodes ts)
+Says line ts keywords.Env (lines.Env ns) = IsEnvironment ts ns.items
 Says line ts _ _ = ⊥
 
 -- the tokens behind a keyword say nothing
@@ -81,4 +88,5 @@ NamesAreInside line (lines.Trait name sorts coinductive) = IsInside line name
 NamesAreInside line (lines.Impl head body) =
     All (λ n. IsInside line n.token) head.items × All (λ n. IsInside line n.token) body.items
 NamesAreInside line (lines.Goal ns) = All (λ n. IsInside line n.token) ns.items
+NamesAreInside line (lines.Env ns) = All (λ n. IsInside line n.token) ns.items
 NamesAreInside line _ = Unit {0}

@@ -1,5 +1,5 @@
 -- Nodes whose names have become numbers.
-use Rattle.std.specs.Prelude.{◌≡◌, ℕ, ◌<◌, List, [], ◌∷◌, ◌++◌, length, vec_len, Option, None, Some, slice_get, drop}
+use Rattle.std.specs.Prelude.{◌≡◌, ℕ, ◌<◌, Bool, true, false, List, [], ◌∷◌, ◌++◌, length, vec_len, Option, None, Some, slice_get, drop}
 use Rattle.std.specs.Option.{option_map_or}
 use Rattle.nts_model.specs.declared.labels.Sort.{Sort}
 use Rattle.nts_model.specs.declared.labels.Sort.TheVariants.{Ty, Region, Const}
@@ -31,6 +31,15 @@ abbrev pub argument_sorts : NameTable → Resolved → List Sort
 argument_sorts names (nodes.Trait n arguments) = trait_sorts names n
 argument_sorts names (nodes.Ctor n arguments) = type_sorts names n
 argument_sorts names _ = []
+
+-- a node is no variable of the line
+abbrev pub is_variable : Resolved → Bool
+is_variable (nodes.TypeVariable n) = true
+is_variable (nodes.RegionVariable n) = true
+is_variable r = false
+
+abbrev pub IsNoVariable : Resolved → Type 0
+IsNoVariable r = is_variable r ≡ false
 
 -- the sort of a node; a predicate has none, nor has what stands in front of it
 abbrev pub sort_of : Resolved → Option Sort

@@ -34,6 +34,8 @@ pub enum Command {
         body: Vec<Resolved>,
     },
     Goal(Vec<Resolved>),
+    /// The environment of the goals that follow.
+    Env(Vec<Resolved>),
 }
 
 fn sorts_of(alloc: Global, params: &[Param]) -> Result<Vec<Sort>, AllocError>
@@ -84,6 +86,10 @@ fn meaning(
         Line::Goal(nodes) => {
             let nodes = resolve_nodes(alloc, line, &nodes, Site::Goal, names, scope)?;
             Ok(Command::Goal(nodes))
+        }
+        Line::Env(nodes) => {
+            let nodes = resolve_nodes(alloc, line, &nodes, Site::Environment, names, scope)?;
+            Ok(Command::Env(nodes))
         }
     }
 }

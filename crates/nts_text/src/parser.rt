@@ -30,6 +30,7 @@ pub enum Keyword {
     Trait,
     Impl,
     Goal,
+    Env,
 }
 
 /// The modes that a line can ask for.
@@ -66,6 +67,7 @@ pub enum Line {
         body: Vec<Node>,
     },
     Goal(Vec<Node>),
+    Env(Vec<Node>),
 }
 
 /// The bytes of a token.
@@ -87,6 +89,7 @@ fn keyword_word(word: &[u8]) -> Option<Keyword>
         b"trait" => Some(Keyword::Trait),
         b"impl" => Some(Keyword::Impl),
         b"goal" => Some(Keyword::Goal),
+        b"env" => Some(Keyword::Env),
         _ => None,
     }
 }
@@ -400,6 +403,23 @@ fn goal_line(alloc: Global, line: &[u8], tokens: &[Token]) -> Result<Option<Line
     }
 }
 
+/// An environment: nothing, or predicates.
+#[tactic(auto, using(crate::proofs::NodeLemmas::inside_nodes))]
+fn env_line(alloc: Global, line: &[u8], tokens: &[Token]) -> Result<Option<Line>, AllocError>
+    requires { All (IsInside line.now) tokens.now }
+    ensures says { IfOk result (λ o. IfSome o (Says line.now tokens.now Keyword.Env)) }
+    ensures inside { IfOk result (λ o. IfSome o (NamesAreInside line.now)) }
+    ensures none { IfOk result (λ o. IsNone o → TokensSayNothing line.now tokens.now Keyword.Env) }
+{
+    if tokens.is_empty() {
+        return Ok(Some(Line::Env(Vec::new(alloc))));
+    }
+    match predicates_of(alloc, tokens, Wanted::Many)? {
+        Some(nodes) => Ok(Some(Line::Env(nodes))),
+        None => Ok(None),
+    }
+}
+
 /// What the tokens behind a keyword say.
 pub fn line_of(
     alloc: Global,
@@ -426,6 +446,7 @@ pub fn line_of(
         Keyword::Trait => trait_line(alloc, line, tokens)?,
         Keyword::Impl => impl_line(alloc, line, tokens)?,
         Keyword::Goal => goal_line(alloc, line, tokens)?,
+        Keyword::Env => env_line(alloc, line, tokens)?,
     };
     read.ok_or(TextError::Refused(Refusal::Syntax))
 }

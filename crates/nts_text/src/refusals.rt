@@ -19,6 +19,7 @@ pub enum Refusal {
     NameDeclaredTwice,
     WrongArguments,
     ParameterInAClause,
+    VariableInAnEnvironment,
 }
 
 impl Refusal {
@@ -34,6 +35,7 @@ impl Refusal {
             Refusal::NameDeclaredTwice => "name declared twice",
             Refusal::WrongArguments => "wrong arguments",
             Refusal::ParameterInAClause => "parameter in a clause",
+            Refusal::VariableInAnEnvironment => "variable in an environment",
         }
     }
 }

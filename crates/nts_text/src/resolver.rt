@@ -9,10 +9,10 @@ ghost use Rattle.nts_text.specs.Spelled.{KeepsNames};
 ghost use Rattle.nts_text.specs.Names.{is_numbered};
 ghost use Rattle.nts_text.specs.Reasons.{is_name_reason};
 ghost use Rattle.nts_text.specs.Tokens.{IsInside};
-ghost use Rattle.nts_text.specs.Resolution.{argument_sorts, sort_of, role_of, IsDeclared, IsMeaningOf, AreMeanings, AreSorted};
+ghost use Rattle.nts_text.specs.Resolution.{argument_sorts, sort_of, role_of, IsDeclared, IsMeaningOf, IsNoVariable, AreMeanings, AreSorted};
 ghost use Rattle.nts_text.specs.declared.names.Scope.{Scope};
 ghost use Rattle.nts_text.specs.declared.refusals.TextError.TheVariants.{Refused};
-ghost use Rattle.nts_text.specs.declared.refusals.Refusal.TheVariants.{NameDeclaredTwice, ParameterInAClause, UnknownName, WrongArguments};
+ghost use Rattle.nts_text.specs.declared.refusals.Refusal.TheVariants.{NameDeclaredTwice, ParameterInAClause, UnknownName, VariableInAnEnvironment, WrongArguments};
 
 use crate::lexer::TokenKind;
 use crate::names::{Bounds, Declared, NameTable, Scope, Signature};
@@ -22,11 +22,12 @@ use crate::refusals::{Refusal, TextError};
 use nts_model::{IntTy, Sort, UintTy};
 use std::alloc::{AllocError, Global};
 
-/// Where predicates stand. Only those of a goal may name parameters.
+/// Where predicates stand. Those of a clause may not name parameters, and those of an environment no variables.
 #[derive(Clone, Copy, PartialEq, Eq)]
 pub enum Site {
     Clause,
     Goal,
+    Environment,
 }
 
 /// A node whose name has become a number: a trait's, a type's, that of a variable or of a parameter
@@ -80,6 +81,7 @@ fn predicate(names: &NameTable, line: &[u8], node: Node) -> Result<Resolved, Tex
         IfOk result (IsMeaningOf names.now scope line.now b node) }
     ensures reasons { IfErr result (λ e. is_name_reason e ≡ true) }
     ensures reason { result ≢ Err (Refused ParameterInAClause) }
+    ensures variable { result ≢ Err (Refused VariableInAnEnvironment) }
     ensures unknown { result ≡ Err (Refused UnknownName) →
         IsNameTaken names.now (bytes_of line.now node.token) → ⊥ }
     ensures declares { result ≢ Err (Refused NameDeclaredTwice) }
@@ -106,6 +108,7 @@ fn named_type(names: &NameTable, line: &[u8], node: Node) -> Result<Resolved, Te
         IfOk result (IsMeaningOf names.now scope line.now b node) }
     ensures reasons { IfErr result (λ e. is_name_reason e ≡ true) }
     ensures reason { result ≢ Err (Refused ParameterInAClause) }
+    ensures variable { result ≢ Err (Refused VariableInAnEnvironment) }
     ensures unknown { result ≡ Err (Refused UnknownName) →
         IsNameTaken names.now (bytes_of line.now node.token) → ⊥ }
     ensures declares { result ≢ Err (Refused NameDeclaredTwice) }
@@ -130,12 +133,23 @@ fn named_type(names: &NameTable, line: &[u8], node: Node) -> Result<Resolved, Te
 
 /// A place for a parameter: none in a clause.
 fn allows_parameter(site: Site) -> Result<(), TextError>
-    ensures { MatchResult result (λ _. site ≡ Site.Goal) (λ e. (e ≡ Refused ParameterInAClause) ×
+    ensures { MatchResult result (λ _. site ≢ Site.Clause) (λ e. (e ≡ Refused ParameterInAClause) ×
         (site ≡ Site.Clause)) }
 {
     match site {
         Site::Clause => refused(Refusal::ParameterInAClause),
-        Site::Goal => Ok(()),
+        Site::Goal | Site::Environment => Ok(()),
+    }
+}
+
+/// A place for a variable: none in an environment.
+fn allows_variable(site: Site) -> Result<(), TextError>
+    ensures { MatchResult result (λ _. site ≢ Site.Environment) (λ e.
+        (e ≡ Refused VariableInAnEnvironment) × (site ≡ Site.Environment)) }
+{
+    match site {
+        Site::Environment => refused(Refusal::VariableInAnEnvironment),
+        Site::Clause | Site::Goal => Ok(()),
     }
 }
 
@@ -162,6 +176,7 @@ impl Reading<'_> {
             bound_behind self.now.line.now (bound_names bounds.old) node) }
         ensures reasons { IfErr result (λ e. is_name_reason e ≡ true) }
         ensures parameter { result ≢ Err (Refused ParameterInAClause) }
+        ensures variable { result ≢ Err (Refused VariableInAnEnvironment) }
         ensures unknown { result ≢ Err (Refused UnknownName) }
         ensures twice { result ≡ Err (Refused NameDeclaredTwice) →
             IsBoundTwice self.now.names.now self.now.line.now (bound_names bounds.old) node }
@@ -196,6 +211,7 @@ impl Reading<'_> {
             bounds.old) node }
         ensures reasons { IfErr result (λ e. is_name_reason e ≡ true) }
         ensures parameter { result ≢ Err (Refused ParameterInAClause) }
+        ensures variable { result ≢ Err (Refused VariableInAnEnvironment) }
         ensures unknown { result ≡ Err (Refused UnknownName) →
             IsUnknown self.now.names.now self.now.line.now (bound_names bounds.old) node }
         ensures twice { result ≢ Err (Refused NameDeclaredTwice) }
@@ -219,6 +235,7 @@ impl Reading<'_> {
             self.now.line.now (bound_names bounds.now) node) }
         ensures reasons { IfErr result (λ e. is_name_reason e ≡ true) }
         ensures parameter { result ≢ Err (Refused ParameterInAClause) }
+        ensures variable { result ≢ Err (Refused VariableInAnEnvironment) }
         ensures unknown { result ≡ Err (Refused UnknownName) →
             IsUnknown self.now.names.now self.now.line.now (bound_names bounds.now) node }
         ensures twice { result ≢ Err (Refused NameDeclaredTwice) }
@@ -252,6 +269,9 @@ impl Reading<'_> {
         ensures reasons { IfErr result (λ e. is_name_reason e ≡ true) }
         ensures parameter { result ≡ Err (Refused ParameterInAClause) →
             self.now.site ≡ Site.Clause }
+        ensures variable { result ≡ Err (Refused VariableInAnEnvironment) →
+            self.now.site ≡ Site.Environment }
+        ensures free { self.now.site ≡ Site.Environment → IfOk result IsNoVariable }
         ensures unknown { result ≡ Err (Refused UnknownName) →
             IsUnknown self.now.names.now self.now.line.now (bound_names bounds.now) node }
         ensures twice { result ≢ Err (Refused NameDeclaredTwice) }
@@ -260,6 +280,7 @@ impl Reading<'_> {
         match node.token.kind {
             TokenKind::Name => self.type_name(bounds, node),
             TokenKind::TypeVariable => {
+                allows_variable(self.site)?;
                 Ok(Resolved::TypeVariable(scope.variables.type_number(self.alloc, name)?))
             }
             TokenKind::TypeParam => {
@@ -288,6 +309,9 @@ impl Reading<'_> {
         ensures reasons { IfErr result (λ e. is_name_reason e ≡ true) }
         ensures parameter { result ≡ Err (Refused ParameterInAClause) →
             self.now.site ≡ Site.Clause }
+        ensures variable { result ≡ Err (Refused VariableInAnEnvironment) →
+            self.now.site ≡ Site.Environment }
+        ensures free { self.now.site ≡ Site.Environment → IfOk result IsNoVariable }
         ensures unknown { result ≢ Err (Refused UnknownName) }
         ensures twice { result ≢ Err (Refused NameDeclaredTwice) }
     {
@@ -335,6 +359,9 @@ impl Reading<'_> {
         ensures reasons { IfErr result (λ e. is_name_reason e ≡ true) }
         ensures parameter { result ≡ Err (Refused ParameterInAClause) →
             self.now.site ≡ Site.Clause }
+        ensures variable { result ≡ Err (Refused VariableInAnEnvironment) →
+            self.now.site ≡ Site.Environment }
+        ensures free { self.now.site ≡ Site.Environment → IfOk result IsNoVariable }
         ensures unknown { result ≡ Err (Refused UnknownName) →
             IsUnknown self.now.names.now self.now.line.now (bound_names bounds.now) node }
         ensures twice { result ≢ Err (Refused NameDeclaredTwice) }
@@ -343,6 +370,7 @@ impl Reading<'_> {
         match node.token.kind {
             TokenKind::Static => Ok(Resolved::Static),
             TokenKind::RegionVariable => {
+                allows_variable(self.site)?;
                 Ok(Resolved::RegionVariable(scope.variables.region_number(self.alloc, name)?))
             }
             TokenKind::RegionParam => self.region_name(bounds, scope, node),
@@ -371,6 +399,9 @@ impl Reading<'_> {
         ensures reasons { IfErr result (λ e. is_name_reason e ≡ true) }
         ensures parameter { result ≡ Err (Refused ParameterInAClause) →
             self.now.site ≡ Site.Clause }
+        ensures variable { result ≡ Err (Refused VariableInAnEnvironment) →
+            self.now.site ≡ Site.Environment }
+        ensures free { self.now.site ≡ Site.Environment → IfOk result IsNoVariable }
         ensures unknown { result ≡ Err (Refused UnknownName) →
             IsUnknown self.now.names.now self.now.line.now (bound_names bounds.old) node }
         ensures twice { result ≡ Err (Refused NameDeclaredTwice) →
@@ -450,6 +481,10 @@ impl Reading<'_> {
         ensures reasons { IfErr result (λ e. is_name_reason e ≡ true) }
         ensures parameter { result ≡ Err (Refused ParameterInAClause) →
             self.now.site ≡ Site.Clause }
+        ensures variable { result ≡ Err (Refused VariableInAnEnvironment) →
+            self.now.site ≡ Site.Environment }
+        ensures free { self.now.site ≡ Site.Environment → OnOk result
+            (All IsNoVariable all.new.items) }
         ensures unknown { result ≡ Err (Refused UnknownName) →
             HasFreeName self.now.names.now self.now.line.now nodes.now }
         ensures twice { result ≡ Err (Refused NameDeclaredTwice) →
@@ -487,6 +522,8 @@ pub fn resolve_nodes(
     ensures kept { KeepsNames scope.old scope.new }
     ensures reasons { IfErr result (λ e. is_name_reason e ≡ true) }
     ensures parameter { result ≡ Err (Refused ParameterInAClause) → site ≡ Site.Clause }
+    ensures variable { result ≡ Err (Refused VariableInAnEnvironment) → site ≡ Site.Environment }
+    ensures free { site ≡ Site.Environment → IfOk result (λ rs. All IsNoVariable rs.items) }
     ensures unknown { result ≡ Err (Refused UnknownName) →
         HasFreeName names.now line.now nodes.now }
     ensures twice { result ≡ Err (Refused NameDeclaredTwice) →

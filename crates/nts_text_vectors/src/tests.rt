@@ -373,6 +373,10 @@ fn shows_refusals(rt: HostRuntime) -> Result<(), Fail> {
         (Refusal::NameDeclaredTwice, "name declared twice"),
         (Refusal::WrongArguments, "wrong arguments"),
         (Refusal::ParameterInAClause, "parameter in a clause"),
+        (
+            Refusal::VariableInAnEnvironment,
+            "variable in an environment",
+        ),
     ] {
         let shown = format!(in rt.alloc(); "{refusal}")?;
         assert_eq!(rt; shown.as_str(), words);

@@ -20,6 +20,7 @@ pub mod Queried
 pub mod Begun
 pub mod Witnesses
 pub mod Refuted
+pub mod Tight
 pub mod Freshening
 pub mod OpenedGoals
 pub mod Probing

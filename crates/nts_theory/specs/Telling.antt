@@ -220,11 +220,13 @@ mutual
     replies : {c : Content} {e g : Tree} {qs : List Tree} {x : Candidate} {v : Verdict} (values : List Tree) (met found : Content) → IsBegun c x values met → Reaches Q h mode (goals_with values x.goals) met found → IsFound c e g found → SaysOf c found qs v
         → Replies Q h mode c e g qs x v
 
-  -- a candidate fails: no world of the table meets its equations, or a constraint can't be, or a goal is refused
+  -- a candidate fails: no world of the table meets its equations, or a constraint can't be, or a goal is refused; or the handler's
+  -- leak check says of what was found that nothing which the root names meets its region constraints
   pub data Fails (Q : Queries) (h : Handler) (mode : Mode) : Content → Candidate → Type 0 where
     is_unmet : {c : Content} {x : Candidate} → (IsCandidateMet c x → ⊥) → Fails Q h mode c x
     breaks_off : {c : Content} {x : Candidate} → BreaksOff c x → Fails Q h mode c x
     is_refused : {c : Content} {x : Candidate} (values : List Tree) (met : Content) → IsBegun c x values met → RefusesOne Q h mode (goals_with values x.goals) met → Fails Q h mode c x
+    is_leaky : {c : Content} {x : Candidate} (values : List Tree) (met found : Content) → IsBegun c x values met → Reaches Q h mode (goals_with values x.goals) met found → h.leaks found 0 → Fails Q h mode c x
 
   -- some of the goals were asked, in any order and more than once
   pub data Reaches (Q : Queries) (h : Handler) (mode : Mode) : List Premise → Content → Content → Type 0 where

@@ -6,6 +6,7 @@ mod binder;
 mod candidate;
 mod filter;
 mod kinds;
+mod leaks;
 mod merged;
 mod steps;
 
@@ -13,5 +14,6 @@ pub use binder::enter_forall;
 pub use candidate::{Trial, equate, record_constraints};
 pub use filter::keep_met;
 pub use kinds::{GoalRow, goal_kind, goal_row};
+pub use leaks::check_leaks;
 pub use merged::{keep_response, merge_responses};
 pub use steps::{AvailableDepth, Step, depth_below};

@@ -2,6 +2,7 @@ pub mod Stores
 pub mod Growths
 pub mod Printed
 pub mod Writing
+mod Answered
 pub mod Lines
 pub mod Telling
 pub mod Meant

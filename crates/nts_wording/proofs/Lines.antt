@@ -16,9 +16,9 @@ use Rattle.nts_terms.specs.declared.handles.GenericArg.{GenericArg}
 use Rattle.nts_unify.specs.declared.contents.Constraint.{Constraint}
 use Rattle.nts_wording.specs.declared.printer.Printer.{Printer}
 use Rattle.nts_wording.specs.Answers.{Bound, bound_to, node_of, bound_by, is_variable, name_by, first_of, name_among, AreNames, IsValueLine, IsFactLine, AreLines, relation_word}
-use Rattle.nts_wording.specs.Pieces.{lexicon_of, names_in, seen_by, Writes, WritesText}
+use Rattle.nts_wording.specs.Pieces.{lexicon_of, names_in, seen_by, Writes, PutsText}
 use Rattle.nts_wording.specs.Printing.{Lexicon, Seen, IsText, same_term}
-use Rattle.nts_wording.proofs.Writing.{Writes-refl, Writes-trans, lookup_names}
+use Rattle.nts_wording.proofs.Writing.{Writes-trans, Puts-trans, held, lookup_names}
 
 lines_more : {A : Type 0} (P : Seen → A → List ℕ → Seen → Type 0) (old mid new : Seen) (xs : List A) (a : A) (s t : List ℕ)
     → AreLines P old xs s mid → P mid a t new → AreLines P old (xs ++ a ∷ []) (s ++ t) new
@@ -29,51 +29,52 @@ lines_more P old mid new (b ∷ bs) a s t h p =
     (x, y ++ t, between, first, lines_more P between mid new bs a y t others p, ap (λ w. w ++ t) e ∙ append_assoc x y t)
 
 -- one more line
-pub line_more : {A : Type 0} (P : Lexicon → Seen → A → List ℕ → Seen → Type 0) (p q r : Printer) (xs : List A) (a : A)
-    → WritesText p q (λ old text new. AreLines (P (lexicon_of p)) old xs text new)
-    → WritesText q r (λ old text new. P (lexicon_of q) old a text new)
-    → WritesText p r (λ old text new. AreLines (P (lexicon_of p)) old (xs ++ a ∷ []) text new)
+pub line_more : {A : Type 0} {o u v : Option (List ℕ)} (P : Lexicon → Seen → A → List ℕ → Seen → Type 0) (p q r : Printer) (xs : List A) (a : A)
+    → PutsText o u p q (λ old text new. AreLines (P (lexicon_of p)) old xs text new)
+    → PutsText u v q r (λ old text new. P (lexicon_of q) old a text new)
+    → PutsText o v p r (λ old text new. AreLines (P (lexicon_of p)) old (xs ++ a ∷ []) text new)
 line_more P p q r xs a h k =
     let line = subst (λ n. P n (seen_by q) a k.0 (seen_by r)) h.1.same k.2 in (
       h.0 ++ k.0,
-      Writes-trans p q r h.0 k.0 h.1 k.1,
+      Puts-trans p q r h.0 k.0 h.1 k.1,
       lines_more (P (lexicon_of p)) (seen_by p) (seen_by q) (seen_by r) xs a h.0 k.0 h.2 line,
     )
 
 -- a name and a value between what stands around them
-pub value_written : (p p1 p2 p3 p4 p5 : Printer) (name : List ℕ) (v : NodeId)
+pub value_written : {o u : Option (List ℕ)} (p p1 p2 p3 p4 p5 : Printer) (name : List ℕ) (v : NodeId)
     → Writes p p1 (codes "  ") → seen_by p1 ≡ seen_by p → Writes p1 p2 name → seen_by p2 ≡ seen_by p1 → Writes p2 p3 (codes " = ") → seen_by p3 ≡ seen_by p2
-    → WritesText p3 p4 (λ old text new. IsText (lexicon_of p3) old (tree_at p3.nodes.now v) text new)
+    → PutsText o u p3 p4 (λ old text new. IsText (lexicon_of p3) old (tree_at p3.nodes.now v) text new)
     → Writes p4 p5 (codes "\n") → seen_by p5 ≡ seen_by p4
-    → WritesText p p5 (λ old text new. IsValueLine (lexicon_of p) old (name, v) text new)
-value_written p p1 p2 p3 p4 p5 name v w1 s1 w2 s2 w3 s3 t w5 s5 =
+    → PutsText o u p p5 (λ old text new. IsValueLine (lexicon_of p) old (name, v) text new)
+value_written {o} {u} p p1 p2 p3 p4 p5 name v w1 s1 w2 s2 w3 s3 t w5 s5 =
     let x = t.0 in
     let last = subst (λ s. IsText (lexicon_of p3) (seen_by p3) (tree_at p3.nodes.now v) x s) (sym s5) t.2 in
-    let first = subst (λ s. IsText (lexicon_of p3) s (tree_at p3.nodes.now v) x (seen_by p5)) (s3 ∙ s2 ∙ s1) last in (
+    let first = subst (λ s. IsText (lexicon_of p3) s (tree_at p3.nodes.now v) x (seen_by p5)) (s3 ∙ s2 ∙ s1) last in
+    let before = Writes-trans p p2 p3 (codes "  " ++ name) (codes " = ") (Writes-trans p p1 p2 (codes "  ") name w1 w2) w3 in (
       codes "  " ++ name ++ codes " = " ++ x ++ codes "\n",
-      Writes-trans p p4 p5 (codes "  " ++ name ++ codes " = " ++ x) (codes "\n")
-          (Writes-trans p p3 p4 (codes "  " ++ name ++ codes " = ") x (Writes-trans p p2 p3 (codes "  " ++ name) (codes " = ") (Writes-trans p p1 p2 (codes "  ") name w1 w2) w3) t.1) w5,
+      Puts-trans p p4 p5 (codes "  " ++ name ++ codes " = " ++ x) (codes "\n")
+          (Puts-trans p p3 p4 (codes "  " ++ name ++ codes " = ") x (held o before) t.1) (held u w5),
       (x, subst (λ n. IsText n (seen_by p) (tree_at n.trees v) x (seen_by p5)) (w3.same ∙ w2.same ∙ w1.same) first, refl),
     )
 
 -- two terms, with a word between them
-pub fact_written : (p p1 p2 p3 p4 p5 : Printer) (f : Constraint)
+pub fact_written : {o u z : Option (List ℕ)} (p p1 p2 p3 p4 p5 : Printer) (f : Constraint)
     → Writes p p1 (codes "  ") → seen_by p1 ≡ seen_by p
-    → WritesText p1 p2 (λ old text new. IsText (lexicon_of p1) old (tree_at p1.nodes.now f.left) text new)
+    → PutsText o u p1 p2 (λ old text new. IsText (lexicon_of p1) old (tree_at p1.nodes.now f.left) text new)
     → Writes p2 p3 (relation_word f.relation) → seen_by p3 ≡ seen_by p2
-    → WritesText p3 p4 (λ old text new. IsText (lexicon_of p3) old (tree_at p3.nodes.now f.right) text new)
+    → PutsText u z p3 p4 (λ old text new. IsText (lexicon_of p3) old (tree_at p3.nodes.now f.right) text new)
     → Writes p4 p5 (codes "\n") → seen_by p5 ≡ seen_by p4
-    → WritesText p p5 (λ old text new. IsFactLine (lexicon_of p) old f text new)
-fact_written p p1 p2 p3 p4 p5 f w1 s1 t w3 s3 u w5 s5 =
+    → PutsText o z p p5 (λ old text new. IsFactLine (lexicon_of p) old f text new)
+fact_written {o} {u} {z} p p1 p2 p3 p4 p5 f w1 s1 t w3 s3 r w5 s5 =
     let x = t.0 in
-    let y = u.0 in
+    let y = r.0 in
     let word = relation_word f.relation in
     let left = subst (λ s. IsText (lexicon_of p1) s (tree_at p1.nodes.now f.left) x (seen_by p2)) s1 t.2 in
-    let last = subst (λ s. IsText (lexicon_of p3) (seen_by p3) (tree_at p3.nodes.now f.right) y s) (sym s5) u.2 in
+    let last = subst (λ s. IsText (lexicon_of p3) (seen_by p3) (tree_at p3.nodes.now f.right) y s) (sym s5) r.2 in
     let right = subst (λ s. IsText (lexicon_of p3) s (tree_at p3.nodes.now f.right) y (seen_by p5)) s3 last in (
       codes "  " ++ x ++ word ++ y ++ codes "\n",
-      Writes-trans p p4 p5 (codes "  " ++ x ++ word ++ y) (codes "\n")
-          (Writes-trans p p3 p4 (codes "  " ++ x ++ word) y (Writes-trans p p2 p3 (codes "  " ++ x) word (Writes-trans p p1 p2 (codes "  ") x w1 t.1) w3) u.1) w5,
+      Puts-trans p p4 p5 (codes "  " ++ x ++ word ++ y) (codes "\n")
+          (Puts-trans p p3 p4 (codes "  " ++ x ++ word) y (Puts-trans p p2 p3 (codes "  " ++ x) word (Puts-trans p p1 p2 (codes "  ") x (held o w1) t.1) (held u w3)) r.1) (held z w5),
       (
         x,
         y,

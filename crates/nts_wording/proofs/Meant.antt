@@ -1,5 +1,5 @@
 -- What the nodes of a line mean, while terms are made of them.
-use Rattle.std.proofs.Common.{◌≡◌, ℕ, zero, suc, ◌<◌, ◌≤◌, get_or, List, [], ◌∷◌, ◌++◌, All, map, reverse, length, take, drop, refl, sym, ap, ◌∙◌, arith}
+use Rattle.std.proofs.Common.{◌≡◌, ℕ, zero, suc, ◌<◌, ◌≤◌, get_or, slice_get, List, [], ◌∷◌, ◌++◌, All, map, reverse, length, take, drop, Option, refl, sym, ap, ◌∙◌, arith}
 use Rattle.std.specs.Global.{Vec}
 use Rattle.std.proofs.lemmas.List.{reverse-append}
 use Rattle.std.proofs.lemmas.List.Elements.{All-head, All-tail}
@@ -11,15 +11,17 @@ use Rattle.nts_terms.specs.declared.handles.GenericArg.{GenericArg}
 use Rattle.nts_terms.specs.declared.handles.GenericArgs.{GenericArgs}
 use Rattle.nts_store.specs.Growth.{tree_at, trees_at, Extends}
 use Rattle.nts_terms.specs.declared.handles.Goal.{Goal}
+use Rattle.nts_terms.specs.declared.handles.ParamEnv.{ParamEnv}
+use Rattle.nts_terms.specs.declared.handles.Predicate.{Predicate}
 use Rattle.nts_terms.specs.declared.kinds.ClauseKind.TheVariants as clause_kind
 use Rattle.nts_terms.specs.Handles.{HoldsArg, HoldsArgs, HoldsEnv}
-use Rattle.nts_terms.specs.Kinds.{tree_of_args, tree_of_clause}
-use Rattle.nts_store.proofs.Growing.{Extends-trans}
+use Rattle.nts_terms.specs.Kinds.{tree_of_args, tree_of_clause, tree_of_env}
+use Rattle.nts_store.proofs.Growing.{Extends-trans, Extends-refl}
 use Rattle.nts_text.specs.declared.resolver.Resolved.{Resolved}
 use Rattle.nts_text.specs.declared.resolver.Resolved.TheVariants as nodes
 use Rattle.nts_wording.specs.declared.build.BoundTrait.{BoundTrait}
 use Rattle.nts_wording.specs.declared.variables.LineVariables.{LineVariables}
-use Rattle.nts_wording.specs.Meaning.{argument_row, argument_list, term_of, nodes_meaning, values_in, made_trees, binding_nothing, predicate_tree, trait_statement, statements, TakesArguments, MakesArgument, AreSaid, States, IsGoalFor, empty_environment}
+use Rattle.nts_wording.specs.Meaning.{argument_row, argument_list, term_of, nodes_meaning, values_in, made_trees, binding_nothing, predicate_tree, trait_statement, statements, TakesArguments, MakesArgument, AreSaid, States, AreConditions, IsGivenEnvironment, IsGoalFor, no_values, tree_at_place, environment_tree, IsEnvironmentFor}
 
 -- the front of a list, and what stands behind it
 take_front : {A : Type 0} (n : ℕ) (xs ys : List A) → length xs ≡ n → take n (xs ++ ys) ≡ xs
@@ -133,13 +135,27 @@ one_item (x ∷ []) d l h = refl
 one_item (x ∷ y ∷ ys) d l h = absurd (omega (arith, h))
 
 -- the goal of the one trait that nodes say
-pub goal_for : (a mid ts : List Tree) (variables : LineVariables) (values : List GenericArg) (rs : List Resolved) (traits : List BoundTrait) (r : BoundTrait) (g : Goal)
-    → AreSaid a variables values rs traits → traits ≡ r ∷ [] → Extends a mid → Extends mid ts → States ts r g.predicate → HoldsEnv mid g.param_env → tree_at mid g.param_env.node ≡ empty_environment
-    → IsGoalFor ts variables values rs g
-goal_for a mid ts variables values rs traits r g said one e f states holds environment = λ us later.
+pub goal_for : (a mid ts : List Tree) (env : Option ParamEnv) (variables : LineVariables) (values : List GenericArg) (rs : List Resolved) (traits : List BoundTrait) (r : BoundTrait) (g : Goal)
+    → AreSaid a variables values rs traits → traits ≡ r ∷ [] → Extends a mid → Extends mid ts → States ts r g.predicate → ((us : List Tree) → Extends mid us → IsGivenEnvironment us env g.param_env)
+    → IsGoalFor ts env variables values rs g
+goal_for a mid ts env variables values rs traits r g said one e f states assumed = λ us later.
     let after = Extends-trans f later in
     let here = said us (Extends-trans e after) in
     record {
       said = ap (map predicate_tree) (sym here) ∙ ap (λ xs. map predicate_tree (statements us xs)) one ∙ ap (λ t. t ∷ []) (sym (states us later));
-      nothing_assumed = after.kept g.param_env.node holds.within ∙ environment;
+      assumed = assumed us after;
     }
+
+-- the environment of predicates that nodes say, without variables
+no_values_in : (ts : List Tree) (variables : LineVariables) → variables.types.items ≡ [] → variables.regions.items ≡ [] → values_in ts variables [] ≡ no_values
+no_values_in ts variables types regions = λ i. record { types = λ n. tree_at_place ts [] (slice_get (types i) n); regions = λ n. tree_at_place ts [] (slice_get (regions i) n) }
+
+row_of_predicates : (ts : List Tree) (ps : List Predicate) → trees_at ts (map (λ p. p.node) ps) ≡ argument_row (map (λ p. tree_at ts p.node) ps)
+row_of_predicates ts [] = refl
+row_of_predicates ts (p ∷ ps) = ap (more (tree_at ts p.node)) (row_of_predicates ts ps)
+
+pub environment_for : (a b : List Tree) (variables : LineVariables) (rs : List Resolved) (ps : List Predicate) (e : ParamEnv) → variables.types.items ≡ [] → variables.regions.items ≡ []
+    → AreConditions a variables [] rs ps → tree_at b e.node ≡ tree_of_env a ps → HoldsEnv b e → IsEnvironmentFor b rs e
+environment_for a b variables rs ps e types regions said tree holds = λ us later.
+    later.kept e.node holds.within ∙ tree ∙ ap (node (label.List list.Env)) (row_of_predicates a ps)
+    ∙ ap environment_tree (said a (Extends-refl a)) ∙ ap (λ v. environment_tree (map predicate_tree (nodes_meaning v rs).predicates)) (no_values_in a variables types regions)

@@ -2,6 +2,7 @@
 use Rattle.std.specs.Prelude.{◌≡◌, ℕ, Bool, true, false, ◌&&◌, if◌then◌else◌, List, [], ◌∷◌, ◌++◌, Option, None, Some, slice_get, codes}
 use Rattle.std.specs.List.{zip}
 use Rattle.std.specs.Map.{lookup}
+use Rattle.std.specs.Io.KnownBytes.{Appends}
 use Rattle.nts_model.specs.declared.labels.Label.{Label}
 use Rattle.nts_model.specs.declared.labels.Label.TheVariants as label
 use Rattle.nts_model.specs.declared.labels.Leaf.{Leaf}
@@ -122,3 +123,7 @@ IsAnswerText ts names s (answers.Yes f) text = (variables : List (NodeId × List
 IsAnswerText ts names s answers.No text = text ≡ codes "no\n"
 IsAnswerText ts names s answers.Ambiguity text = text ≡ codes "maybe ambiguity\n"
 IsAnswerText ts names s answers.Overflow text = text ≡ codes "maybe overflow\n"
+
+-- the text of an answer is written
+abbrev pub IsAnswerPut : List Tree → NameTable → Scope → Answer → Option (List ℕ) → Option (List ℕ) → Type 0
+IsAnswerPut ts names s answer before after = (text : List ℕ) × IsAnswerText ts names s answer text × Appends before after text

@@ -21,6 +21,7 @@ use Rattle.nts_terms.specs.declared.kinds.ClauseKind.TheVariants as clause_kind
 use Rattle.nts_store.specs.Growth.{tree_at, Extends}
 use Rattle.nts_terms.specs.Kinds.{tree_of_clause, tree_of_vars}
 use Rattle.nts_terms.specs.declared.handles.Goal.{Goal}
+use Rattle.nts_terms.specs.declared.handles.ParamEnv.{ParamEnv}
 use Rattle.nts_terms.specs.declared.handles.Predicate.{Predicate}
 use Rattle.nts_text.specs.declared.resolver.Resolved.{Resolved}
 use Rattle.nts_text.specs.declared.resolver.Resolved.TheVariants as nodes
@@ -191,14 +192,34 @@ AreSaid ts variables values rs traits =
 abbrev pub empty_environment : Tree
 empty_environment = node (label.List list.Env) empty
 
--- the one predicate that nodes say, which a goal asks in the empty environment
-pub record IsGoalOf (ts : List Tree) (variables : LineVariables) (values : List GenericArg) (rs : List Resolved) (g : Goal) : Type 0 where
+-- this environment is assumed, or nothing
+abbrev pub IsGivenEnvironment : List Tree → Option ParamEnv → ParamEnv → Type 0
+IsGivenEnvironment ts None e = tree_at ts e.node ≡ empty_environment
+IsGivenEnvironment ts (Some f) e = e ≡ f
+
+-- the one predicate that nodes say, which a goal asks in this environment, or in the empty one
+pub record IsGoalOf (ts : List Tree) (env : Option ParamEnv) (variables : LineVariables) (values : List GenericArg) (rs : List Resolved) (g : Goal) : Type 0 where
   pub said : map predicate_tree (nodes_meaning (values_in ts variables values) rs).predicates ≡ tree_at ts g.predicate.node ∷ []
-  pub nothing_assumed : tree_at ts g.param_env.node ≡ empty_environment
+  pub assumed : IsGivenEnvironment ts env g.param_env
 
 -- here and in each later store
-abbrev pub IsGoalFor : List Tree → LineVariables → List GenericArg → List Resolved → Goal → Type 0
-IsGoalFor ts variables values rs g = (us : List Tree) → Extends ts us → IsGoalOf us variables values rs g
+abbrev pub IsGoalFor : List Tree → Option ParamEnv → LineVariables → List GenericArg → List Resolved → Goal → Type 0
+IsGoalFor ts env variables values rs g = (us : List Tree) → Extends ts us → IsGoalOf us env variables values rs g
+
+-- no variable stands for anything
+abbrev pub no_values : Values
+no_values = record { types = λ i. empty; regions = λ i. empty }
+
+-- the environment of the predicates that nodes say, in order; they name no variables
+abbrev pub environment_tree : List Tree → Tree
+environment_tree ps = node (label.List list.Env) (argument_row ps)
+
+abbrev pub IsEnvironmentOf : List Tree → List Resolved → ParamEnv → Type 0
+IsEnvironmentOf ts rs e = tree_at ts e.node ≡ environment_tree (map predicate_tree (nodes_meaning no_values rs).predicates)
+
+-- here and in each later store
+abbrev pub IsEnvironmentFor : List Tree → List Resolved → ParamEnv → Type 0
+IsEnvironmentFor ts rs e = (us : List Tree) → Extends ts us → IsEnvironmentOf us rs e
 
 abbrev pub States : List Tree → BoundTrait → Predicate → Type 0
 States ts b p = (us : List Tree) → Extends ts us → tree_at us p.node ≡ predicate_tree (trait_statement us b)

@@ -1,5 +1,6 @@
 -- Terms that are still to be printed.
-use Rattle.std.specs.Prelude.{◌≡◌, ℕ, List, [], ◌∷◌, ◌++◌, map, codes}
+use Rattle.std.specs.Prelude.{◌≡◌, ℕ, List, [], ◌∷◌, ◌++◌, Option, None, Some, map, codes}
+use Rattle.std.specs.Io.KnownBytes.{Appends}
 use Rattle.std.specs.Global.{Vec}
 use Rattle.nts_store.specs.Growth.{tree_at}
 use Rattle.nts_store.specs.declared.nodes.NodeId.{NodeId}
@@ -33,6 +34,20 @@ pub record Writes (old new : Printer) (text : List ℕ) : Type 0 where
 -- some text is written, of which this holds with what was seen before and after
 abbrev pub WritesText : Printer → Printer → (Seen → List ℕ → Seen → Type 0) → Type 0
 WritesText old new P = (text : List ℕ) × Writes old new text × P (seen_by old) text (seen_by new)
+
+-- the bytes that went out, and those that the printer still holds
+abbrev pub told_so_far : Option (List ℕ) → Printer → Option (List ℕ)
+told_so_far None p = None
+told_so_far (Some bs) p = Some (bs ++ p.text.items)
+
+-- these bytes go out or are held, behind what went out and was held before, and the rest of what is printed with stays
+pub record Puts (a b : Option (List ℕ)) (old new : Printer) (text : List ℕ) : Type 0 where
+  pub grows : Appends (told_so_far a old) (told_so_far b new) text
+  pub same : lexicon_of new ≡ lexicon_of old
+
+-- .. of which this holds with what was seen before and after
+abbrev pub PutsText : Option (List ℕ) → Option (List ℕ) → Printer → Printer → (Seen → List ℕ → Seen → Type 0) → Type 0
+PutsText a b old new P = (text : List ℕ) × Puts a b old new text × P (seen_by old) text (seen_by new)
 
 -- the text of pieces, one behind the other
 abbrev pub ArePrinted : Lexicon → Seen → List Piece → List ℕ → Seen → Type 0

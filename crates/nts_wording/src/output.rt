@@ -33,7 +33,7 @@ fn put_some<W: Write>(output: &mut W, bytes: &[u8]) -> Result<usize, Stop>
 
 /// Writes all of these bytes. Whatever happens, what was written before stays.
 #[tactic(auto, using(crate::proofs::Growths::writes))]
-fn put<W: Write>(output: &mut W, bytes: &[u8]) -> Result<(), Stop>
+pub(crate) fn put<W: Write>(output: &mut W, bytes: &[u8]) -> Result<(), Stop>
     ensures fault { IfErr result (λ s. is_refusal s ≡ false) }
     ensures all { OnOk result (Appends (W.contents output.old) (W.contents output.new) bytes.now) }
     ensures begins { Begins (W.contents output.old) (W.contents output.new) }

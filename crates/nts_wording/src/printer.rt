@@ -1,19 +1,24 @@
 //! The text of answers.
-ghost use Rattle.std.specs.Prelude.{◌≡◌, ◌∷◌, [], ◌++◌, reverse, option_copied, map, slice_get, IfOk, OnOk, codes};
+ghost use Rattle.std.specs.Prelude.{◌≡◌, ◌∷◌, [], ◌++◌, false, reverse, option_copied, map, slice_get, IfErr, OnOk, codes};
+ghost use Rattle.std.specs.Io.KnownBytes.{Appends};
+ghost use Rattle.nts_wording.specs.Growing.{Begins};
+ghost use Rattle.nts_wording.specs.Statuses.{is_refusal};
 ghost use Rattle.nts_model.specs.Terms.Trees.{node, children, shape, Meets, in_order, is, arguments};
 ghost use Rattle.nts_model.specs.declared.labels.Label.TheVariants as labels;
 ghost use Rattle.nts_model.specs.declared.labels.TyHead.TheVariants as heads;
 ghost use Rattle.nts_store.specs.Growth.{IsIn, tree_at};
 ghost use Rattle.nts_text.specs.Names.{word_of_int, word_of_uint};
 ghost use Rattle.nts_wording.specs.Printing.{leaf_name, type_name, is_region_leaf, IsLeafText, IsUnnamedType, IsUnnamedRegion, IsText, same_term};
-ghost use Rattle.nts_wording.specs.Pieces.{lexicon_of, names_in, seen_by, Writes, WritesText, Completes, Opens};
+ghost use Rattle.nts_wording.specs.Pieces.{lexicon_of, names_in, seen_by, Writes, WritesText, PutsText, Completes, Opens};
 ghost use Rattle.nts_wording.specs.declared.printer.Piece.TheVariants as piece_kinds;
 ghost use Rattle.std.specs.Map.{lookup};
 ghost use Rattle.nts_store.specs.declared.nodes.NodeId.{NodeId};
-ghost use Rattle.nts_wording.specs.Answers.{relation_word, first_of, name_by, node_of, is_variable, AreNames, bound_types, bound_regions, IsValueLine, IsFactLine, AreLines, IsAnswerText, nothing_seen};
+ghost use Rattle.nts_wording.specs.Answers.{relation_word, first_of, name_by, node_of, is_variable, AreNames, bound_types, bound_regions, IsValueLine, IsFactLine, AreLines, IsAnswerPut, nothing_seen};
 ghost use Rattle.nts_wording.specs.declared.answer.Answer.TheVariants as answers;
 
 use crate::answer::{Answer, Found};
+use crate::output::{put, put_answer};
+use crate::status::Stop;
 use indexmap::{IndexMap, IndexSet};
 use nts_model::{Constant, FreeRegion, IntTy, Label, Leaf, Relation, TyHead, UintTy, VariableKind};
 use nts_store::{NodeId, Nodes};
@@ -21,6 +26,7 @@ use nts_terms::GenericArg;
 use nts_text::{NameTable, Scope};
 use nts_unify::Constraint;
 use std::alloc::{AllocError, Global};
+use std::io::Write;
 
 /// What is still to be printed of a term. A term may be nested very deep, so this stands on the heap.
 #[derive(Clone, Copy)]
@@ -43,25 +49,49 @@ struct Printer<'a> {
     types: IndexSet<NodeId>,
     /// Other regions without a name, in order of first sight.
     regions: IndexSet<NodeId>,
+    /// What is printed and has not gone out.
     text: Vec<u8>,
 }
 
-/// The lines that answer a goal.
-pub fn text_of(
+/// Writes the lines that answer a goal, and lets them out. No answer is made in memory: what is printed of a term goes out piece by
+/// piece. Whatever happens, what was written before stays.
+#[tactic(auto, using(crate::proofs::Growths::writes))]
+pub fn write_answer<W: Write>(
     alloc: Global,
+    output: &mut W,
     nodes: &Nodes,
     names: &NameTable,
     scope: &Scope,
     answer: &Answer,
-) -> Result<Vec<u8>, AllocError>
-    ensures { IfOk result (λ t. IsAnswerText nodes.now names.now scope.now answer.now t.items) }
+) -> Result<(), Stop>
+    ensures told { OnOk result (IsAnswerPut nodes.now names.now scope.now answer.now
+        (W.contents output.old) (W.contents output.new)) }
+    ensures fault { IfErr result (λ s. is_refusal s ≡ false) }
+    ensures begins { Begins (W.contents output.old) (W.contents output.new) }
 {
-    let found = match answer {
-        Answer::Yes(found) => found,
-        Answer::No => return Vec::from_slice(alloc, b"no\n"),
-        Answer::Ambiguity => return Vec::from_slice(alloc, b"maybe ambiguity\n"),
-        Answer::Overflow => return Vec::from_slice(alloc, b"maybe overflow\n"),
-    };
+    match answer {
+        Answer::Yes(found) => write_found(alloc, output, nodes, names, scope, found),
+        Answer::No => put_answer(output, b"no\n"),
+        Answer::Ambiguity => put_answer(output, b"maybe ambiguity\n"),
+        Answer::Overflow => put_answer(output, b"maybe overflow\n"),
+    }
+}
+
+/// The same for a goal that holds.
+#[tactic(auto, using(crate::proofs::Growths::writes))]
+fn write_found<W: Write>(
+    alloc: Global,
+    output: &mut W,
+    nodes: &Nodes,
+    names: &NameTable,
+    scope: &Scope,
+    found: &Found,
+) -> Result<(), Stop>
+    ensures told { OnOk result (IsAnswerPut nodes.now names.now scope.now (answers.Yes found.now)
+        (W.contents output.old) (W.contents output.new)) }
+    ensures fault { IfErr result (λ s. is_refusal s ≡ false) }
+    ensures begins { Begins (W.contents output.old) (W.contents output.new) }
+{
     let text = Vec::from_slice(alloc, b"yes\n")?;
     let mut printer = Printer {
         alloc,
@@ -73,22 +103,43 @@ pub fn text_of(
         regions: IndexSet::new(alloc),
         text,
     };
-    printer.found(found)?;
-    Ok(printer.text)
+    printer.found(output, found)?;
+    output.flush()?;
+    Ok(())
 }
 
 impl Printer<'_> {
     /// The lines of a goal that holds, behind the `yes`.
-    fn found(&mut self, found: &Found) -> Result<(), AllocError>
+    #[tactic(auto, using(crate::proofs::Growths::writes))]
+    fn found<W: Write>(&mut self, output: &mut W, found: &Found) -> Result<(), Stop>
         requires known { self.old.known.entries ≡ [] }
         requires seen { seen_by self.old ≡ nothing_seen }
         requires yes { self.old.text.items ≡ codes "yes\n" }
-        ensures { OnOk result (IsAnswerText self.old.nodes.now self.old.names.now self.old.scope.now
-            (answers.Yes found.now) self.new.text.items) }
+        ensures told { OnOk result (IsAnswerPut self.old.nodes.now self.old.names.now
+            self.old.scope.now (answers.Yes found.now) (W.contents output.old)
+            (W.contents output.new)) }
+        ensures fault { IfErr result (λ s. is_refusal s ≡ false) }
+        ensures begins { Begins (W.contents output.old) (W.contents output.new) }
     {
         self.learn(found)?;
-        self.values(found)?;
-        self.facts(&found.facts)
+        self.values(output, found)?;
+        self.facts(output, &found.facts)?;
+        self.put_out(output)
+    }
+
+    /// Lets out what is held.
+    #[tactic(auto, using(crate::proofs::Growths::writes))]
+    fn put_out<W: Write>(&mut self, output: &mut W) -> Result<(), Stop>
+        ensures put { OnOk result (Appends (W.contents output.old) (W.contents output.new)
+            self.old.text.items) }
+        ensures text { OnOk result (self.new.text.items ≡ []) }
+        ensures rest { self.new ≡ record self.old { text = self.new.text } }
+        ensures fault { IfErr result (λ s. is_refusal s ≡ false) }
+        ensures begins { Begins (W.contents output.old) (W.contents output.new) }
+    {
+        put(output, &self.text)?;
+        self.text.clear();
+        Ok(())
     }
 
     fn write(&mut self, text: &[u8]) -> Result<(), AllocError>
@@ -149,15 +200,19 @@ impl Printer<'_> {
     }
 
     /// A line for each type variable of the goal, in order of first sight.
-    fn values(&mut self, found: &Found) -> Result<(), AllocError>
-        ensures { OnOk result (WritesText self.old self.new (λ old text new. AreLines (IsValueLine
-            (lexicon_of self.old)) old (bound_types self.old.scope.now found.now) text new)) }
+    #[tactic(auto, using(crate::proofs::Growths::writes))]
+    fn values<W: Write>(&mut self, output: &mut W, found: &Found) -> Result<(), Stop>
+        ensures told { OnOk result (PutsText (W.contents output.old) (W.contents output.new)
+            self.old self.new (λ old text new. AreLines (IsValueLine (lexicon_of self.old)) old
+            (bound_types self.old.scope.now found.now) text new)) }
+        ensures fault { IfErr result (λ s. is_refusal s ≡ false) }
+        ensures begins { Begins (W.contents output.old) (W.contents output.new) }
     {
         let scope = self.scope;
         for (i, place) in found.variables.types.iter().enumerate() {
             if let Some(name) = spelling(&scope.variables.types, i) {
                 if let Some(value) = value_at(&found.values, *place) {
-                    self.value(name, value)?;
+                    self.value(output, name, value)?;
                 }
             }
         }
@@ -165,46 +220,62 @@ impl Printer<'_> {
     }
 
     /// The line of a variable and its value.
-    fn value(&mut self, name: &[u8], value: NodeId) -> Result<(), AllocError>
-        ensures { OnOk result (WritesText self.old self.new (λ old text new. IsValueLine
-            (lexicon_of self.old) old (name.now, value) text new)) }
+    #[tactic(auto, using(crate::proofs::Growths::writes))]
+    fn value<W: Write>(&mut self, output: &mut W, name: &[u8], value: NodeId) -> Result<(), Stop>
+        ensures told { OnOk result (PutsText (W.contents output.old) (W.contents output.new)
+            self.old self.new (λ old text new. IsValueLine (lexicon_of self.old) old
+            (name.now, value) text new)) }
+        ensures fault { IfErr result (λ s. is_refusal s ≡ false) }
+        ensures begins { Begins (W.contents output.old) (W.contents output.new) }
     {
         self.write(b"  ")?;
         self.write(name)?;
         self.write(b" = ")?;
-        self.term(value)?;
+        self.term(output, value)?;
         self.write(b"\n")?;
         Ok(())
     }
 
     /// A line for each region constraint.
-    fn facts(&mut self, facts: &[Constraint]) -> Result<(), AllocError>
-        ensures { OnOk result (WritesText self.old self.new (λ old text new. AreLines (IsFactLine
-            (lexicon_of self.old)) old facts.now text new)) }
+    #[tactic(auto, using(crate::proofs::Growths::writes))]
+    fn facts<W: Write>(&mut self, output: &mut W, facts: &[Constraint]) -> Result<(), Stop>
+        ensures told { OnOk result (PutsText (W.contents output.old) (W.contents output.new)
+            self.old self.new (λ old text new. AreLines (IsFactLine (lexicon_of self.old)) old
+            facts.now text new)) }
+        ensures fault { IfErr result (λ s. is_refusal s ≡ false) }
+        ensures begins { Begins (W.contents output.old) (W.contents output.new) }
     {
         for fact in facts {
-            self.fact(*fact)?;
+            self.fact(output, *fact)?;
         }
         Ok(())
     }
 
     /// The line of a region constraint.
-    fn fact(&mut self, fact: Constraint) -> Result<(), AllocError>
-        ensures { OnOk result (WritesText self.old self.new (λ old text new. IsFactLine
-            (lexicon_of self.old) old fact text new)) }
+    #[tactic(auto, using(crate::proofs::Growths::writes))]
+    fn fact<W: Write>(&mut self, output: &mut W, fact: Constraint) -> Result<(), Stop>
+        ensures told { OnOk result (PutsText (W.contents output.old) (W.contents output.new)
+            self.old self.new (λ old text new. IsFactLine (lexicon_of self.old) old fact text
+            new)) }
+        ensures fault { IfErr result (λ s. is_refusal s ≡ false) }
+        ensures begins { Begins (W.contents output.old) (W.contents output.new) }
     {
         self.write(b"  ")?;
-        self.term(fact.left)?;
+        self.term(output, fact.left)?;
         self.write(relation_word(fact.relation))?;
-        self.term(fact.right)?;
+        self.term(output, fact.right)?;
         self.write(b"\n")?;
         Ok(())
     }
 
-    /// A type or a region, as it is written.
-    fn term(&mut self, term: NodeId) -> Result<(), AllocError>
-        ensures { OnOk result (WritesText self.old self.new (λ old text new. IsText
-            (lexicon_of self.old) old (tree_at self.old.nodes.now term) text new)) }
+    /// A type or a region, as it is written. It goes out piece by piece.
+    #[tactic(auto, using(crate::proofs::Growths::writes))]
+    fn term<W: Write>(&mut self, output: &mut W, term: NodeId) -> Result<(), Stop>
+        ensures told { OnOk result (PutsText (W.contents output.old) (W.contents output.new)
+            self.old self.new (λ old text new. IsText (lexicon_of self.old) old
+            (tree_at self.old.nodes.now term) text new)) }
+        ensures fault { IfErr result (λ s. is_refusal s ≡ false) }
+        ensures begins { Begins (W.contents output.old) (W.contents output.new) }
     {
         let mut pieces = Vec::new(self.alloc);
         pieces.push(Piece::Term(term))?;
@@ -213,9 +284,10 @@ impl Printer<'_> {
                 None => return Ok(()),
                 Some(piece) => self.piece(piece, &mut pieces)?,
             }
+            self.put_out(output)?;
         }
-        // No memory holds a text of so many pieces.
-        Err(AllocError)
+        // No output takes a text of so many pieces.
+        Err(Stop::Failed)
     }
 
     /// What a piece begins with. What follows is added to the pieces, the last first.

@@ -1,20 +1,27 @@
 //! What a whole line says: the goal that it asks, or the rule that it adds.
-ghost use Rattle.std.specs.Prelude.{IfOk};
-ghost use Rattle.nts_terms.specs.Handles.{HoldsGoal};
+ghost use Rattle.std.specs.Prelude.{All, IfOk, IsTrue, List};
+ghost use Rattle.nts_model.specs.Terms.Trees.{Tree};
+ghost use Rattle.nts_store.specs.Growth.{Extends};
+ghost use Rattle.nts_terms.specs.Handles.{HoldsEnv, HoldsGoal, HoldsPredicate};
 ghost use Rattle.nts_terms.specs.Rest.{Grows};
-ghost use Rattle.nts_wording.specs.Meaning.{AreConditions, IsGoalFor, IsRuleFor};
+ghost use Rattle.nts_wording.specs.Meaning.{AreConditions, IsGivenEnvironment, IsEnvironmentFor, IsGoalFor, IsRuleFor};
 
 use crate::build::{MISFIT, Terms, bound_traits, positions, predicate_of};
 use crate::status::Stop;
 use crate::variables::LineVariables;
 use nts_delegate::Clause;
-use nts_terms::{Cx, Goal, Predicate};
+use nts_terms::{Cx, Goal, ParamEnv, Predicate};
 use nts_text::Resolved;
 
-/// The goal that these nodes say, in an empty environment.
+/// The goal that these nodes say, in this environment, or in the empty one.
 #[tactic(auto, using(crate::proofs::Stores::growing))]
-pub fn goal_of(cx: &mut Cx, nodes: &[Resolved], terms: Terms<'_>) -> Result<Goal, Stop>
-    ensures asks { IfOk result (IsGoalFor cx.new.nodes terms.entry.variables.now
+pub fn goal_of(
+    cx: &mut Cx,
+    env: Option<ParamEnv>,
+    nodes: &[Resolved],
+    terms: Terms<'_>,
+) -> Result<Goal, Stop>
+    ensures asks { IfOk result (IsGoalFor cx.new.nodes env terms.entry.variables.now
         terms.entry.values.now nodes.now) }
     ensures holds { IfOk result (λ g. HoldsGoal cx.new.nodes g) }
     ensures grows { Grows cx.old cx.new }
@@ -23,12 +30,55 @@ pub fn goal_of(cx: &mut Cx, nodes: &[Resolved], terms: Terms<'_>) -> Result<Goal
     let [bound] = found.as_slice() else {
         return Err(MISFIT);
     };
-    let param_env = cx.mk_env(&[])?;
+    let param_env = environment(cx, env)?;
     let predicate = predicate_of(cx, bound)?;
     Ok(Goal {
         param_env,
         predicate,
     })
+}
+
+/// This environment, or the empty one.
+#[tactic(auto, using(crate::proofs::Stores::growing))]
+fn environment(cx: &mut Cx, env: Option<ParamEnv>) -> Result<ParamEnv, Stop>
+    ensures is { IfOk result (λ e. (us : List Tree) → Extends cx.new.nodes us → IsGivenEnvironment us env e) }
+    ensures holds { IfOk result (λ e. HoldsEnv cx.new.nodes e) }
+    ensures grows { Grows cx.old cx.new }
+{
+    let Some(env) = env else {
+        let empty = cx.mk_env(&[])?;
+        return Ok(empty);
+    };
+    if !cx.holds(env) {
+        return Err(MISFIT);
+    }
+    Ok(env)
+}
+
+/// Whether all of these are predicates of this store.
+fn are_held(cx: &Cx, predicates: &[Predicate]) -> bool
+    ensures { IsTrue result → All (λ p. HoldsPredicate cx.now.nodes p) predicates.now }
+{
+    predicates.iter().all(|predicate| cx.holds(*predicate))
+}
+
+/// The environment that these nodes say, which name no variables.
+#[tactic(auto, using(crate::proofs::Stores::growing))]
+pub fn environment_of(cx: &mut Cx, nodes: &[Resolved]) -> Result<ParamEnv, Stop>
+    ensures says { IfOk result (IsEnvironmentFor cx.new.nodes nodes.now) }
+    ensures grows { Grows cx.old cx.new }
+{
+    let variables = LineVariables::new(cx.alloc);
+    let terms = Terms {
+        variables: &variables,
+        values: &[],
+    };
+    let predicates = conditions(cx, nodes, terms)?;
+    if !are_held(cx, &predicates) {
+        return Err(MISFIT);
+    }
+    let env = cx.mk_env(&predicates)?;
+    Ok(env)
 }
 
 /// The rule that a line says: its head holds where its body does.

@@ -1,5 +1,5 @@
 //! The variables of a line.
-ghost use Rattle.std.specs.Prelude.{◌≡◌, ◌<◌, ◌+◌, length, All, OnOk};
+ghost use Rattle.std.specs.Prelude.{◌≡◌, ◌<◌, ◌+◌, [], length, All, OnOk};
 ghost use Rattle.nts_wording.specs.Meaning.{HasOwnPlaces, HasPlace, KeepsPlaces};
 
 use nts_model::Sort;
@@ -21,6 +21,8 @@ impl LineVariables {
     /// No variables. It takes no memory.
     pub fn new(alloc: Global) -> Self
         ensures own { HasOwnPlaces result }
+        ensures types { result.types.items ≡ [] }
+        ensures regions { result.regions.items ≡ [] }
     {
         LineVariables {
             sorts: Vec::new(alloc),

@@ -13,6 +13,7 @@ use Rattle.nts_model.specs.declared.labels.Label.TheVariants as label
 use Rattle.nts_model.specs.Terms.Trees.{Tree, empty, more, node, kind_of_label, of_sort, NodeKind, any_label, is_canonical, IsClosed, IsFormed}
 use Rattle.nts_model.specs.Terms.Scoping.{IsWellBound}
 use Rattle.nts_model.specs.Terms.Fitting.{Fits}
+use Rattle.nts_model.specs.Tables.Contents.{Content}
 use Rattle.nts_model.specs.Tables.Recording.{ConstrainsRegion}
 use Rattle.nts_model.specs.Terms.Substitutions.{Occurs, StaysItself, Instance, instance_of, Renaming, rename, IsPlain, filled_under, position_of}
 use Rattle.nts_model.specs.Derivations.Related.{Constraint, pair, unbound}
@@ -116,11 +117,17 @@ renamed_candidate ρ c =
       goals = map (premise_by (rename ρ)) c.goals;
     }
 
--- what a handler means: its rules, what it offers for a goal in an environment, in order, and its coinductive traits
+-- what a handler means: its rules, what it offers for a goal in an environment, in order, its coinductive traits, and the tables
+-- of which its leak check may say that their region constraints can't be met by what a universe names
 pub record Handler : Type 1 where
   pub applies : Mode → Application → Type 0
   pub offers : Mode → Tree → Tree → List Candidate
   pub is_coinductive : ℕ → Bool
+  pub leaks : Content → ℕ → Type 0
+
+-- no table is called leaky
+abbrev pub never_leaks : Content → ℕ → Type 0
+never_leaks c u = ⊥
 
 -- what a handler means where constructors have declared variances
 abbrev pub meaning : Handler → (ℕ → List Variance) → Meaning
@@ -129,6 +136,10 @@ meaning h variances = meaning_of h.applies h.is_coinductive variances
 -- no trait is coinductive
 abbrev pub HasNoCoinductiveTrait : Handler → Type 0
 HasNoCoinductiveTrait h = (i : ℕ) → h.is_coinductive i ≡ false
+
+-- the leak check never says anything
+abbrev pub HasNoLeaks : Handler → Type 0
+HasNoLeaks h = (c : Content) (u : ℕ) → h.leaks c u → ⊥
 
 -- the goals that a handler is asked: closed terms without positions, that bind nothing, of the kinds that it answers.
 -- What is said is closed by itself: it names no variable of the binder that binds nothing. So are the statements of the

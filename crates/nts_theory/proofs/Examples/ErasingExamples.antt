@@ -3,7 +3,7 @@ use Rattle.std.proofs.Common.{◌≡◌, ℕ, List, [], ◌∷◌, refl, inl, in
 use Rattle.nts_model.specs.Terms.Trees.{Tree}
 use Rattle.nts_model.specs.Lists.{Among}
 use Rattle.nts_model.specs.Derivations.Rules.{Mode, coherence, post_analysis, erased, analysis, borrowck, post_borrowck}
-use Rattle.nts_model.specs.Derivations.Handlers.{Handler, Candidate, certain, never, always, in_storage, in_storage_or_infer, IsLawfulHandler, IsCandidateFor, premise_by, renamed_candidate}
+use Rattle.nts_model.specs.Derivations.Handlers.{Handler, never_leaks, Candidate, certain, never, always, in_storage, in_storage_or_infer, IsLawfulHandler, IsCandidateFor, premise_by, renamed_candidate}
 use Rattle.nts_model.specs.Terms.Substitutions.{Renaming, instance_of, filled_under}
 use Rattle.nts_theory.specs.Erased.Accessing.{Parents, no_parents, stands, runs_again, decides}
 use Rattle.nts_theory.specs.Erased.Erasing.{ErasedAreRules}
@@ -33,7 +33,7 @@ facts (borrowck xs) = fact ∷ []
 facts (post_borrowck xs) = fact ∷ []
 
 abbrev pub blind : Handler
-blind = record { applies = λ mode a. a.goals ≡ []; offers = λ mode e g. facts mode; is_coinductive = λ i. false }
+blind = record { applies = λ mode a. a.goals ≡ []; offers = λ mode e g. facts mode; is_coinductive = λ i. false; leaks = never_leaks }
 
 only_fact : (mode : Mode) (c : Candidate) → Among (facts mode) c → c ≡ fact
 only_fact erased c i = absurd i

@@ -22,7 +22,8 @@ use Rattle.nts_model.specs.Canonical.Inputs.{CanonicalInput, canonical_of}
 use Rattle.nts_model.specs.Answers.Responses.{Response}
 use Rattle.nts_model.specs.Searching.Driving.{unconstrained}
 use Rattle.nts_model.specs.Refutation.Containing.{Truth, IsSolution, IsSolutionOf, ContainsSolution, AnswerContains, HasNoSolution}
-use Rattle.nts_theory.specs.Refutation.Refutation.{HasMetProof, HasNoSolutionIn, KeepsSolutionsOf}
+use Rattle.nts_theory.specs.Refutation.Refutation.{RespectsLeaks, HasMetProof, HasNoSolutionIn, KeepsSolutionsOf}
+use Rattle.nts_theory.proofs.Refutation.Tight.{tight_respects}
 use Rattle.nts_theory.proofs.Refutation.OfferMeeting.{handlers_inst}
 use Rattle.nts_theory.proofs.Examples.InputExamples.{no_clauses as nowhere}
 use Rattle.nts_theory.proofs.Examples.ProofExamples.{auto_list}
@@ -30,34 +31,34 @@ use Rattle.nts_theory.proofs.Examples.RefutationExamples.{without_rules, list_ty
 use Rattle.nts_model.proofs.Tables.Instances.{Agrees-refl}
 
 -- by a handler without rules no goal that a handler is asked has a solution in any table
-nothing_is_solved : (c : Content) (e x s : Tree) → IsHandlers s → HasNoSolutionIn without_rules c e (bound x s)
-nothing_is_solved c e x s h = record { none = λ truth fair v w solution. without_rules_no_proof v truth (inst w e) (inst w x) (inst w s) (handlers_inst w s h) }
+pub nothing_is_solved : (c : Content) (e x s : Tree) → IsHandlers s → HasNoSolutionIn without_rules c e (bound x s)
+nothing_is_solved c e x s h = record { none = λ truth fair respects v w solution. without_rules_no_proof v truth (inst w e) (inst w x) (inst w s) (handlers_inst w s h) }
 
 -- another type than List
-abbrev other_type : Tree
+abbrev pub other_type : Tree
 other_type = constructor 2 empty
 
 -- where the only rule is impl Auto(List), Auto of another type has no solution in any table
-other_is_unsolved : (c : Content) (e : Tree) → HasNoSolutionIn fact_only c e (auto_of other_type)
-other_is_unsolved c e = record { none = λ truth fair v w solution p. (let used = fact_used [] v truth (inst w e) other_type (tt, ((tt, tt), tt)) p in let z : other_type ≡ list_type = used.0 in cc z) }
+pub other_is_unsolved : (c : Content) (e : Tree) → HasNoSolutionIn fact_only c e (auto_of other_type)
+other_is_unsolved c e = record { none = λ truth fair respects v w solution p. (let used = fact_used [] v truth (inst w e) other_type (tt, ((tt, tt), tt)) p in let z : other_type ≡ list_type = used.0 in cc z) }
 
 -- a table without variables, one with a type variable of which nothing is known, and one in which it has a value
-abbrev table_of : List Slot → List ℕ → Content
+abbrev pub table_of : List Slot → List ℕ → Content
 table_of slots order = record { slots = slots; order = order; universe = 0; constraints = [] }
 
-abbrev type_slot : SlotState → Slot
+abbrev pub type_slot : SlotState → Slot
 type_slot s = record { kind = kind.Ty; universe = 0; state = s; sub_link = None }
 
-abbrev no_variables : Content
+abbrev pub no_variables : Content
 no_variables = table_of [] []
 
-abbrev one_unset : Content
+abbrev pub one_unset : Content
 one_unset = table_of (type_slot unset ∷ []) []
 
-abbrev one_known : Tree → Content
+abbrev pub one_known : Tree → Content
 one_known t = table_of (type_slot (known t) ∷ []) (0 ∷ [])
 
-abbrev variable : Tree
+abbrev pub variable : Tree
 variable = variable_tree kind.Ty 0
 
 -- the world in which each variable is List, and everything outlives everything
@@ -111,22 +112,33 @@ lists_solve_no_other s = (let z : list_type ≡ other_type = s.solves.values 0 i
 truth_is_the_worlds : IsSolution none_true 0 no_variables all_lists → ⊥
 truth_is_the_worlds s = (let z : true ≡ false = s.outlives list_type list_type in cc z)
 
+-- a handler that calls each table leaky is wrong about one that has a solution; one that reports leaks only where nothing can be
+-- solved is right
+abbrev leaky : (Content → ℕ → Type 0) → Handler
+leaky f = record without_rules { leaks = f }
+
+each_leaks_is_wrong : RespectsLeaks (leaky (λ c u. Unit {0})) all_true → ⊥
+each_leaks_is_wrong r = r.none no_variables 0 all_lists tt solves_none
+
+unsolvable_leaks_is_right : (truth : Truth) → RespectsLeaks (leaky (λ c u. (w : World) → IsSolution truth u c w → ⊥)) truth
+unsolvable_leaks_is_right truth = record { none = λ c u w leaks s. leaks w s }
+
 -- it is not said of a fact that it has no solution
-fact_is_solved : HasNoSolutionIn fact_only no_variables nowhere auto_list → ⊥
-fact_is_solved h = h.none all_true all_true_is_fair (λ i. []) all_lists solves_none (fact_has_proof (λ i. []) all_true)
+pub fact_is_solved : HasNoSolutionIn fact_only no_variables nowhere auto_list → ⊥
+fact_is_solved h = h.none all_true all_true_is_fair (tight_respects fact_only (λ c u l. l) all_true) (λ i. []) all_lists solves_none (fact_has_proof (λ i. []) all_true)
 
 -- nor is it said of the fact's trait of a type variable
-variable_is_solved : HasNoSolutionIn fact_only one_unset nowhere (auto_of variable) → ⊥
-variable_is_solved h = h.none all_true all_true_is_fair (λ i. []) all_lists solves_unset (fact_has_proof (λ i. []) all_true)
+pub variable_is_solved : HasNoSolutionIn fact_only one_unset nowhere (auto_of variable) → ⊥
+variable_is_solved h = h.none all_true all_true_is_fair (tight_respects fact_only (λ c u l. l) all_true) (λ i. []) all_lists solves_unset (fact_has_proof (λ i. []) all_true)
 
 -- a table keeps its own solutions, of each goal
-same_table_keeps : (h : Handler) (c : Content) (e g : Tree) → KeepsSolutionsOf h c c e g
-same_table_keeps h c e g = record { each = λ truth fair v w s p. (w, Agrees-refl (length c.slots) w, s) }
+pub same_table_keeps : (h : Handler) (c : Content) (e g : Tree) → KeepsSolutionsOf h c c e g
+same_table_keeps h c e g = record { each = λ truth fair respects v w s p. (w, Agrees-refl (length c.slots) w, s) }
 
 -- where the only rule is impl Auto(List), a table in which the variable is List keeps the solutions of Auto of the variable
 list_is_kept : KeepsSolutionsOf fact_only one_unset (one_known list_type) nowhere (auto_of variable)
 list_is_kept = record {
-  each = λ truth fair v w s p. (let first = s.solves.fitting.each 0 kind.Ty refl in
+  each = λ truth fair respects v w s p. (let first = s.solves.fitting.each 0 kind.Ty refl in
       let used = fact_used [] v truth nowhere (w.tree 0) first.closed p in
       (w, Agrees-refl 1 w, is_known truth w s used.0));
 }
@@ -160,23 +172,23 @@ list_is_kept = record {
         named (suc n) = tt
 
 -- a table in which the variable is another type has lost the solution in which it is List
-list_is_lost : KeepsSolutionsOf fact_only one_unset (one_known other_type) nowhere (auto_of variable) → ⊥
+pub list_is_lost : KeepsSolutionsOf fact_only one_unset (one_known other_type) nowhere (auto_of variable) → ⊥
 list_is_lost h =
-    let (later, agrees, s) = h.each all_true all_true_is_fair (λ i. []) all_lists solves_unset (fact_has_proof (λ i. []) all_true) in
+    let (later, agrees, s) = h.each all_true all_true_is_fair (tight_respects fact_only (λ c u l. l) all_true) (λ i. []) all_lists solves_unset (fact_has_proof (λ i. []) all_true) in
     let here : later.tree 0 ≡ other_type = s.solves.values 0 in
     let there : later.tree 0 ≡ list_type = agrees.trees 0 (omega arith) in
     let z : other_type ≡ list_type = sym here ∙ there in
     cc z
 
 -- the query for Auto of a type variable, and the answer that the variable is this type
-abbrev question : CanonicalInput
+abbrev pub question : CanonicalInput
 question = canonical_of (record { environment = nowhere; predicate = auto_of variable; hidden = empty; sub_root = λ n. n })
 
-abbrev answer : Tree → Response
+abbrev pub answer : Tree → Response
 answer t = record { findings = record { values = t ∷ []; constraints = []; hidden = []; open_goals = [] }; kinds = []; max_universe = 0 }
 
 module _ (v : ℕ → List Variance) (truth : Truth) where
-  abbrev Proves : Tree → Tree → Type 0
+  abbrev pub Proves : Tree → Tree → Type 0
   Proves = HasMetProof (meaning fact_only v) truth
 
   -- List solves the query
@@ -184,7 +196,7 @@ module _ (v : ℕ → List Variance) (truth : Truth) where
   list_solves = record { values = (record { value = record { fits = refl; closed = (tt, ((tt, tt), tt)); formed = ((refl, tt), ((tt, tt), tt)) }; named = (tt, ((tt, tt), tt)) }, tt); proved = fact_has_proof v truth }
 
   -- the answer List contains each solution of it
-  list_contains_each : AnswerContains truth Proves question (answer list_type)
+  pub list_contains_each : AnswerContains truth Proves question (answer list_type)
   list_contains_each [] s = absurd s.values
   list_contains_each (t ∷ []) s =
       let used = fact_used [] v truth nowhere t (let x = s.values.0 in x.value.closed) s.proved in
@@ -198,11 +210,11 @@ module _ (v : ℕ → List Variance) (truth : Truth) where
   nothing_said_contains_each (t ∷ u ∷ us) s = absurd s.values.1
 
   -- the answer that it is another type lacks a solution
-  other_does_not_contain : AnswerContains truth Proves question (answer other_type) → ⊥
+  pub other_does_not_contain : AnswerContains truth Proves question (answer other_type) → ⊥
   other_does_not_contain h = (let c = h (list_type ∷ []) list_solves in let e = c.equal in cc e)
 
   -- the query is not one without solutions
-  question_is_solved : HasNoSolution Proves question → ⊥
+  pub question_is_solved : HasNoSolution Proves question → ⊥
   question_is_solved h = h (list_type ∷ []) list_solves
 
 -- the answer List under a region constraint
@@ -228,6 +240,6 @@ constraint_is_not_met : (v : ℕ → List Variance) → AnswerContains none_true
 constraint_is_not_met v h = (let c = h (list_type ∷ []) (list_solves v none_true) in elim c.met.0 [ inl e ↦ cc e | inr e ↦ cc e ])
 
 -- by a handler without rules the query has no solution
-question_without_rules : (v : ℕ → List Variance) (truth : Truth) → HasNoSolution (HasMetProof (meaning without_rules v) truth) question
+pub question_without_rules : (v : ℕ → List Variance) (truth : Truth) → HasNoSolution (HasMetProof (meaning without_rules v) truth) question
 question_without_rules v truth [] s = s.values
 question_without_rules v truth (t ∷ ts) s = without_rules_no_proof v truth nowhere empty (node (label.Clause (clause.Trait 0)) (arguments (more t empty))) tt s.proved

@@ -12,7 +12,7 @@ use Rattle.nts_model.specs.Terms.Trees.{Tree}
 use Rattle.nts_model.specs.Tables.Contents.{Content}
 use Rattle.nts_model.specs.Lists.{Among}
 use Rattle.nts_model.specs.Derivations.Rules.{Mode}
-use Rattle.nts_model.specs.Derivations.Handlers.{Handler, Candidate}
+use Rattle.nts_model.specs.Derivations.Handlers.{Handler, Candidate, HasNoLeaks}
 use Rattle.nts_model.specs.Derivations.Sequents.{Premise}
 use Rattle.nts_model.specs.Refutation.Choosing.{IsCandidateMet}
 use Rattle.nts_model.specs.Refutation.Opening.{entered_table, opened_in}
@@ -22,7 +22,7 @@ use Rattle.nts_model.specs.Canonical.Inputs.{PositionKind, type_variable, intege
 use Rattle.nts_model.specs.Answers.Responses.{Response}
 use Rattle.nts_model.specs.Terms.Substitutions.{leaf_tree}
 use Rattle.nts_theory.proofs.Refutation.Agreeing.{nothing_is_identity}
-use Rattle.nts_theory.specs.Telling.{Verdict, Queries, IsReady, SaysNothing, ChangesNothing, StandsForAll, FailsToAdd, goals_with, Refutes, all_fail, Outcomes, no_outcome, then_fails, then_replies, Fails, is_unmet, breaks_off, is_refused, RefusesOne, refuses_one, cuts_one}
+use Rattle.nts_theory.specs.Telling.{Verdict, Queries, IsReady, SaysNothing, ChangesNothing, StandsForAll, FailsToAdd, goals_with, Refutes, all_fail, Outcomes, no_outcome, then_fails, then_replies, Fails, is_unmet, breaks_off, is_refused, is_leaky, RefusesOne, refuses_one, cuts_one}
 
 -- the answer without constraints says nothing, in each universe
 unconstrained_says_nothing : (ks : List PositionKind) → SaysNothing ks (unconstrained ks)
@@ -45,7 +45,7 @@ both_one = record { findings = record { values = position sort.Ty 0 ∷ position
 two_made_one_say_something : SaysNothing two_variables both_one → ⊥
 two_made_one_say_something e = (let many : 1 ≡ 2 = ap (λ (r : Response). length r.kinds) e in omega (arith, many))
 
--- a candidate without constraints and goals that is met does not fail
+-- a candidate without constraints and goals that is met does not fail, where the handler reports no leak
 no_refusal : (Q : Queries) (h : Handler) (mode : Mode) (c : Content) (vs : List Tree) (gs : List Premise) → gs ≡ [] → RefusesOne Q h mode (goals_with vs gs) c → ⊥
 no_refusal Q h mode c vs [] e (refuses_one d p r i k q) = i
 no_refusal Q h mode c vs [] e (cuts_one d p r i s k) = i
@@ -54,10 +54,11 @@ no_refusal Q h mode c vs (g ∷ gs) e r = cc e
 no_break : (xs : List Tree) (x : Candidate) (c : Content) → x.constraints ≡ [] → FailsToAdd xs x.constraints c → ⊥
 no_break xs x c e f = (let z : FailsToAdd xs [] c = rw e at f in z)
 
-pub fact_never_fails : (Q : Queries) (h : Handler) (mode : Mode) (c : Content) (x : Candidate) → IsCandidateMet c x → x.constraints ≡ [] → x.goals ≡ [] → Fails Q h mode c x → ⊥
-fact_never_fails Q h mode c x met constraints goals (is_unmet n) = n met
-fact_never_fails Q h mode c x met constraints goals (breaks_off b) = no_break b.values x b.equal constraints b.fails
-fact_never_fails Q h mode c x met constraints goals (is_refused values there begun refused) = no_refusal Q h mode there values x.goals goals refused
+pub fact_never_fails : (Q : Queries) (h : Handler) (mode : Mode) (c : Content) (x : Candidate) → HasNoLeaks h → IsCandidateMet c x → x.constraints ≡ [] → x.goals ≡ [] → Fails Q h mode c x → ⊥
+fact_never_fails Q h mode c x tight met constraints goals (is_unmet n) = n met
+fact_never_fails Q h mode c x tight met constraints goals (breaks_off b) = no_break b.values x b.equal constraints b.fails
+fact_never_fails Q h mode c x tight met constraints goals (is_refused values there begun refused) = no_refusal Q h mode there values x.goals goals refused
+fact_never_fails Q h mode c x tight met constraints goals (is_leaky values there found begun reach leaks) = tight found 0 leaks
 
 -- where no verdict is left, each candidate failed
 among_ends : {A : Type 0} (xs : List A) (x y : A) → Among (xs ++ x ∷ []) y → Among xs y ⊎ (y ≡ x)
@@ -76,9 +77,9 @@ all_failed {Q} {h} {mode} {c} (then_fails {xs = xs} {x = y} before fails) none x
 all_failed (then_replies {vs = vs} {v = v} before reply) none x i = absurd (not_empty vs v none)
 
 -- so a query does not refute a goal for which a candidate without constraints and goals is met: a handler that offers a fact
-pub fact_is_not_refuted : (Q : Queries) (h : Handler) (mode : Mode) (c : Content) (e g : Tree) (qs : List Tree) (x : Candidate) → Among (h.offers mode e (opened_in c g)) x → IsCandidateMet (entered_table c g) x → x.constraints ≡ [] → x.goals ≡ []
+pub fact_is_not_refuted : (Q : Queries) (h : Handler) (mode : Mode) (c : Content) (e g : Tree) (qs : List Tree) (x : Candidate) → HasNoLeaks h → Among (h.offers mode e (opened_in c g)) x → IsCandidateMet (entered_table c g) x → x.constraints ≡ [] → x.goals ≡ []
     → Refutes Q h mode c e g qs → ⊥
-fact_is_not_refuted Q h mode c e g qs x offered met constraints goals (all_fail ready all) = fact_never_fails Q h mode (entered_table c g) x met constraints goals (all_failed all refl x offered)
+fact_is_not_refuted Q h mode c e g qs x tight offered met constraints goals (all_fail ready all) = fact_never_fails Q h mode (entered_table c g) x tight met constraints goals (all_failed all refl x offered)
 
 -- and it refutes one for which nothing is offered
 pub no_candidate_is_refuted : (Q : Queries) (h : Handler) (mode : Mode) (c : Content) (e g : Tree) (qs : List Tree) → IsReady c e g → h.offers mode e (opened_in c g) ≡ [] → Refutes Q h mode c e g qs

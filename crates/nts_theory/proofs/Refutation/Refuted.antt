@@ -14,7 +14,7 @@ use Rattle.nts_model.specs.Derivations.Handlers.{Handler, meaning, IsLawfulHandl
 use Rattle.nts_model.specs.Refutation.Containing.{Truth, IsTrueBy, IsSolution, AnswerContains, HasNoSolution}
 use Rattle.nts_model.specs.Refutation.Coherence.{RulesAreOffered}
 use Rattle.nts_model.specs.Canonical.Inputs.{CanonicalInput}
-use Rattle.nts_theory.specs.Refutation.Refutation.{HasNoAliases, IsFair, IsTheory, HasMetProof, HasNoSolutionIn, KeepsSolutionsOf}
+use Rattle.nts_theory.specs.Refutation.Refutation.{HasNoAliases, IsFair, RespectsLeaks, IsTheory, HasMetProof, HasNoSolutionIn, KeepsSolutionsOf}
 use Rattle.nts_theory.proofs.Refutation.Entering.{entered as enters}
 use Rattle.nts_theory.proofs.Refutation.Theories.{Carried, carried_itself, carried_theory}
 use Rattle.nts_theory.proofs.Refutation.ReachedGoals.{InSettledProof, settled_used, root_reached, ground_proof}
@@ -22,7 +22,7 @@ use Rattle.nts_theory.specs.Telling.{Verdict, Queries, Asked, Refused, QueryTell
 use Rattle.nts_theory.proofs.Refutation.Queried.{BeginsEach, IsFirst, first_query}
 use Rattle.nts_theory.proofs.Refutation.Witnesses.{asked_leads, tells_contain, refutes_none, refused_none}
 
-module _ (Q : Queries) (begins : BeginsEach Q) (h : Handler) (V : ℕ → List Variance) (truth : Truth) (lawful : IsLawfulHandler h) (law : RulesAreOffered h) (none : HasNoAliases h) (fair : IsFair truth) where
+module _ (Q : Queries) (begins : BeginsEach Q) (h : Handler) (V : ℕ → List Variance) (truth : Truth) (lawful : IsLawfulHandler h) (law : RulesAreOffered h) (none : HasNoAliases h) (fair : IsFair truth) (respects : RespectsLeaks h truth) where
   abbrev Holds : Constraint → Type 0
   Holds x = IsTrueBy truth x.relation x.left x.right
 
@@ -41,18 +41,18 @@ module _ (Q : Queries) (begins : BeginsEach Q) (h : Handler) (V : ℕ → List V
 
   -- the root: no solution of the caller's table gives the goal a settled proof
   pub refused_has_no_proof : (c : Content) (e g : Tree) → Refused Q h coherence c e g → Knows c (pair e g) → AreCurrent c → (w : World) → IsSolution truth c.universe c w → HasMetProof (meaning h V) truth (inst w e) (inst w g) → ⊥
-  refused_has_no_proof c e g r k current w s p = refused_none Q begins h truth Proves theory fair lawful law r k current c.universe w s (proved (inst w e) (inst w g) p)
+  refused_has_no_proof c e g r k current w s p = refused_none Q begins h truth Proves theory fair respects lawful law r k current c.universe w s (proved (inst w e) (inst w g) p)
 
   -- each answer of a query contains each solution of its input, and what a query refutes has none
   pub answer_contains_all : (f : CanonicalInput) (v : Verdict) → IsFirst f (Q.table f.kinds) (Q.values f.kinds) → QueryTells Q h coherence f v → AnswerContains truth Proves f v.response
   answer_contains_all f v first t ts s =
       let e = enters truth Proves f (Q.table f.kinds) (Q.values f.kinds) ts first.begins s in
-      tells_contain Q begins h truth Proves theory fair lawful law t (first_query f (Q.table f.kinds) (Q.values f.kinds) first) ts e.world (record { values = s.values; solution = e.solution; images = e.images; proved = e.proved })
+      tells_contain Q begins h truth Proves theory fair respects lawful law t (first_query f (Q.table f.kinds) (Q.values f.kinds) first) ts e.world (record { values = s.values; solution = e.solution; images = e.images; proved = e.proved })
 
   pub refuted_has_none : (f : CanonicalInput) → IsFirst f (Q.table f.kinds) (Q.values f.kinds) → QueryRefutes Q h coherence f → HasNoSolution Proves f
   refuted_has_none f first t ts s =
       let e = enters truth Proves f (Q.table f.kinds) (Q.values f.kinds) ts first.begins s in
-      refutes_none Q begins h truth Proves theory fair lawful law t (first_query f (Q.table f.kinds) (Q.values f.kinds) first) ts e.world (record { values = s.values; solution = e.solution; images = e.images; proved = e.proved })
+      refutes_none Q begins h truth Proves theory fair respects lawful law t (first_query f (Q.table f.kinds) (Q.values f.kinds) first) ts e.world (record { values = s.values; solution = e.solution; images = e.images; proved = e.proved })
 
   -- .. so each solution in which the goal has a settled proof
   pub answer_contains_each : (f : CanonicalInput) (v : Verdict) → IsFirst f (Q.table f.kinds) (Q.values f.kinds) → QueryTells Q h coherence f v → AnswerContains truth (HasMetProof (meaning h V) truth) f v.response
@@ -73,14 +73,14 @@ module _ (Q : Queries) (begins : BeginsEach Q) (h : Handler) (lawful : IsLawfulH
 
   pub no_solution_in : Refused Q h coherence c (deeply_resolved c e) (deeply_resolved c g) → HasNoSolutionIn h c e g
   no_solution_in r =
-      record { none = λ truth fair v w s p. refused_has_no_proof Q begins h v truth lawful law none fair c (deeply_resolved c e) (deeply_resolved c g) r known_there current w s (proof_there truth v w s p) }
+      record { none = λ truth fair respects v w s p. refused_has_no_proof Q begins h v truth lawful law none fair respects c (deeply_resolved c e) (deeply_resolved c g) r known_there current w s (proof_there truth v w s p) }
 
   pub keeps_solutions_of : (d : Content) → Asked Q h coherence c d (deeply_resolved c e) (deeply_resolved c g) → KeepsSolutionsOf h c d e g
   keeps_solutions_of d a =
       record {
-        each = λ truth fair v w s p.
-            (let t = theory Q begins h v truth lawful law none fair in
-            let l = asked_leads Q begins h truth _ t fair lawful law a known_there current in
-            let x = l.each c.universe w s (proved Q begins h v truth lawful law none fair _ _ (proof_there truth v w s p)) in
+        each = λ truth fair respects v w s p.
+            (let t = theory Q begins h v truth lawful law none fair respects in
+            let l = asked_leads Q begins h truth _ t fair respects lawful law a known_there current in
+            let x = l.each c.universe w s (proved Q begins h v truth lawful law none fair respects _ _ (proof_there truth v w s p)) in
             (x.world, x.agrees, (let y = x.solves in y.solution)));
       }

@@ -17,7 +17,7 @@ use Rattle.nts_model.specs.Canonical.Inputs.{PositionKind, canonical_of, origina
 use Rattle.nts_model.specs.Answers.Responses.{IsQueryTable}
 use Rattle.nts_model.specs.Refutation.Containing.{Truth, IsSolution, AreInputValues, ContainsSolution, AnswerContains, HasNoSolution, SolvesGoals, ExtendsTo}
 use Rattle.nts_model.specs.Refutation.Coherence.{RulesAreOffered}
-use Rattle.nts_theory.specs.Refutation.Refutation.{IsFair, IsTheory}
+use Rattle.nts_theory.specs.Refutation.Refutation.{IsFair, RespectsLeaks, IsTheory}
 use Rattle.nts_model.proofs.Tables.Instances.{Agrees-trans}
 use Rattle.nts_model.proofs.Tables.Slots.{KeepsKinds, KeepsKinds-refl, KeepsKinds-trans}
 use Rattle.nts_theory.proofs.Refutation.AskingWorlds.{image, contained_granted}
@@ -29,7 +29,7 @@ use Rattle.nts_theory.proofs.Refutation.Agreeing.{AreNumberedKinds, identity_con
 use Rattle.nts_theory.proofs.Refutation.Carriers.{carrier}
 use Rattle.nts_theory.proofs.Refutation.Opening.{CanBegin}
 use Rattle.nts_theory.proofs.Refutation.Readying.{some_begins}
-use Rattle.nts_theory.specs.Telling.{Verdict, Queries, AreTermsOfKinds, StandsForAll, SaysOf, IsFound, without_constraints, IsPlainResponse, goals_with, Tells, tells_nothing, says_nothing, tells_one, Refutes, all_fail, Outcomes, no_outcome, then_fails, then_replies, Replies, replies, Fails, is_unmet, breaks_off, is_refused, Reaches, asks_nothing, then_asks, RefusesOne, refuses_one, cuts_one, Asked, asked_by, Refused, by_query, by_response}
+use Rattle.nts_theory.specs.Telling.{Verdict, Queries, AreTermsOfKinds, StandsForAll, SaysOf, IsFound, without_constraints, IsPlainResponse, goals_with, Tells, tells_nothing, says_nothing, tells_one, Refutes, all_fail, Outcomes, no_outcome, then_fails, then_replies, Replies, replies, Fails, is_unmet, breaks_off, is_refused, is_leaky, Reaches, asks_nothing, then_asks, RefusesOne, refuses_one, cuts_one, Asked, asked_by, Refused, by_query, by_response}
 use Rattle.nts_theory.proofs.Refutation.Queried.{BeginsEach, Leads, Reached, IsSolved, IsQuery, first_query, IsTried, tried, tried_knows, found_table, solution_without, entered_solution, says_contains, says_long}
 use Rattle.nts_theory.proofs.Refutation.Begun.{asked_from, BegunAt, begun_at, never_breaks, asks_more, goal_known, goal_there}
 use Rattle.nts_theory.proofs.Refutation.QueryLabels.{entered_query, query_without}
@@ -56,7 +56,7 @@ pub record OneContains (truth : Truth) (vs : List Verdict) (ts : List Tree) : Ty
   pub contains : ContainsSolution truth verdict.response ts
 
 -- the theorem: in coherence each answer contains each solution, and what is refused has none
-module _ (Q : Queries) (begins : BeginsEach Q) (h : Handler) (truth : Truth) (Proves : Tree → Tree → Type 0) (theory : IsTheory h truth Proves) (fair : IsFair truth) (lawful : IsLawfulHandler h) (law : RulesAreOffered h) where
+module _ (Q : Queries) (begins : BeginsEach Q) (h : Handler) (truth : Truth) (Proves : Tree → Tree → Type 0) (theory : IsTheory h truth Proves) (fair : IsFair truth) (respects : RespectsLeaks h truth) (lawful : IsLawfulHandler h) (law : RulesAreOffered h) where
   some_says : (ks : List PositionKind) (c met found : Content) (w : World) (e g : Tree) (qs : List Tree) (v : Verdict) (gs : List Premise) → IsTried ks c e g qs → IsFound c e g found → IsSolution truth 0 c w
       → BegunAt truth Proves c met w gs → Reached truth Proves met found gs → SaysOf c found qs v → ContainsSolution truth v.response (map (inst w) qs)
   some_says ks c met found w e g qs v gs t is s b x says = by_case says
@@ -134,6 +134,11 @@ module _ (Q : Queries) (begins : BeginsEach Q) (h : Handler) (truth : Truth) (Pr
     fails_never {c} {x} (breaks_off b) w s k = never_breaks truth Proves c w x b k
     fails_never {c} {x} (is_refused values met begun refused) w s k =
         let b = begun_at truth Proves c met w values x begun k in refuses_goals refused b.terms b.reaches.world b.goals
+    fails_never {c} {x} (is_leaky values met found begun reach leaks) w s k =
+        let b = begun_at truth Proves c met w values x begun k in
+        let r = reaches_keep reach b.terms in
+        let there = r.solutions.each b.reaches.world b.goals in
+        respects.none found 0 there.world leaks there.solves.solution
 
     reaches_keep : {gs : List Premise} {c d : Content} → Reaches Q h coherence gs c d → AreTermsOf c gs → Reached truth Proves c d gs
     reaches_keep {gs} {c} asks_nothing t = record { keeps = KeepsKinds-refl c; solutions = kept_same truth 0 Proves c gs gs (λ q i. i) }

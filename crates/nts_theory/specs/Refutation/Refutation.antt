@@ -35,6 +35,10 @@ pub record IsCarrying (ρ : Renaming) : Type 0 where
 pub record IsFair (truth : Truth) : Type 0 where
   pub renamed : (ρ : Renaming) → IsCarrying ρ → (a b : Tree) → truth (rename ρ a) (rename ρ b) ≡ truth a b
 
+-- the handler is right about leaks where this is what outlives what: what its leak check says can't be met has no solution
+pub record RespectsLeaks (h : Handler) (truth : Truth) : Type 0 where
+  pub none : (c : Content) (u : ℕ) (w : World) → h.leaks c u → IsSolution truth u c w → ⊥
+
 -- a use of a clause: its equations are equalities, its constraints are true, and its goals are proved
 pub record UsesClause (h : Handler) (truth : Truth) (Proves : Tree → Tree → Type 0) (e s : Tree) : Type 0 where
   pub use_of : Application
@@ -86,9 +90,9 @@ pub record HasMetProof (m : Meaning) (truth : Truth) (e g : Tree) : Type 0 where
 
 -- a goal has no solution in a table: in none of the table's solutions has it a settled proof whose constraints are true
 pub record HasNoSolutionIn (h : Handler) (c : Content) (e g : Tree) : Type 0 where
-  pub none : (truth : Truth) → IsFair truth → (v : ℕ → List Variance) (w : World) → IsSolution truth c.universe c w → HasMetProof (meaning h v) truth (inst w e) (inst w g) → ⊥
+  pub none : (truth : Truth) → IsFair truth → RespectsLeaks h truth → (v : ℕ → List Variance) (w : World) → IsSolution truth c.universe c w → HasMetProof (meaning h v) truth (inst w e) (inst w g) → ⊥
 
 -- .. and a later table loses none: each solution in which the goal has such a proof extends to one of the later table
 pub record KeepsSolutionsOf (h : Handler) (c d : Content) (e g : Tree) : Type 0 where
-  pub each : (truth : Truth) → IsFair truth → (v : ℕ → List Variance) (w : World) → IsSolution truth c.universe c w → HasMetProof (meaning h v) truth (inst w e) (inst w g)
+  pub each : (truth : Truth) → IsFair truth → RespectsLeaks h truth → (v : ℕ → List Variance) (w : World) → IsSolution truth c.universe c w → HasMetProof (meaning h v) truth (inst w e) (inst w g)
       → (later : World) × Agrees (length c.slots) w later × IsSolution truth c.universe d later

@@ -532,43 +532,57 @@ probe_candidate-returns-in_err-snapshot g t c =
 pub probe_candidate-returns-then-keeps_constraints : goal.probe_candidate-returns-then-keeps_constraints
 probe_candidate-returns-then-keeps_constraints = candidates.probe_candidate-returns-then-keeps_constraints
 
-pub run_candidate-added_goals-requires-clause-nested : goal.run_candidate-added_goals-requires-clause-nested
-run_candidate-added_goals-requires-clause-nested g t c =
+pub run_candidate-check_leaks-requires-clause-table : goal.run_candidate-check_leaks-requires-clause-table
+run_candidate-check_leaks-requires-clause-table g t c = (let e = c.try_candidate-tried.ensures in e.runs.goes.table)
+
+pub run_candidate-check_leaks-requires-clause-ready : goal.run_candidate-check_leaks-requires-clause-ready
+run_candidate-check_leaks-requires-clause-ready g t c =
+    let e = c.try_candidate-tried.ensures in
+    g.met.H.GoalHandler.ready_kept _ _ _ c.requires.ready e.runs.goes.extends
+
+pub run_candidate-returns : goal.run_candidate-returns
+run_candidate-returns = candidates.run_candidate-returns
+
+pub run_candidate-try_candidate-tried-requires : goal.run_candidate-try_candidate-tried-requires
+run_candidate-try_candidate-tried-requires g t c = λ κs k. (omega (arith, c.decreases), (k, (c.requires.posed, (c.requires.asked, (c.requires.ready, (c.requires.candidate, c.requires.search))))))
+
+pub try_candidate-added_goals-requires-clause-nested : goal.try_candidate-added_goals-requires-clause-nested
+try_candidate-added_goals-requires-clause-nested g t c =
     let v = c.in_ok-values.ensures in
     let k = c.in_ok-record_constraints.ensures in
     let there = Runs-trans v.runs k.runs in
     let n = IsCandidate-extended there.goes.extends c.requires.posed.holds c.requires.candidate in
     rw (c.deref.ensures.value, c.deref-4.ensures.value) n.goals
 
-pub run_candidate-added_goals-requires-clause-posed : goal.run_candidate-added_goals-requires-clause-posed
-run_candidate-added_goals-requires-clause-posed g t c =
+pub try_candidate-added_goals-requires-clause-posed : goal.try_candidate-added_goals-requires-clause-posed
+try_candidate-added_goals-requires-clause-posed g t c =
     let v = c.in_ok-values.ensures in
     let k = c.in_ok-record_constraints.ensures in
     let there = Runs-trans v.runs k.runs in
     IsPosed-later there.goes c.requires.posed
 
-pub run_candidate-added_goals-requires-clause-values : goal.run_candidate-added_goals-requires-clause-values
-run_candidate-added_goals-requires-clause-values g t c =
+pub try_candidate-added_goals-requires-clause-values : goal.try_candidate-added_goals-requires-clause-values
+try_candidate-added_goals-requires-clause-values g t c =
     let v = c.in_ok-values.ensures in
     let k = c.in_ok-record_constraints.ensures in
     rw (c.deref.ensures.value, c.deref-2.ensures.value) (AreValues-later k.runs.goes v.values)
 
-pub run_candidate-record_constraints-requires-clause-constraints : goal.run_candidate-record_constraints-requires-clause-constraints
-run_candidate-record_constraints-requires-clause-constraints g t c =
+pub try_candidate-record_constraints-requires-clause-constraints : goal.try_candidate-record_constraints-requires-clause-constraints
+try_candidate-record_constraints-requires-clause-constraints g t c =
     let k = IsCandidate-extended c.in_ok-values.ensures.runs.goes.extends c.requires.posed.holds c.requires.candidate in
     rw (c.deref.ensures.value, c.deref-3.ensures.value) k.constraints
 
-pub run_candidate-record_constraints-requires-clause-posed : goal.run_candidate-record_constraints-requires-clause-posed
-run_candidate-record_constraints-requires-clause-posed g t c = IsPosed-later c.in_ok-values.ensures.runs.goes c.requires.posed
+pub try_candidate-record_constraints-requires-clause-posed : goal.try_candidate-record_constraints-requires-clause-posed
+try_candidate-record_constraints-requires-clause-posed g t c = IsPosed-later c.in_ok-values.ensures.runs.goes c.requires.posed
 
-pub run_candidate-returns : goal.run_candidate-returns
-run_candidate-returns = candidates.run_candidate-returns
+pub try_candidate-returns : goal.try_candidate-returns
+try_candidate-returns = candidates.try_candidate-returns
 
-pub run_candidate-returns-in_err-certainty : goal.run_candidate-returns-in_err-certainty
-run_candidate-returns-in_err-certainty = candidates.run_candidate-returns-in_err-certainty
+pub try_candidate-returns-in_err-certainty : goal.try_candidate-returns-in_err-certainty
+try_candidate-returns-in_err-certainty = candidates.try_candidate-returns-in_err-certainty
 
-pub run_candidate-returns-in_err-goals : goal.run_candidate-returns-in_err-goals
-run_candidate-returns-in_err-goals g t c =
+pub try_candidate-returns-in_err-goals : goal.try_candidate-returns-in_err-goals
+try_candidate-returns-in_err-goals g t c =
     let v = c.in_ok-values.ensures in
     let k = c.in_ok-record_constraints.ensures in
     let there = Runs-trans v.runs k.runs in
@@ -583,8 +597,8 @@ run_candidate-returns-in_err-goals g t c =
       refuted = search rules;
     }
 
-pub run_candidate-returns-in_err-record_constraints : goal.run_candidate-returns-in_err-record_constraints
-run_candidate-returns-in_err-record_constraints g t c =
+pub try_candidate-returns-in_err-record_constraints : goal.try_candidate-returns-in_err-record_constraints
+try_candidate-returns-in_err-record_constraints g t c =
     let v = c.in_ok-values.ensures in
     let constraints = constraints-kept c.args.cx.now.nodes c.equate.new.cx.nodes c.args.candidate.now.fresh.items c.args.goal c.args.candidate.now.region_constraints.items v.runs.goes.extends c.requires.candidate.constraints in
     let fails : is_err c.from_residual-in_err-record_constraints.result ≡ true = search rules in
@@ -599,8 +613,8 @@ run_candidate-returns-in_err-record_constraints g t c =
           breaks {t = c.args.table.now} {u = c.equate.new.table} (g.H.GoalHandler.handler s.base c.args.handler.now) c.args.table.now.mode c.args.candidate.now c.deref-2.result.now (rw c.deref-2.ensures.value v.equated) (rw c.deref-3.ensures.value at (c.record_constraints.ensures.no no)) constraints;
     }
 
-pub run_candidate-returns-in_err-values : goal.run_candidate-returns-in_err-values
-run_candidate-returns-in_err-values g t c =
+pub try_candidate-returns-in_err-values : goal.try_candidate-returns-in_err-values
+try_candidate-returns-in_err-values g t c =
     let fails : is_err c.from_residual.result ≡ true = search rules in
     record {
       runs = search rules;
@@ -613,8 +627,8 @@ run_candidate-returns-in_err-values g t c =
           is_unmet (c.equate.ensures.unmet no);
     }
 
-pub run_candidate-try_evaluate_goals-requires : goal.run_candidate-try_evaluate_goals-requires
-run_candidate-try_evaluate_goals-requires = candidates.run_candidate-try_evaluate_goals-requires
+pub try_candidate-try_evaluate_goals-requires : goal.try_candidate-try_evaluate_goals-requires
+try_candidate-try_evaluate_goals-requires = candidates.try_candidate-try_evaluate_goals-requires
 
 pub search-evaluate_rounds-answer-requires : goal.search-evaluate_rounds-answer-requires
 search-evaluate_rounds-answer-requires = queries.search-evaluate_rounds-answer-requires

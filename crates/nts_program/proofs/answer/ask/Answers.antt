@@ -20,8 +20,8 @@ returns-in-Some-Yes-clause-yes c =
     let numbered = rw c.new-table.ensures.entries at c.in_ok-values.ensures.variables c.evaluated.new.cx.nodes (Extends-trans c.in_ok-goal.ensures.grows.extends c.in_ok-evaluated.ensures.grows.extends) in
     let placed = subst (λ ss. AreVariablesFrom 0 c.evaluated.new.cx.nodes ss c.in_ok-values.values.items) c.deref.ensures.value numbered in
     let first = subst (AreVariablesFrom 0 c.evaluated.new.cx.nodes c.see.new.self.sorts.items) (sym c.deref-in-Some-Yes.ensures.value) placed in
-    justified c.args.mode c.args.nodes.now _ _ _ _ c.args.clauses.now _ c.in_ok-goal.goal _ _ c.answer_of.result
+    justified c.args.mode c.args.env c.args.nodes.now _ _ _ _ c.args.clauses.now _ c.in_ok-goal.goal _ _ c.answer_of.result
     own c.in_ok-see.ensures.placed first
     (rw (c.in_ok-evaluated.ensures.mode, c.fresh_values.ensures.mode, c.new-table.ensures.mode) c.typing_mode.ensures)
     (grown c.in_ok-values.ensures.grows c.in_ok-goal.ensures.grows)
-    (c.in_ok-evaluated.ensures.proved (c.in-Some-Yes.is ∙ ap Some c.in-Some-Yes.field-0-is)) (subst (λ vs. IsGoalOf c.evaluated.new.cx.nodes c.see.new.self vs c.args.nodes.now c.in_ok-goal.goal) (c.deref-2.ensures.value ∙ sym c.deref-in-Some-Yes.ensures.value) (c.in_ok-goal.ensures.asks _ c.in_ok-evaluated.ensures.grows.extends)) c.answer_of.ensures.variables c.answer_of.ensures.found
+    (c.in_ok-evaluated.ensures.proved (c.in-Some-Yes.is ∙ ap Some c.in-Some-Yes.field-0-is)) (subst (λ vs. IsGoalOf c.evaluated.new.cx.nodes c.args.env c.see.new.self vs c.args.nodes.now c.in_ok-goal.goal) (c.deref-2.ensures.value ∙ sym c.deref-in-Some-Yes.ensures.value) (c.in_ok-goal.ensures.asks _ c.in_ok-evaluated.ensures.grows.extends)) c.answer_of.ensures.variables c.answer_of.ensures.found

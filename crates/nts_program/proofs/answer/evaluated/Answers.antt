@@ -1,5 +1,6 @@
 use Rattle.nts_table.specs.TableLaws.{IsTable-extended}
 use Rattle.nts_store.proofs.Growing.{Extends-refl}
+use Rattle.nts_delegate.specs.ClausesKept.{AreClausesReady-kept}
 use Rattle.nts_program.proofs.Asking.{values-run}
 use Rattle.nts_program.proofs.Justifying.{earlier}
 use Rattle.nts_wording.proofs.Telling.{values-extended}
@@ -19,5 +20,9 @@ returns-in-Ok-clause-proved c = λ e.
     (record {
       store = now.nodes;
       extends = Extends-refl now.nodes;
-      proved = rw c.in-Ok.ensures.runs.goes.mode (c.in-Ok.ensures.proved (cc e));
+      proved = rw c.in-Ok.ensures.runs.goes.mode (rw c.new-rules.ensures at c.in-Ok.ensures.proved (cc e));
     })
+
+pub evaluate_root_goal-requires-clause-ready : goal.evaluate_root_goal-requires-clause-ready
+evaluate_root_goal-requires-clause-ready c =
+    rw c.new-rules.ensures (AreClausesReady-kept c.args.cx.now.nodes c.goal_is_admitted.new.cx.nodes c.args.clauses.now c.requires.ready c.in_ok-admitted.ensures.grows.extends)

@@ -1,7 +1,7 @@
 use Rattle.nts_text.proofs.SpellingLemmas.{meanings-later}
 use Rattle.std.proofs.Common.{Err, inl, inr, ap}
 use Rattle.nts_text.specs.Binders.{nothing_bound}
-use Rattle.nts_text.proofs.FaultLemmas.{no_meaning, bad_type, bad_trait, bad_clause, bad_goal}
+use Rattle.nts_text.proofs.FaultLemmas.{no_meaning, bad_type, bad_trait, bad_clause, bad_goal, bad_env}
 use Rattle.nts_text.specs.declared.refusals.TextError.TheVariants.{Memory}
 use Rattle.nts_text.proofs.commands.meaning.Goals as goal
 
@@ -17,22 +17,29 @@ pub returns-in_err-head-in-Impl : goal.returns-in_err-head-in-Impl
 returns-in_err-head-in-Impl c =
     let e = c.in_err-head-in-Impl in
     no_meaning _ _ _ _ _ c.from_residual-in_err-head-in-Impl.result e.field-0.0 c.from_residual-in_err-head-in-Impl.ensures.1
-    (rw c.in-Impl.is (bad_clause c.args.names.now c.args.line.now c.in-Impl.head c.in-Impl.body e.field-0.0 e.ensures.reasons
+    (rw c.in-Impl.is (bad_clause c.args.names.now c.args.line.now c.in-Impl.head c.in-Impl.body e.field-0.0 e.ensures.reasons (λ is. e.ensures.variable (ap Err is))
     (λ is. inl (rw c.deref-in-Impl.ensures.value at e.ensures.unknown (ap Err is))) (λ is. inl (rw c.deref-in-Impl.ensures.value at e.ensures.twice (ap Err is)))))
 
 pub returns-in_err-body-in-Impl : goal.returns-in_err-body-in-Impl
 returns-in_err-body-in-Impl c =
     let e = c.in_err-body-in-Impl in
     no_meaning _ _ _ _ _ c.from_residual-in_err-body-in-Impl.result e.field-0.0 c.from_residual-in_err-body-in-Impl.ensures.1
-    (rw c.in-Impl.is (bad_clause c.args.names.now c.args.line.now c.in-Impl.head c.in-Impl.body e.field-0.0 e.ensures.reasons
+    (rw c.in-Impl.is (bad_clause c.args.names.now c.args.line.now c.in-Impl.head c.in-Impl.body e.field-0.0 e.ensures.reasons (λ is. e.ensures.variable (ap Err is))
     (λ is. inr (rw c.deref-in-Impl-2.ensures.value at e.ensures.unknown (ap Err is))) (λ is. inr (rw c.deref-in-Impl-2.ensures.value at e.ensures.twice (ap Err is)))))
 
 pub returns-in_err-nodes-in-Goal : goal.returns-in_err-nodes-in-Goal
 returns-in_err-nodes-in-Goal c =
     let e = c.in_err-nodes-in-Goal in
     no_meaning _ _ _ _ _ c.from_residual-in_err-nodes-in-Goal.result e.field-0.0 c.from_residual-in_err-nodes-in-Goal.ensures.1
-    (rw c.in-Goal.is (bad_goal c.args.names.now c.args.line.now c.in-Goal.nodes e.field-0.0 e.ensures.reasons (λ is. e.ensures.parameter (ap Err is))
+    (rw c.in-Goal.is (bad_goal c.args.names.now c.args.line.now c.in-Goal.nodes e.field-0.0 e.ensures.reasons (λ is. e.ensures.parameter (ap Err is)) (λ is. e.ensures.variable (ap Err is))
     (λ is. rw c.deref-in-Goal.ensures.value at e.ensures.unknown (ap Err is)) (λ is. rw c.deref-in-Goal.ensures.value at e.ensures.twice (ap Err is))))
+
+pub returns-in_err-nodes-in-Env : goal.returns-in_err-nodes-in-Env
+returns-in_err-nodes-in-Env c =
+    let e = c.in_err-nodes-in-Env in
+    no_meaning _ _ _ _ _ c.from_residual-in_err-nodes-in-Env.result e.field-0.0 c.from_residual-in_err-nodes-in-Env.ensures.1
+    (rw c.in-Env.is (bad_env c.args.names.now c.args.line.now c.in-Env.nodes e.field-0.0 e.ensures.reasons (λ is. e.ensures.parameter (ap Err is))
+    (λ is. rw c.deref-in-Env.ensures.value at e.ensures.unknown (ap Err is)) (λ is. rw c.deref-in-Env.ensures.value at e.ensures.twice (ap Err is))))
 
 -- a declaration that is refused, or for which memory ran out
 pub returns-in_err-sorts-in-Type : goal.returns-in_err-sorts-in-Type

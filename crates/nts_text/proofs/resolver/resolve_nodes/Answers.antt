@@ -29,6 +29,8 @@ returns c =
       kept = done.kept;
       reasons = err_of d all _ done.reasons;
       parameter = λ is. done.parameter (same_err d all _ is);
+      variable = λ is. done.variable (same_err d all _ is);
+      free = λ is. ok_of d all _ (done.free is);
       unknown = λ is. done.unknown (same_err d all _ is);
       twice = λ is. done.twice (same_err d all _ is);
     })

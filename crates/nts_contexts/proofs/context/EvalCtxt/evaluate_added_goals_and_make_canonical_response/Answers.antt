@@ -1,12 +1,42 @@
-use Rattle.std.proofs.Common.{refl, rules, ap}
+use Rattle.std.proofs.Common.{◌≡◌, ◌⊎◌, ⊎_elim, inl, inr, true, Bool, List, [], refl, sym, rules, ap, ◌∙◌, subst}
+use Rattle.std.specs.Prelude.{Result, Ok, Err, IfOk, OnOk}
 use Rattle.std.proofs.lemmas.Result.{IfOk-from_err}
+use Rattle.nts_store.specs.declared.fault.EvalError.{EvalError}
+use Rattle.nts_store.specs.declared.fault.EvalError.TheVariants as error
+use Rattle.nts_store.proofs.Growing.{Extends-trans}
+use Rattle.nts_unify.specs.Reading.{content_of}
 use Rattle.nts_unify.specs.Lawful.{content_of-extended}
+use Rattle.nts_delegate.proofs.Results.{IfOk-map}
 use Rattle.nts_asking.proofs.Evaluating.{Goes-extends, Runs-extends}
-use Rattle.nts_trying.proofs.Stepping.{settled_after, left_refl}
-use Rattle.nts_contexts.proofs.Frames.{keeps_refl, keeps_then, keeps_ran, none_after}
+use Rattle.nts_trying.proofs.Stepping.{settled_after, left_refl, posed_later}
+use Rattle.nts_contexts.proofs.Frames.{keeps_refl, keeps_then, keeps_ended, none_after}
+use Rattle.nts_contexts.specs.Faults.{tainted_after}
 use Rattle.nts_theory.specs.Telling.Reaches.{asks_nothing}
 use Rattle.nts_contexts.proofs.context.EvalCtxt.evaluate_added_goals_and_make_canonical_response.Goals as goal
 use Rattle.nts_contexts.specs.declared.state.EvalState.{EvalState}
+use Rattle.nts_model.specs.Tables.Contents.{Content}
+use Rattle.nts_model.specs.Answers.Responses.{Response as Form}
+use Rattle.nts_certainty.specs.declared.certainty.Certainty.{Certainty}
+use Rattle.nts_response.specs.Forms.{response_at}
+use Rattle.nts_theory.specs.Telling.{IsResponseOf}
+use Rattle.nts_asking.specs.Answering.{told_in}
+
+-- a taint stays
+stays_tainted : {R : Type 0} (b : Bool) (r : Result R EvalError) → b ≡ true → tainted_after b r ≡ true
+stays_tainted b (Ok x) e = e
+stays_tainted b (Err error.NoSolution) e = refl
+stays_tainted b (Err error.Memory) e = e
+stays_tainted b (Err error.Full) e = e
+
+on_each : {X E P : Type 0} (r : Result X E) → P → OnOk r P
+on_each (Ok x) p = p
+on_each (Err e) p = tt
+
+-- what a response of a table says, it says of the table afterwards
+says_after : {X : Type 0} (form : X → Form) (sure : X → Certainty) {c d : Content} (x : Certainty) (r q : Result X EvalError) → r ≡ q → d ≡ c → IfOk q (λ z. sure z ≡ x)
+    → IfOk q (λ z. IsResponseOf (told_in x c) [] (form z)) → IfOk r (λ z. IsResponseOf (told_in (sure z) d) [] (form z))
+says_after form sure x r (Ok z) e k p s = rw (e, k, p) s
+says_after form sure x r (Err z) e k p s = rw e tt
 
 pub returns-in_err-check-clause-keeps : goal.returns-in_err-check-clause-keeps
 returns-in_err-check-clause-keeps g c = keeps_refl c.requires.ready
@@ -14,23 +44,16 @@ returns-in_err-check-clause-keeps g c = keeps_refl c.requires.ready
 pub returns-then-self-clause-keeps : goal.returns-then-self-clause-keeps
 returns-then-self-clause-keeps g c = keeps_refl c.requires.ready
 
-pub returns-in-Ok-clause-keeps : goal.returns-in-Ok-clause-keeps
-returns-in-Ok-clause-keeps g c =
+pub returns-clause-keeps : goal.returns-clause-keeps
+returns-clause-keeps g c =
     let e = c.in_ok-goals_certainty.ensures in
-    let m = c.in-Ok.ensures in
+    let m = c.checked_response-response.ensures in
+    let s = c.try_evaluate_added_goals.new.self.state.now in
     let h = e.keeps.is_ready in
     let none = none_after c.args.self.now.state.now.fault c.in_ok-goals_certainty.goals_certainty c.in_ok-check.ensures.ok e.fault in
+    let after = record s { is_tainted = tainted_after s.is_tainted c.checked_response-response.result } in
     keeps_then e.keeps
-    (keeps_ran c.try_evaluate_added_goals.new.self.state.now _ g.met.H.GoalHandler.ready_kept h refl refl refl refl (Runs-extends h.table m.grows.extends m.grows.rest) refl h.goals none refl refl)
-
-pub returns-in-Err-clause-keeps : goal.returns-in-Err-clause-keeps
-returns-in-Err-clause-keeps g c =
-    let e = c.in_ok-goals_certainty.ensures in
-    let m = c.in-Err.ensures in
-    let h = e.keeps.is_ready in
-    let none = none_after c.args.self.now.state.now.fault c.in_ok-goals_certainty.goals_certainty c.in_ok-check.ensures.ok e.fault in
-    keeps_then e.keeps
-    (keeps_ran c.try_evaluate_added_goals.new.self.state.now _ g.met.H.GoalHandler.ready_kept h refl refl refl refl (Runs-extends h.table m.grows.extends m.grows.rest) c.note.ensures.fault h.goals none refl refl)
+    (keeps_ended after _ g.met.H.GoalHandler.ready_kept h refl refl refl refl (Runs-extends h.table m.grows.extends m.grows.rest) c.end_answer.ensures.state (posed_later s.nested_goals.items (Goes-extends h.table m.grows.extends) h.goals) none (stays_tainted s.is_tainted c.checked_response-response.result) refl)
 
 pub returns-in_err-check-clause-evaluates : goal.returns-in_err-check-clause-evaluates
 returns-in_err-check-clause-evaluates g c =
@@ -39,39 +62,37 @@ returns-in_err-check-clause-evaluates g c =
 pub returns-then-self-clause-evaluates : goal.returns-then-self-clause-evaluates
 returns-then-self-clause-evaluates g c = record { left = left_refl _; proved = λ s. tt; faulted = search rules }
 
-pub returns-in-Ok-clause-evaluates : goal.returns-in-Ok-clause-evaluates
-returns-in-Ok-clause-evaluates g c =
+pub returns-clause-evaluates : goal.returns-clause-evaluates
+returns-clause-evaluates g c =
     let e = c.in_ok-goals_certainty.ensures in
-    let m = c.in-Ok.ensures in
+    let m = c.checked_response-response.ensures in
+    let goals = ap (λ (z : EvalState). z.nested_goals.items) c.end_answer.ensures.state in
     record {
-      left = e.evaluates.left;
+      left = rw goals e.evaluates.left;
       proved = λ s.
-          settled_after {u = c.try_evaluate_added_goals.new.self.table.now} {v = c.try_evaluate_added_goals.new.self.table.now} (λ ts. g.H.GoalHandler.handler ts c.args.self.now.handler.now) s c.args.self.now.table.now.mode c.args.self.now.state.now.nested_goals.items c.try_evaluate_added_goals.new.self.state.now.nested_goals.items
-          c.requires.ready.goals e.keeps.runs.goes.extends (Goes-extends e.keeps.is_ready.table m.grows.extends) (e.evaluates.proved s);
+          rw goals (on_each c.end_answer.result
+          (settled_after {u = c.try_evaluate_added_goals.new.self.table.now} {v = c.try_evaluate_added_goals.new.self.table.now} (λ ts. g.H.GoalHandler.handler ts c.args.self.now.handler.now) s c.args.self.now.table.now.mode c.args.self.now.state.now.nested_goals.items c.try_evaluate_added_goals.new.self.state.now.nested_goals.items
+          c.requires.ready.goals e.keeps.runs.goes.extends (Goes-extends e.keeps.is_ready.table m.grows.extends) (e.evaluates.proved s)));
       faulted = search rules;
     }
 
-pub returns-in-Err-clause-evaluates : goal.returns-in-Err-clause-evaluates
-returns-in-Err-clause-evaluates g c =
-    record {
-      left = rw (ap (λ (z : EvalState). z.nested_goals.items) c.note.ensures.fault) c.in_ok-goals_certainty.ensures.evaluates.left;
-      proved = λ s. IfOk-from_err c.note.result _ (search rules);
-      faulted = search rules;
-    }
-
-pub returns-in-Ok-clause-says : goal.returns-in-Ok-clause-says
-returns-in-Ok-clause-says g c =
+pub returns-clause-says : goal.returns-clause-says
+returns-clause-says g c =
     let e = c.in_ok-goals_certainty.ensures in
-    let m = c.in-Ok.ensures in
+    let m = c.checked_response-response.ensures in
     let h = e.keeps.is_ready in
-    rw (← m.certainty, ← content_of-extended m.grows.extends h.table.now) at m.says
+    says_after (response_at c.checked_response-response.new.cx.nodes) (λ z. z.value.certainty) _ c.end_answer.result c.checked_response-response.result c.end_answer.ensures.same (content_of-extended m.grows.extends h.table.now) m.certainty m.says
 
-pub returns-in-Ok-clause-told : goal.returns-in-Ok-clause-told
-returns-in-Ok-clause-told g c = λ s.
+-- a goal was refused, or the handler's leak check says so
+pub returns-clause-refuted : goal.returns-clause-refuted
+returns-clause-refuted g c = λ s clear no.
     let e = c.in_ok-goals_certainty.ensures in
-    let m = c.in-Ok.ensures in
+    let m = c.checked_response-response.ensures in
     let h = e.keeps.is_ready in
-    rw (← content_of-extended m.grows.extends h.table.now) at (e.told s)
+    let mid = c.try_evaluate_added_goals.new.self in
+    let means = g.met.H.GoalHandler.handler_kept s.base mid.cx.now.nodes c.args.self.now.handler.now s.is_ready (Extends-trans s.extends e.keeps.runs.goes.extends) in
+    let leaks = subst (λ k. (g.H.GoalHandler.handler mid.cx.now.nodes k.now).leaks (content_of mid.cx.now.nodes mid.table.now.entries) 0) e.keeps.handler (m.leaks (sym c.end_answer.ensures.same ∙ no)) in
+    inr (rw (content_of-extended m.grows.extends h.table.now) (means.leaks (content_of mid.cx.now.nodes mid.table.now.entries) 0 leaks))
 
 -- nothing was asked
 pub returns-in_err-check-clause-told : goal.returns-in_err-check-clause-told
@@ -80,9 +101,9 @@ returns-in_err-check-clause-told g c = λ s. asks_nothing
 pub returns-then-self-clause-told : goal.returns-then-self-clause-told
 returns-then-self-clause-told g c = λ s. asks_nothing
 
-pub returns-in-Err-clause-told : goal.returns-in-Err-clause-told
-returns-in-Err-clause-told g c = λ s.
+pub returns-clause-told : goal.returns-clause-told
+returns-clause-told g c = λ s.
     let e = c.in_ok-goals_certainty.ensures in
-    let m = c.in-Err.ensures in
+    let m = c.checked_response-response.ensures in
     let h = e.keeps.is_ready in
     rw (← content_of-extended m.grows.extends h.table.now) at (e.told s)

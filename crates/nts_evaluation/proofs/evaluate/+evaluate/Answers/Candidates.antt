@@ -19,7 +19,8 @@ use Rattle.nts_delegate.proofs.Results.{IfOk-map, OnOk-map}
 use Rattle.nts_canonical.specs.Building.{kinds_of}
 use Rattle.nts_canonical.specs.Forms.{trees_of, form_of}
 use Rattle.nts_response.specs.Forms.{response_at}
-use Rattle.nts_asking.specs.Meant.{Since, meaning_since, IsProvedNow, IsNestedSince}
+use Rattle.nts_asking.specs.Meant.{Since, meaning_since, IsProvedNow, IsNestedSince, rules_of}
+use Rattle.nts_evaluation.proofs.Leaking.{checked}
 use Rattle.nts_trying.specs.Stepping.{AreLeft, AreSettled, bound_of}
 use Rattle.nts_theory.specs.Telling.Reaches.{asks_nothing}
 use Rattle.nts_asking.proofs.Asking.{IsAskedGoal-extended, kind_asked}
@@ -286,6 +287,13 @@ probe_candidate-returns-then-keeps_constraints g t c =
 
 pub run_candidate-returns : goal.run_candidate-returns
 run_candidate-returns g t c =
+    let e = c.try_candidate-tried.ensures in
+    let k = c.check_leaks.ensures in
+    checked {R = rules_of g.H.GoalHandler.ready g.H.GoalHandler.handler c.args.handler.now} c.args.depth c.try_candidate-tried.result c.check_leaks.result c.requires.search c.requires.posed.holds e k.grows k.ok k.err k.leaks
+    (λ z. g.met.H.GoalHandler.handler_kept z.base c.try_candidate-tried.new.cx.nodes c.args.handler.now z.is_ready (Extends-trans z.extends e.runs.goes.extends))
+
+pub try_candidate-returns : goal.try_candidate-returns
+try_candidate-returns g t c =
     let v = c.in_ok-values.ensures in
     let k = c.in_ok-record_constraints.ensures in
     let n = c.in_ok-goals.ensures in
@@ -336,8 +344,8 @@ run_candidate-returns g t c =
       refuted = search rules;
     }
 
-pub run_candidate-returns-in_err-certainty : goal.run_candidate-returns-in_err-certainty
-run_candidate-returns-in_err-certainty g t c =
+pub try_candidate-returns-in_err-certainty : goal.try_candidate-returns-in_err-certainty
+try_candidate-returns-in_err-certainty g t c =
     let v = c.in_ok-values.ensures in
     let k = c.in_ok-record_constraints.ensures in
     let there = Runs-trans v.runs k.runs in
@@ -362,8 +370,8 @@ run_candidate-returns-in_err-certainty g t c =
           ran_refused {t = c.args.table.now} {u = c.equate.new.table} {v = c.record_constraints.new.table} h mode c.args.goal x vs gs (rw c.deref-2.ensures.value v.equated) (rw (c.deref-3.ensures.value) at k.added) constraints c.requires.candidate.goals v.runs.goes.extends k.runs.goes.extends there.goes.extends n.grows.extends k.runs.goes.table within (rw c.deref-4.ensures.value at n.added.goals) (rw upto.goes.mode at (stopped_refused c.record_constraints.new.table _ c.goal_kind-kind.result (kind_asked c.goal_kind-kind.result (meaning h s.variances) (c.goal_kind-kind.ensures.kind s.base s.variances) c.requires.asked) (c.try_evaluate_goals.ensures.refuted since (tell_grown h c.args.depth c.requires.search (grown (ran c.in_ok-values.ensures.runs) (grown (ran c.in_ok-record_constraints.ensures.runs) c.in_ok-goals.ensures.grows)) tells) refused)));
     }
 
-pub run_candidate-try_evaluate_goals-requires : goal.run_candidate-try_evaluate_goals-requires
-run_candidate-try_evaluate_goals-requires g t c = λ κs k-1.
+pub try_candidate-try_evaluate_goals-requires : goal.try_candidate-try_evaluate_goals-requires
+try_candidate-try_evaluate_goals-requires g t c = λ κs k-1.
     let v = c.in_ok-values.ensures in
     let k = c.in_ok-record_constraints.ensures in
     let there = Runs-trans v.runs k.runs in

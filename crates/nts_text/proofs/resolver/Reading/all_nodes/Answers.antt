@@ -4,7 +4,7 @@ use Rattle.std.proofs.Common.{◌≡◌, Err, [], length, vec_len, reverse, drop
 use Rattle.std.proofs.lemmas.Grind.{common_steps}
 use Rattle.std.proofs.lemmas.List.{append-nil, take_all}
 use Rattle.std.proofs.lemmas.List.Elements.{All-nil, All-cons, All-append}
-use Rattle.nts_text.specs.Resolution.{argument_sorts, AreSorted, IsDeclared}
+use Rattle.nts_text.specs.Resolution.{argument_sorts, AreSorted, IsDeclared, IsNoVariable}
 use Rattle.nts_text.proofs.SortLemmas.{none_left, first_wanted, sorted_push, sorts_left}
 use Rattle.nts_text.proofs.SpellingLemmas.{KeepsNames-trans, meanings_push, bound_push}
 use Rattle.nts_text.specs.Binders.{bound_behind}
@@ -36,6 +36,7 @@ loop-node-preserved c =
       means = rw pushed (meanings_push c.args.self.now.names.now _ _ c.args.self.now.line.now c.args.nodes.now c.loop-node.all.items c.loop-node.node-index no_node _ c.loop-node-test.true c.node.ensures.kept c.loop-node.invariant.means
           c.in_ok-resolved.ensures.role (rw c.loop-node.invariant.bound at c.in_ok-resolved.ensures.means));
       kept = KeepsNames-trans c.loop-node.invariant.kept c.node.ensures.kept;
+      free = λ is. rw pushed (All-append IsNoVariable _ _ (c.loop-node.invariant.free is) (All-cons IsNoVariable _ [] (c.in_ok-resolved.ensures.free is) (All-nil IsNoVariable)));
     }
 
 pub returns-in_err-keep-clause-kept : goal.returns-in_err-keep-clause-kept

@@ -11,7 +11,7 @@ pub returns : goal.returns
 returns c =
     let free = subst (HasNoNumber (bound_names c.args.bounds.now).here) c.text-name.ensures (c.in_default.ensures.none refl) in
     taken c.args.self.now (bound_names c.args.bounds.now) c.args.node Region _ _ _ _ refl refl tt (c.requires.name, free, rw c.text-name.ensures at c.in_ok-region_number.ensures.number)
-    (keeps_parameters c.args.scope.now c.region_number.new.self (keeps_regions _ _ c.region_number.ensures.kept c.region_number.ensures.others))
+    (keeps_parameters c.args.scope.now c.region_number.new.self (keeps_regions _ _ c.region_number.ensures.kept c.region_number.ensures.others)) (λ is. refl)
 
 pub returns-in_err-region_number : goal.returns-in_err-region_number
 returns-in_err-region_number c =

@@ -1,0 +1,3 @@
+pub mod Respecting
+pub mod News
+mod LeakExamples
