@@ -1,5 +1,4 @@
 pub mod Adding
-pub mod AddingLeaves
 pub mod Built
 pub mod Canonizing
 pub mod Filled

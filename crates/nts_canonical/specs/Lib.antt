@@ -4,7 +4,6 @@ pub mod Collecting
 pub mod Folds
 pub mod Forms
 pub mod Kinds
-pub mod LeafLists
 pub mod Mapping
 pub mod Owned
 pub mod Positions
