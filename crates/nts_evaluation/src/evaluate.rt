@@ -26,7 +26,7 @@ use nts_table::InferCtxt;
 use nts_terms::{Cx, GenericArg, Goal};
 use nts_trying::{
     AvailableDepth, GoalRow, Step, Trial, check_leaks, enter_forall, equate, goal_kind, goal_row,
-    keep_met, keep_response, merge_responses, record_constraints,
+    keep_response, merge_responses, record_constraints,
 };
 
 /// Evaluates a goal in a query of its own: its leaves give place to positions, the search answers the query, and the response is
@@ -169,8 +169,7 @@ fn compute_goal<H: GoalHandler>(
         GoalRow::Candidates(opened) => opened,
     };
     let candidates = handler.relevant_candidates(cx, table.typing_mode(), opened)?;
-    let kept = keep_met(table, cx, opened, candidates)?;
-    let response = evaluate_candidates(table, cx, handler, graph, opened, &kept, values, depth);
+    let response = evaluate_candidates(table, cx, handler, graph, opened, &candidates, values, depth);
     cx.terms_are_formed();
     response
 }

@@ -1,5 +1,5 @@
 -- Candidates that a handler left out fail, since no values meet their equations.
-use Rattle.std.proofs.Common.{◌≡◌, ◌⊎◌, inl, inr, List, [], ◌∷◌, ◌++◌, Some, ap, sym, ◌∙◌, subst}
+use Rattle.std.proofs.Common.{◌≡◌, ◌⊎◌, inl, inr, List, [], ◌∷◌, ◌++◌, Some, ap, sym, ◌∙◌, subst, arith, length, length-append}
 use Rattle.nts_model.specs.declared.labels.TyHead.{TyHead}
 use Rattle.nts_model.specs.declared.labels.Leaf.{Leaf}
 use Rattle.nts_model.specs.declared.labels.Label.TheVariants as label
@@ -12,21 +12,15 @@ use Rattle.nts_model.specs.Derivations.Handlers.{Candidate, Handler}
 use Rattle.nts_model.specs.Refutation.Choosing.{IsCandidateMet}
 use Rattle.nts_delegate.specs.Relevant.{built_by, IsIrrelevant, LeavesOut}
 use Rattle.nts_delegate.specs.Relevant.LeavesOut.{none, offered, left_out}
-use Rattle.nts_asking.specs.Telling.{Outcomes}
-use Rattle.nts_theory.specs.Telling.Outcomes.{then_fails}
+use Rattle.nts_asking.specs.Telling.{Outcomes, Replies, Fails}
+use Rattle.nts_theory.specs.Telling.Outcomes.{no_outcome, then_fails, then_replies}
 use Rattle.nts_theory.specs.Telling.Fails.{is_unmet}
-use Rattle.nts_asking.proofs.Evaluating.{offers-kept}
-use Rattle.nts_trying.proofs.Filtered.{are_candidates, kept_among, last_outcome}
-use Rattle.nts_asking.proofs.Running.{candidates-kept}
-use Rattle.nts_trying.specs.Choices.{KeepsMet}
+use Rattle.nts_unify.proofs.SavedLemmas.{push_inj}
 use Rattle.nts_asking.specs.Meant.{offers_of, AreOffered}
-use Rattle.nts_store.specs.Growth.{Extends}
 use Rattle.nts_terms.specs.declared.handles.Goal.{Goal}
 use Rattle.nts_terms.specs.declared.modes.TypingMode.{TypingMode}
 use Rattle.nts_terms.specs.Modes.{mode_of}
-use Rattle.nts_terms.specs.Handles.{HoldsGoal}
 use Rattle.nts_delegate.specs.declared.delegate.CandidateData.{CandidateData}
-use Rattle.nts_delegate.specs.Candidates.{AreCandidates}
 use Rattle.nts_delegate.specs.Offered.{candidates_of}
 use Rattle.nts_theory.specs.Telling.{Verdict}
 
@@ -51,6 +45,14 @@ unmet c x r m =
     let left = built_filled _ m.values r.left r.apart.left r.apart.of_left in
     let right = built_filled _ m.values r.right r.apart.right r.apart.of_right in
     r.apart.apart (some_inj r.apart.left r.apart.right (sym left ∙ ap built_by one ∙ right))
+
+-- the outcomes of one more, where there are outcomes of more than those before it
+last_outcome : {h : Handler} {mode : Mode} {c : Content} {k p : Tree} {qs : List Tree} {rs : List Verdict} (xs ys zs : List Candidate) (x : Candidate) → zs ≡ ys ++ x ∷ [] → ((ws : List Candidate) (ps : List Verdict) → ws ≡ ys → Outcomes h mode c k p qs ws ps → Outcomes h mode c k p qs xs ps) → Outcomes h mode c k p qs zs rs → Outcomes h mode c k p qs (xs ++ x ∷ []) rs
+last_outcome xs ys zs x e more no_outcome = absurd (let l = ap length e in omega (arith, l, length-append ys (x ∷ [])))
+last_outcome {h} {mode} {c} {k} {p} {qs} xs ys zs x e more (then_fails {xs = ws} {vs = ps} {x = w} o f) =
+    let same = push_inj ws ys w x e in then_fails (more ws ps same.0 o) (subst (Fails h mode c) same.1 f)
+last_outcome {h} {mode} {c} {k} {p} {qs} xs ys zs x e more (then_replies {xs = ws} {vs = ps} {x = w} {v = r} o f) =
+    let same = push_inj ws ys w x e in then_replies (more ws ps same.0 o) (subst (λ z. Replies h mode c k p qs z r) same.1 f)
 
 -- so the outcomes of the others are outcomes of all
 pub all_outcomes : {h : Handler} {mode : Mode} {c : Content} {k p : Tree} {qs : List Tree} {xs ys : List Candidate} → LeavesOut xs ys → (zs : List Candidate) (rs : List Verdict) → zs ≡ ys → Outcomes h mode c k p qs zs rs → Outcomes h mode c k p qs xs rs
@@ -79,7 +81,5 @@ among_all z none i = absurd i
 among_all z (offered {xs} {ys} x l) i = elim (last_or_before ys x z i) [ inl j ↦ before_last xs x z (among_all z l j) | inr e ↦ at_last xs x z e ]
 among_all z (left_out {xs} {ys} x l r) i = before_last xs x z (among_all z l i)
 
-pub kept_offered : {a b : List Tree} {c : Content} (g : Goal) {xs ys : List CandidateData} (h : Handler) (mode : TypingMode) → KeepsMet a c xs ys → Extends a b → HoldsGoal a g → AreCandidates a g xs → LeavesOut (offers_of h (mode_of mode) a g) (candidates_of a xs) → AreOffered h mode b g ys
-kept_offered {a} {b} {c} g {xs} {ys} h mode k e p all same z i =
-    let there = subst (λ zs. Among zs z) (candidates-kept {a = a} {b = b} g ys e (are_candidates g k all)) i in
-    subst (λ zs. Among zs z) (sym (offers-kept h (mode_of mode) e p)) (among_all z same (kept_among z k there))
+pub kept_offered : {ts : List Tree} (g : Goal) {xs : List CandidateData} (h : Handler) (mode : TypingMode) → LeavesOut (offers_of h (mode_of mode) ts g) (candidates_of ts xs) → AreOffered h mode ts g xs
+kept_offered g h mode same z i = among_all z same i

@@ -10,7 +10,6 @@ pub mod Stepping
 pub mod Entering
 pub mod MergedResponses
 pub mod Adding
-pub mod Filtered
 pub mod LeftOut
 pub mod Instances
 pub mod Unasked

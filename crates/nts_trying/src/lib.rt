@@ -1,10 +1,9 @@
-//! Trying: whether a goal has candidates, how its binder is opened, which candidates can be met, what a candidate equates, records and
+//! Trying: whether a goal has candidates, how its binder is opened, what a candidate equates, records and
 //! adds, the steps in which goals are asked, and the one response for those of several candidates.
 #![tactic(auto)]
 
 mod binder;
 mod candidate;
-mod filter;
 mod kinds;
 mod leaks;
 mod merged;
@@ -12,7 +11,6 @@ mod steps;
 
 pub use binder::enter_forall;
 pub use candidate::{Trial, equate, record_constraints};
-pub use filter::keep_met;
 pub use kinds::{GoalRow, goal_kind, goal_row};
 pub use leaks::check_leaks;
 pub use merged::{keep_response, merge_responses};

@@ -36,7 +36,6 @@ use Rattle.nts_store.specs.Kept.{map-kept, AllIn-kept}
 use Rattle.nts_theory.specs.Telling.{IsPlainResponse, SaysNothing}
 use Rattle.nts_theory.specs.Telling.Tells.{tells_nothing, says_nothing}
 use Rattle.nts_theory.specs.Telling.Fails.{is_unmet}
-use Rattle.nts_trying.proofs.Filtered.{kept_candidates, kept_outcomes, kept_tell}
 use Rattle.nts_trying.proofs.Opened.{told_through, told_offered, refuted_through, nothing_through, labels_through, labels_entered, proved_through, opened_holds}
 use Rattle.nts_trying.proofs.Probed.{found_in, found_still, found_fits, found_derived, went_in, plain_of, doubtful, not_kept, says_found, says_before, run_replies}
 use Rattle.nts_trying.proofs.Outcomes.{found_earlier, founds_more, founds_with, outcomes_first, outcomes_more, found_merged, told_merged, failed_of}
@@ -75,11 +74,6 @@ mod Candidates
 pub compute_goal-evaluate_candidates-response-requires : goal.compute_goal-evaluate_candidates-response-requires
 compute_goal-evaluate_candidates-response-requires = candidates.compute_goal-evaluate_candidates-response-requires
 
-pub compute_goal-keep_met-requires-clause-posed : goal.compute_goal-keep_met-requires-clause-posed
-compute_goal-keep_met-requires-clause-posed g t c =
-    let o = c.in_ok-opened.ensures in
-    IsPosed-later (Goes-extends o.goes.table c.in_ok-candidates.ensures.grows.extends) (rw c.in-Candidates.ensures.0 at o.posed)
-
 pub compute_goal-goal_row-requires : goal.compute_goal-goal_row-requires
 compute_goal-goal_row-requires g t c = opened_holds _ _ c.in_ok-opened.opened c.in_ok-opened.ensures.posed
 
@@ -113,10 +107,6 @@ compute_goal-returns-in-Unopened g t c =
 pub compute_goal-returns-in_err-candidates : goal.compute_goal-returns-in_err-candidates
 compute_goal-returns-in_err-candidates g t c =
     goal_failed c.from_residual-in_err-candidates.result (search rules) (search rules) (search rules) (Searches-refl c.args.depth c.requires.search (grown c.in_ok-opened.ensures.grows c.relevant_candidates.ensures.grows))
-
-pub compute_goal-returns-in_err-kept : goal.compute_goal-returns-in_err-kept
-compute_goal-returns-in_err-kept g t c =
-    goal_failed c.from_residual-in_err-kept.result (search rules) (search rules) (search rules) (Searches-refl c.args.depth c.requires.search (grown c.in_ok-opened.ensures.grows (grown c.in_ok-candidates.ensures.grows c.keep_met.ensures.grows)))
 
 pub compute_goal-returns-in_err-opened : goal.compute_goal-returns-in_err-opened
 compute_goal-returns-in_err-opened g t c =

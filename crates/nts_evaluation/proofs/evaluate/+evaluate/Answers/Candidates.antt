@@ -37,7 +37,6 @@ use Rattle.nts_store.specs.Kept.{map-kept, AllIn-kept}
 use Rattle.nts_theory.specs.Telling.{IsPlainResponse}
 use Rattle.nts_theory.specs.Telling.Tells.{tells_nothing, says_nothing}
 use Rattle.nts_theory.specs.Telling.Fails.{is_unmet}
-use Rattle.nts_trying.proofs.Filtered.{kept_candidates, kept_outcomes, kept_tell}
 use Rattle.nts_trying.proofs.Opened.{told_through, told_offered, refuted_through, nothing_through, labels_through, labels_entered, proved_through}
 use Rattle.nts_trying.proofs.Probed.{found_in, found_still, found_fits, found_derived, went_in, plain_of, doubtful, not_kept, says_found, says_before, run_replies}
 use Rattle.nts_trying.proofs.Outcomes.{found_earlier, founds_more, founds_with, outcomes_first, outcomes_more, found_merged, told_merged, failed_of}
@@ -69,10 +68,9 @@ pub compute_goal-evaluate_candidates-response-requires : goal.compute_goal-evalu
 compute_goal-evaluate_candidates-response-requires g t c = λ κs k.
     let o = c.in_ok-opened.ensures in
     let e = c.in_ok-candidates.ensures in
-    let m = c.in_ok-kept.ensures in
     let posed = rw c.in-Candidates.ensures.0 at o.posed in
-    let more = Extends-trans e.grows.extends m.grows.extends in
-    let goes = goes-back o.goes.table more m.same in
+    let more = e.grows.extends in
+    let goes = Goes-extends o.goes.table more in
     let all = Goes-trans o.goes goes in (
       omega (arith, c.decreases),
       (
@@ -84,10 +82,10 @@ compute_goal-evaluate_candidates-response-requires g t c = λ κs k.
             (
               g.met.H.GoalHandler.ready_kept _ _ _ c.requires.ready (Extends-trans o.grows.extends more),
               (
-                rw c.deref.ensures.value (kept_candidates m.kept m.grows.extends (HoldsGoal-extended e.grows.extends posed.holds) e.candidates),
+                rw c.deref.ensures.value e.candidates,
                 (
-                  args_later c.args.cx.now.nodes c.keep_met.new.cx.nodes c.args.table.now.entries c.keep_met.new.table.entries c.args.values.now all.extends all.continues c.requires.values,
-                  search_grows c.args.depth c.args.depth (omega arith) c.requires.search (grown o.grows (grown e.grows m.grows)),
+                  args_later c.args.cx.now.nodes c.relevant_candidates.new.cx.nodes c.args.table.now.entries c.enter_forall.new.table.entries c.args.values.now all.extends all.continues c.requires.values,
+                  search_grows c.args.depth c.args.depth (omega arith) c.requires.search (grown o.grows e.grows),
                 ),
               ),
             ),
@@ -100,19 +98,17 @@ pub compute_goal-returns : goal.compute_goal-returns
 compute_goal-returns g t c =
     let o = c.in_ok-opened.ensures in
     let e = c.in_ok-candidates.ensures in
-    let m = c.in_ok-kept.ensures in
-    let more = Extends-trans e.grows.extends m.grows.extends in
-    let up = Extends-trans o.grows.extends e.grows.extends in
-    let all = Extends-trans o.grows.extends more in
+    let more = e.grows.extends in
+    let up = Extends-trans o.grows.extends more in
     let opened = rw c.in-Candidates.ensures.0 at o.opened in
     let posed = rw c.in-Candidates.ensures.0 at o.posed in
     let here = content_of-extended e.grows.extends o.goes.table.now in
     let trees = trees_kept c.args.cx.now.nodes c.enter_forall.new.cx.nodes c.args.table.now.entries c.args.values.now o.grows.extends c.requires.values in
     record {
       grows = search rules;
-      searches = let o = c.in_ok-opened.ensures in let e = c.in_ok-candidates.ensures in let m = c.in_ok-kept.ensures in search_then c.args.depth c.requires.search (grown o.grows (grown e.grows m.grows)) c.evaluate_candidates-response.ensures.searches;
+      searches = search_then c.args.depth c.requires.search (grown o.grows e.grows) c.evaluate_candidates-response.ensures.searches;
       found =
-          let both = trees_kept c.args.cx.now.nodes c.keep_met.new.cx.nodes c.args.table.now.entries c.args.values.now all c.requires.values in
+          let both = trees_kept c.args.cx.now.nodes c.relevant_candidates.new.cx.nodes c.args.table.now.entries c.args.values.now up c.requires.values in
           let goes = Goes-extends o.goes.table more in
           IfOk-map c.evaluate_candidates-response.result
           (λ r f. record {
@@ -132,30 +128,24 @@ compute_goal-returns g t c =
                 let law = g.met.H.GoalHandler.lawful s.base c.args.handler.now s.formed s.is_ready in
                 let there = Goes-trans goes f.goes in
                 let later = (Goes-trans o.goes there).continues in
-                let among = kept_offered c.in-Candidates.opened h c.enter_forall.new.table.mode m.kept m.grows.extends (HoldsGoal-extended e.grows.extends posed.holds) e.candidates offered in
-                proved_through c.requires.posed opened o.grows.extends h s.variances (mode_of c.args.table.now.mode) (assumed_in c.evaluate_candidates-response.new.cx.nodes c.evaluate_candidates-response.new.graph) posed (let z = c.in-Candidates.ensures.1 in z.asked) there later f.formed law (rw o.goes.mode at (f.sure y (Since-later (grown o.grows (grown e.grows m.grows)) s) among));
+                let among = kept_offered c.in-Candidates.opened h c.enter_forall.new.table.mode offered in
+                proved_through c.requires.posed opened o.grows.extends h s.variances (mode_of c.args.table.now.mode) (assumed_in c.evaluate_candidates-response.new.cx.nodes c.evaluate_candidates-response.new.graph) posed (let z = c.in-Candidates.ensures.1 in z.asked) there later f.formed law (rw o.goes.mode at (f.sure y (Since-later (grown o.grows e.grows) s) among));
           })
-          (rw (c.deref.ensures.value, m.same) at c.evaluate_candidates-response.ensures.found);
+          (rw c.deref.ensures.value at c.evaluate_candidates-response.ensures.found);
       told = λ s tells.
-          let goes = Goes-trans o.goes (Goes-extends o.goes.table e.grows.extends) in
-          let args = args_later c.args.cx.now.nodes c.relevant_candidates.new.cx.nodes c.args.table.now.entries c.enter_forall.new.table.entries c.args.values.now goes.extends goes.continues c.requires.values in
           let both = trees_kept c.args.cx.now.nodes c.relevant_candidates.new.cx.nodes c.args.table.now.entries c.args.values.now up c.requires.values in
           let h = g.H.GoalHandler.handler s.base c.args.handler.now in
           let same = g.met.H.GoalHandler.handler_kept s.base c.relevant_candidates.new.cx.nodes c.args.handler.now s.is_ready (Extends-trans s.extends up) in
           let offered = subst (λ os. LeavesOut os (candidates_of c.relevant_candidates.new.cx.nodes c.in_ok-candidates.candidates.items)) (ap (λ m. (g.H.GoalHandler.handler c.relevant_candidates.new.cx.nodes c.args.handler.now).offers (mode_of m) (tree_at c.relevant_candidates.new.cx.nodes c.in-Candidates.opened.param_env.node) (tree_at c.relevant_candidates.new.cx.nodes c.in-Candidates.opened.predicate.node)) c.typing_mode.ensures ∙ same.offers _ _ _) e.offered in
-          let run = rw (c.deref.ensures.value, m.same) at (c.evaluate_candidates-response.ensures.told (Since-later (grown o.grows (grown e.grows m.grows)) s) (tell_grown h c.args.depth c.requires.search (grown o.grows (grown e.grows m.grows)) tells)) in
+          let run = rw c.deref.ensures.value at (c.evaluate_candidates-response.ensures.told (Since-later (grown o.grows e.grows) s) (tell_grown h c.args.depth c.requires.search (grown o.grows e.grows) tells)) in
           IfOk-map c.evaluate_candidates-response.result
           (λ r f. told_through c.requires.posed opened o.grows.extends posed c.in-Candidates.ensures.1 h c.args.table.now.mode c.args.values.now c.evaluate_candidates-response.new.cx.nodes r.value trees
-          (rw (o.goes.mode) at (told_offered h c.enter_forall.new.table.mode c.enter_forall.new.table c.in-Candidates.opened c.args.values.now c.in_ok-candidates.candidates.items c.evaluate_candidates-response.new.cx.nodes r.value e.grows.extends o.goes.table posed.holds (both ∙ sym trees) offered
-          (kept_tell c.evaluate_candidates-response.new.cx.nodes c.in-Candidates.opened h c.enter_forall.new.table.mode c.args.values.now r.value (HoldsGoal-extended e.grows.extends posed.holds) m.kept m.grows.extends (IsTable-extended e.grows.extends o.goes.table) args e.candidates f)))) run;
+          (rw (o.goes.mode) at (told_offered h c.enter_forall.new.table.mode c.enter_forall.new.table c.in-Candidates.opened c.args.values.now c.in_ok-candidates.candidates.items c.evaluate_candidates-response.new.cx.nodes r.value e.grows.extends o.goes.table posed.holds (both ∙ sym trees) offered f))) run;
       refuted = λ s tells n.
-          let goes = Goes-trans o.goes (Goes-extends o.goes.table e.grows.extends) in
-          let args = args_later c.args.cx.now.nodes c.relevant_candidates.new.cx.nodes c.args.table.now.entries c.enter_forall.new.table.entries c.args.values.now goes.extends goes.continues c.requires.values in
           let h = g.H.GoalHandler.handler s.base c.args.handler.now in
           let same = g.met.H.GoalHandler.handler_kept s.base c.relevant_candidates.new.cx.nodes c.args.handler.now s.is_ready (Extends-trans s.extends up) in
           let offered = subst (λ os. LeavesOut os (candidates_of c.relevant_candidates.new.cx.nodes c.in_ok-candidates.candidates.items)) (ap (λ m. (g.H.GoalHandler.handler c.relevant_candidates.new.cx.nodes c.args.handler.now).offers (mode_of m) (tree_at c.relevant_candidates.new.cx.nodes c.in-Candidates.opened.param_env.node) (tree_at c.relevant_candidates.new.cx.nodes c.in-Candidates.opened.predicate.node)) c.typing_mode.ensures ∙ same.offers _ _ _) e.offered in
-          let kept = rw (c.deref.ensures.value, m.same) at (c.evaluate_candidates-response.ensures.refuted (Since-later (grown o.grows (grown e.grows m.grows)) s) (tell_grown h c.args.depth c.requires.search (grown o.grows (grown e.grows m.grows)) tells) n) in
-          let run = kept_outcomes c.in-Candidates.opened h c.enter_forall.new.table.mode c.args.values.now (HoldsGoal-extended e.grows.extends posed.holds) m.kept m.grows.extends (IsTable-extended e.grows.extends o.goes.table) args e.candidates kept in
+          let run = rw c.deref.ensures.value at (c.evaluate_candidates-response.ensures.refuted (Since-later (grown o.grows e.grows) s) (tell_grown h c.args.depth c.requires.search (grown o.grows e.grows) tells) n) in
           let both = trees_kept c.args.cx.now.nodes c.relevant_candidates.new.cx.nodes c.args.table.now.entries c.args.values.now up c.requires.values in
           let environment = e.grows.extends.kept c.in-Candidates.opened.param_env.node posed.holds.env.within in
           let predicate = e.grows.extends.kept c.in-Candidates.opened.predicate.node posed.holds.predicate.within in

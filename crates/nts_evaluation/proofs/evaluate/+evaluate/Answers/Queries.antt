@@ -36,7 +36,6 @@ use Rattle.nts_store.specs.Kept.{map-kept, AllIn-kept}
 use Rattle.nts_theory.specs.Telling.{IsPlainResponse}
 use Rattle.nts_theory.specs.Telling.Tells.{tells_nothing, says_nothing}
 use Rattle.nts_theory.specs.Telling.Fails.{is_unmet}
-use Rattle.nts_trying.proofs.Filtered.{kept_candidates, kept_outcomes, kept_tell}
 use Rattle.nts_trying.proofs.Opened.{told_through, told_offered, refuted_through, nothing_through, labels_through, labels_entered, proved_through}
 use Rattle.nts_trying.proofs.Probed.{found_in, found_still, found_fits, found_derived, went_in, plain_of, doubtful, not_kept, says_found, says_before, run_replies}
 use Rattle.nts_trying.proofs.Outcomes.{found_earlier, founds_more, founds_with, outcomes_first, outcomes_more, found_merged, told_merged, failed_of}
