@@ -7,10 +7,10 @@ use Rattle.nts_model.specs.declared.labels.Label.TheVariants as label
 use Rattle.nts_model.specs.Terms.Trees.{Tree, empty, more, node, variable_of}
 use Rattle.nts_model.specs.Tables.Resolving.{Knows, KnowsVariable}
 use Rattle.nts_model.specs.Terms.Substitutions.{replace}
-use Rattle.nts_model.specs.Canonical.Numbered.{same, added, seen_node, seen, numbered, numbered_leaf, no_leaf, AreDistinct}
+use Rattle.nts_model.specs.Canonical.Numbered.{same, added, seen_node, seen, numbered, numbered_leaf, no_leaf}
 use Rattle.nts_model.specs.Canonical.Inputs.{Input, CanonicalInput as Form, is_static, after_environment, after_predicate, originals, canonical_of, position_kind, whole}
 use Rattle.nts_model.proofs.Terms.Listed.{either}
-use Rattle.nts_model.proofs.Canonical.Numbering.{extends-self, extends-trans, extends-seen, distinct-seen, numbered-replace}
+use Rattle.nts_model.proofs.Canonical.Numbering.{extends-self, extends-trans, extends-seen, numbered-replace}
 use Rattle.nts_terms.specs.declared.handles.AliasTerm.{AliasTerm}
 use Rattle.nts_terms.specs.declared.handles.Ty.{Ty}
 use Rattle.nts_terms.specs.declared.handles.Goal.{Goal}

@@ -1,5 +1,5 @@
 -- A walk that collects leaves: what each turn does.
-use Rattle.std.proofs.Common.{OnOk, Result, Ok, Err, ◌≡◌, ℕ, ◌+◌, ◌*◌, ◌<◌, ◌≤◌, Bool, true, false, cond, List, [], ◌∷◌, ◌++◌, get_or, inl, inr, refl, sym, ap, subst, ◌∙◌, arith, append_assoc, rules, nat_eq}
+use Rattle.std.proofs.Common.{OnOk, Result, Ok, Err, ◌≡◌, ℕ, ◌+◌, ◌*◌, ◌<◌, ◌≤◌, Bool, true, false, List, [], ◌∷◌, ◌++◌, get_or, inl, inr, refl, sym, ap, subst, ◌∙◌, arith, append_assoc, rules, nat_eq}
 use Rattle.std.proofs.lemmas.List.{append-nil}
 use Rattle.std.specs.List.{list_any}
 use Rattle.indexmap.specs.IndexSet.{insert_key}
@@ -9,7 +9,6 @@ use Rattle.nts_model.specs.declared.labels.Label.TheVariants as label
 use Rattle.nts_model.specs.Terms.Trees.{Tree, empty, more, node, size, children, any_label, IsRow, row_length, row_at}
 use Rattle.nts_model.specs.Lists.{Among}
 use Rattle.nts_model.specs.Canonical.Numbered.{same, added, seen_node, seen}
-use Rattle.nts_model.specs.contracts.labels.LeafPartialEq.TheImpl as leaf_eq
 use Rattle.nts_model.proofs.Terms.Listed.{either, tell, differ, same-yes, added-has, added-keeps}
 use Rattle.nts_model.proofs.Canonical.Numbering.{Extends, extends-self, extends-trans, extends-seen}
 use Rattle.nts_store.specs.declared.nodes.NodeId.{NodeId}
@@ -286,21 +285,9 @@ pushed_one ts xs ys zs r i j c h e below tree is =
     let step : row_from j r ≡ more (row_at r j) (row_from i r) = row_from-step r j below ∙ ap (λ m. more (row_at r j) (row_from m r)) (sym e) in
     rw (is, jobs-push ts ys (task.Enter c), h, step, tree) (append_assoc (jobs ts xs) (entered (row_from i r)) (read (row_at r j) ∷ []))
 
--- a set of leaves with one more
-insert_key-added : (s : List Leaf) (l : Leaf) → insert_key leaf_eq.ghosts.eq s l ≡ added s l
-insert_key-added [] l = refl
-insert_key-added (x ∷ xs) l =
-    elim (either (same l x)) [
-      | inl e ↦ rw e refl
-      | inr e ↦ rw e (by_rest (list_any (same l) xs) refl (insert_key-added xs l))
-    ]
-  where
-    by_rest : (b : Bool) → list_any (same l) xs ≡ b → insert_key leaf_eq.ghosts.eq xs l ≡ added xs l → cond b (x ∷ xs) (x ∷ xs ++ l ∷ []) ≡ x ∷ added xs l
-    by_rest true e h = ap (λ r. x ∷ r) (rw e at h)
-    by_rest false e h = ap (λ r. x ∷ r) (rw e at h)
-
-pub leaf_added : (stays : Leaf → Bool) (s u : List Leaf) (l : Leaf) → stays l ≡ false → u ≡ insert_key leaf_eq.ghosts.eq s l → u ≡ after_leaf stays s l
-leaf_added stays s u l e h = rw e (h ∙ insert_key-added s l)
+-- a leaf that does not stay is added
+pub leaf_added : (stays : Leaf → Bool) (s u : List Leaf) (l : Leaf) → stays l ≡ false → u ≡ added s l → u ≡ after_leaf stays s l
+leaf_added stays s u l e h = rw e h
 
 pub ok_map_both : {A E : Type 0} (r : Result A E) (P Q R : Type 0) → (P → Q → R) → OnOk r P → OnOk r Q → OnOk r R
 ok_map_both (Ok x) P Q R f h k = f h k

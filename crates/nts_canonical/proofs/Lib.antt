@@ -1,4 +1,5 @@
 pub mod Adding
+pub mod AddingLeaves
 pub mod Built
 pub mod Canonizing
 pub mod Filled

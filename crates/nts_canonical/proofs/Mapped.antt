@@ -4,13 +4,12 @@ use Rattle.nts_model.specs.declared.labels.Sort.TheVariants as sort
 use Rattle.nts_model.specs.declared.labels.Leaf.{Leaf}
 use Rattle.nts_model.specs.declared.labels.Label.{Label}
 use Rattle.nts_model.specs.declared.labels.Label.TheVariants as label
-use Rattle.nts_model.specs.Terms.Trees.{Tree, empty, more, node, binders, kind_of_label, NodeKind, of_sort, arguments, environment, bound_predicate, statement, sort_list, one_sort, infer_of, variable_of}
-use Rattle.nts_model.specs.Tables.Contents.{Content}
+use Rattle.nts_model.specs.Terms.Trees.{Tree, empty, more, node, binders, kind_of_label, NodeKind, of_sort, arguments, environment, bound_predicate, statement, sort_list, one_sort, variable_of}
 use Rattle.nts_model.specs.Tables.Resolving.{Knows, deeply_resolved}
 use Rattle.nts_model.specs.Terms.Substitutions.{filled}
 use Rattle.nts_model.specs.Canonical.Numbered.{seen}
 use Rattle.nts_model.specs.Answers.Responses.{is_fixed, positioned}
-use Rattle.nts_model.proofs.Tables.Resolved.{deeply_resolved-node, deeply_resolved-empty}
+use Rattle.nts_model.proofs.Tables.Resolved.{deeply_resolved-empty}
 use Rattle.nts_store.specs.Filled.{HasValues}
 use Rattle.nts_folding.specs.Folding.{StaysHere, StaysMade, MayAnswer, asked_as, HandsOver, AtBinder, Walk, done, next, answer, down}
 use Rattle.nts_canonical.specs.Mapping.{AnswersImage, IsAny, itself, same_state}

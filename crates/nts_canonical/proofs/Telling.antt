@@ -1,10 +1,9 @@
 -- Two lists that are told apart item by item.
-use Rattle.std.proofs.Common.{◌≡◌, ℕ, zero, suc, ◌+◌, ◌<◌, ◌≤◌, List, [], ◌∷◌, map, length, drop, get_or, refl, sym, ap, ◌∙◌, arith}
+use Rattle.std.proofs.Common.{◌≡◌, ℕ, List, [], ◌∷◌, length, drop, refl, ap, arith}
 use Rattle.nts_model.specs.Terms.Trees.{Tree, empty, more, node}
 use Rattle.nts_terms.specs.declared.handles.AliasTerm.{AliasTerm}
 use Rattle.nts_terms.specs.declared.handles.Ty.{Ty}
-use Rattle.nts_canonical.specs.declared.types.CanonicalVarKind.{CanonicalVarKind}
-use Rattle.nts_canonical.specs.Forms.{kind_of_var, hidden_pairs}
+use Rattle.nts_canonical.specs.Forms.{hidden_pairs}
 use Rattle.nts_canonical.specs.Alike.{AreOnePair}
 
 -- what lists stand for tells their lengths, and whether items are one

@@ -1,14 +1,12 @@
 -- What a growing store keeps of arguments, and of queries as folders see them.
-use Rattle.std.specs.Prelude.{◌≡◌, suc, List, [], ◌∷◌, Option, Some, None, All, map, refl}
+use Rattle.std.specs.Prelude.{◌≡◌, suc, List, [], ◌∷◌, All, map, refl}
 use Rattle.std.proofs.Common.{arith}
-use Rattle.nts_model.specs.Terms.Trees.{Tree, node, any_argument, arguments, environment, bound_predicate, is, a_type}
+use Rattle.nts_model.specs.Terms.Trees.{Tree, any_argument, arguments, environment, bound_predicate, is, a_type}
 use Rattle.nts_model.specs.Derivations.Related.{pair}
-use Rattle.nts_model.specs.Terms.Substitutions.{filled, position_of}
 use Rattle.nts_terms.specs.declared.handles.GenericArg.{GenericArg}
 use Rattle.nts_terms.specs.declared.handles.AliasTerm.{AliasTerm}
 use Rattle.nts_terms.specs.declared.handles.Ty.{Ty}
 use Rattle.nts_store.specs.Growth.{tree_at, Extends}
-use Rattle.nts_store.specs.Filled.{HasValues}
 use Rattle.nts_terms.specs.Handles.{HoldsArg}
 use Rattle.nts_folding.specs.FoldLaws.{Holds-kept, list_holds, same_pair, same_statement}
 use Rattle.nts_folding.specs.Folding.{tree_of_alias_args, tree_of_list}

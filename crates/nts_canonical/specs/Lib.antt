@@ -4,6 +4,7 @@ pub mod Collecting
 pub mod Folds
 pub mod Forms
 pub mod Kinds
+pub mod LeafLists
 pub mod Mapping
 pub mod Owned
 pub mod Positions

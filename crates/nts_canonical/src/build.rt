@@ -6,7 +6,7 @@ ghost use Rattle.nts_model.specs.Tables.Resolving.{Knows};
 ghost use Rattle.nts_model.specs.Canonical.Inputs.{HaveKinds};
 ghost use Rattle.nts_terms.specs.Modes.{mode_of};
 ghost use Rattle.nts_canonical.specs.SubRoots.{sub_root_in};
-ghost use Rattle.nts_store.specs.Growth.{tree_at, IsIn, Extends};
+ghost use Rattle.nts_store.specs.Growth.{tree_at, Extends};
 ghost use Rattle.nts_terms.specs.Handles.{HoldsArg};
 ghost use Rattle.nts_unify.specs.Reading.{content_of, IsHiddenType};
 ghost use Rattle.nts_unify.specs.declared.contents.HiddenType.{HiddenType};

@@ -1,24 +1,23 @@
 //! The canonical input of a goal.
-ghost use Rattle.std.specs.Prelude.{◌≡◌, [], map, false, IfOk, OnOk, IsOkUnless, All};
-ghost use Rattle.nts_model.specs.Terms.Substitutions.{leaf_tree, replace};
+ghost use Rattle.std.specs.Prelude.{◌≡◌, [], IfOk, OnOk, IsOkUnless};
+ghost use Rattle.nts_model.specs.Terms.Substitutions.{replace};
 ghost use Rattle.nts_model.specs.Canonical.Numbered.{seen, numbered_leaf, no_leaf};
-ghost use Rattle.nts_model.specs.Canonical.Inputs.{is_static, canonical_of, originals, whole};
+ghost use Rattle.nts_model.specs.Canonical.Inputs.{is_static, originals, whole};
 ghost use Rattle.nts_model.specs.Tables.Resolving.{Knows};
-ghost use Rattle.nts_store.specs.Filled.{HasValues};
 ghost use Rattle.nts_store.specs.Growth.{tree_at, Extends};
-ghost use Rattle.nts_terms.specs.Handles.{HoldsArg, HoldsEnv, HoldsPredicate, HoldsGoal};
+ghost use Rattle.nts_terms.specs.Handles.{HoldsEnv, HoldsPredicate, HoldsGoal};
 ghost use Rattle.nts_terms.specs.Rest.{Grows};
 ghost use Rattle.nts_unify.specs.Reading.{content_of};
 ghost use Rattle.nts_table.specs.Tables.{IsTable};
-ghost use Rattle.nts_canonical.specs.Forms.{hidden_pairs, query_tree, form_of, input_of, trees_of, IsHidden, AreHidden, HoldsQuery};
+ghost use Rattle.nts_canonical.specs.Forms.{hidden_pairs, input_of, IsHidden, AreHidden, HoldsQuery};
 ghost use Rattle.nts_canonical.specs.Building.{IsCanonicalOf, IsAskable};
 ghost use Rattle.nts_canonical.specs.Replaced.{IsImage, AreImages, AreLeafArgs};
 
 use crate::collecting::{Staying, collect};
+use crate::leaves::Leaves;
 use crate::numbering::numbered;
 use crate::types::{Canonical, CanonicalInput, QueryInput};
 use crate::var_kinds::kinds_of;
-use indexmap::IndexSet;
 use nts_model::{Label, Leaf};
 use nts_store::{Fault, Nodes};
 use nts_table::InferCtxt;
@@ -54,13 +53,13 @@ pub fn canonicalize_goal(
 fn canonicalize_over(
     table: &InferCtxt,
     cx: &mut Cx,
-    leaves: &IndexSet<Leaf>,
+    leaves: &Leaves,
     goal: Goal,
     opaque_types: &[(AliasTerm, Ty)],
     mode: TypingMode,
 ) -> Result<(Vec<GenericArg>, CanonicalInput), Fault>
     requires table { IsTable cx.old.nodes table.now }
-    requires leaves { leaves.now.keys ≡ seen no_leaf (seen no_leaf (seen is_static []
+    requires leaves { leaves.now ≡ seen no_leaf (seen no_leaf (seen is_static []
         (tree_at cx.old.nodes goal.param_env.node)) (tree_at cx.old.nodes goal.predicate.node))
         (hidden_pairs cx.old.nodes opaque_types.now) }
     requires goal { HoldsGoal cx.old.nodes goal }
@@ -91,19 +90,15 @@ fn canonicalize_over(
 }
 
 /// The leaves in the order of first sight. In the environment 'static is none.
-fn leaves_of(
-    cx: &Cx,
-    goal: Goal,
-    opaque_types: &[(AliasTerm, Ty)],
-) -> Result<IndexSet<Leaf>, AllocError>
+fn leaves_of(cx: &Cx, goal: Goal, opaque_types: &[(AliasTerm, Ty)]) -> Result<Leaves, AllocError>
     requires environment { HoldsEnv cx.now.nodes goal.param_env }
     requires predicate { HoldsPredicate cx.now.nodes goal.predicate }
     requires hidden { AreHidden cx.now.nodes opaque_types.now }
-    ensures { IfOk result (λ s. s.keys ≡ seen no_leaf (seen no_leaf (seen is_static []
+    ensures { IfOk result (λ s. s ≡ seen no_leaf (seen no_leaf (seen is_static []
         (tree_at cx.now.nodes goal.param_env.node)) (tree_at cx.now.nodes goal.predicate.node))
         (hidden_pairs cx.now.nodes opaque_types.now)) }
 {
-    let mut leaves = IndexSet::new(cx.alloc);
+    let mut leaves = Leaves::new(cx.alloc);
     collect_all(cx, &mut leaves, goal, opaque_types)?;
     Ok(leaves)
 }
@@ -111,15 +106,15 @@ fn leaves_of(
 /// Adds the leaves of a goal and of the hidden types that were not seen before.
 fn collect_all(
     cx: &Cx,
-    leaves: &mut IndexSet<Leaf>,
+    leaves: &mut Leaves,
     goal: Goal,
     opaque_types: &[(AliasTerm, Ty)],
 ) -> Result<(), AllocError>
     requires environment { HoldsEnv cx.now.nodes goal.param_env }
     requires predicate { HoldsPredicate cx.now.nodes goal.predicate }
     requires hidden { AreHidden cx.now.nodes opaque_types.now }
-    ensures { OnOk result (leaves.new.keys ≡ seen no_leaf (seen no_leaf
-        (seen is_static leaves.old.keys (tree_at cx.now.nodes goal.param_env.node))
+    ensures { OnOk result (leaves.new ≡ seen no_leaf (seen no_leaf
+        (seen is_static leaves.old (tree_at cx.now.nodes goal.param_env.node))
         (tree_at cx.now.nodes goal.predicate.node)) (hidden_pairs cx.now.nodes opaque_types.now)) }
 {
     let env = goal.param_env.node;
@@ -165,7 +160,7 @@ fn arguments(
 fn numbered_query(
     alloc: Global,
     nodes: &mut Nodes,
-    leaves: &IndexSet<Leaf>,
+    leaves: &Leaves,
     goal: Goal,
     opaque_types: &[(AliasTerm, Ty)],
 ) -> Result<QueryInput, AllocError>
@@ -173,12 +168,12 @@ fn numbered_query(
     requires predicate { HoldsPredicate nodes.old goal.predicate }
     requires hidden { AreHidden nodes.old opaque_types.now }
     ensures environment { IfOk result (λ q. tree_at nodes.new q.goal.param_env.node ≡ replace
-        (numbered_leaf is_static leaves.now.keys) (tree_at nodes.old goal.param_env.node)) }
+        (numbered_leaf is_static leaves.now) (tree_at nodes.old goal.param_env.node)) }
     ensures predicate { IfOk result (λ q. tree_at nodes.new q.goal.predicate.node ≡ replace
-        (numbered_leaf no_leaf leaves.now.keys) (tree_at nodes.old goal.predicate.node)) }
+        (numbered_leaf no_leaf leaves.now) (tree_at nodes.old goal.predicate.node)) }
     ensures hidden { IfOk result (λ q.
         hidden_pairs nodes.new q.predefined_opaques_in_body.items ≡ replace
-        (numbered_leaf no_leaf leaves.now.keys) (hidden_pairs nodes.old opaque_types.now)) }
+        (numbered_leaf no_leaf leaves.now) (hidden_pairs nodes.old opaque_types.now)) }
     ensures holds { IfOk result (HoldsQuery nodes.new) }
     ensures extends { Extends nodes.old nodes.new }
 {
@@ -197,11 +192,11 @@ fn numbered_query(
 fn numbered_hidden(
     alloc: Global,
     nodes: &mut Nodes,
-    leaves: &IndexSet<Leaf>,
+    leaves: &Leaves,
     opaque_types: &[(AliasTerm, Ty)],
 ) -> Result<Vec<(AliasTerm, Ty)>, AllocError>
     requires { AreHidden nodes.old opaque_types.now }
-    ensures images { IfOk result (λ v. AreImages (replace (numbered_leaf no_leaf leaves.now.keys))
+    ensures images { IfOk result (λ v. AreImages (replace (numbered_leaf no_leaf leaves.now))
         nodes.old nodes.new opaque_types.now v.items) }
     ensures extends { Extends nodes.old nodes.new }
 {
@@ -217,11 +212,11 @@ fn numbered_hidden(
 fn numbered_pair(
     alloc: Global,
     nodes: &mut Nodes,
-    leaves: &IndexSet<Leaf>,
+    leaves: &Leaves,
     hidden: (AliasTerm, Ty),
 ) -> Result<(AliasTerm, Ty), AllocError>
     requires { IsHidden nodes.old hidden }
-    ensures image { IfOk result (IsImage (replace (numbered_leaf no_leaf leaves.now.keys)) nodes.old
+    ensures image { IfOk result (IsImage (replace (numbered_leaf no_leaf leaves.now)) nodes.old
         nodes.new hidden) }
     ensures extends { Extends nodes.old nodes.new }
 {

@@ -6,6 +6,7 @@ ghost use Rattle.nts_store.specs.Growth.{tree_at, IsIn};
 ghost use Rattle.nts_canonical.specs.declared.collecting.Task.TheVariants.{Enter, Finish};
 ghost use Rattle.nts_canonical.specs.Collecting.{stays_where, after_leaf, TasksIn, jobs, entered, IsReading, WalkGoesOn};
 
+use crate::leaves::Leaves;
 use indexmap::IndexSet;
 use nts_model::{FreeRegion, Label, Leaf};
 use nts_store::{NodeId, Nodes};
@@ -51,11 +52,11 @@ pub fn collect(
     alloc: Global,
     nodes: &Nodes,
     staying: Staying,
-    leaves: &mut IndexSet<Leaf>,
+    leaves: &mut Leaves,
     t: NodeId,
 ) -> Result<(), AllocError>
     requires { IsIn nodes.now t }
-    ensures { OnOk result (leaves.new.keys ≡ seen (stays_where staying) leaves.old.keys
+    ensures { OnOk result (leaves.new ≡ seen (stays_where staying) leaves.old
         (tree_at nodes.now t)) }
 {
     let mut finished = IndexSet::new(alloc);
@@ -67,7 +68,7 @@ pub fn collect(
 fn walk(
     nodes: &Nodes,
     staying: Staying,
-    leaves: &mut IndexSet<Leaf>,
+    leaves: &mut Leaves,
     finished: &mut IndexSet<usize>,
     tasks: &mut Vec<Task>,
     t: NodeId,
@@ -75,7 +76,7 @@ fn walk(
     requires within { IsIn nodes.now t }
     requires idle { tasks.old.items ≡ [] }
     requires unread { finished.old.keys ≡ [] }
-    ensures { OnOk result (leaves.new.keys ≡ seen (stays_where staying) leaves.old.keys
+    ensures { OnOk result (leaves.new ≡ seen (stays_where staying) leaves.old
         (tree_at nodes.now t)) }
 {
     tasks.push(Task::Enter(t))?;
@@ -94,15 +95,15 @@ fn enter(
     nodes: &Nodes,
     finished: &IndexSet<usize>,
     staying: Staying,
-    leaves: &mut IndexSet<Leaf>,
+    leaves: &mut Leaves,
     tasks: &mut Vec<Task>,
     term: NodeId,
 ) -> Result<(), AllocError>
     requires { IsReading (stays_where staying) nodes.now (tasks.old.items ++ Enter term ∷ [])
-        leaves.old.keys finished.now.keys }
+        leaves.old finished.now.keys }
     ensures { OnOk result (WalkGoesOn (stays_where staying) nodes.now
-        (tasks.old.items ++ Enter term ∷ []) leaves.old.keys finished.now.keys tasks.new.items
-        leaves.new.keys finished.now.keys) }
+        (tasks.old.items ++ Enter term ∷ []) leaves.old finished.now.keys tasks.new.items
+        leaves.new finished.now.keys) }
 {
     if let Label::Leaf(leaf) = nodes.label(term) {
         return see(staying, leaves, leaf);
@@ -117,14 +118,14 @@ fn enter(
     push_children(nodes, term, tasks)
 }
 
-fn see(staying: Staying, leaves: &mut IndexSet<Leaf>, leaf: Leaf) -> Result<(), AllocError>
-    ensures { OnOk result (leaves.new.keys ≡ after_leaf (stays_where staying) leaves.old.keys
+fn see(staying: Staying, leaves: &mut Leaves, leaf: Leaf) -> Result<(), AllocError>
+    ensures { OnOk result (leaves.new ≡ after_leaf (stays_where staying) leaves.old
         leaf) }
 {
     if stays(staying, leaf) {
         return Ok(());
     }
-    leaves.insert(leaf)?;
+    leaves.add(leaf)?;
     Ok(())
 }
 

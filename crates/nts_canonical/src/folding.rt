@@ -15,10 +15,9 @@ ghost use Rattle.nts_table.specs.TableLaws.{IsTable-extended};
 ghost use Rattle.nts_canonical.specs.Mapping.{AnswersImage, IsAny, itself, same_state};
 
 use crate::collecting::{Staying, collect};
+use crate::leaves::Leaves;
 use crate::numbering::numbered;
-use indexmap::IndexSet;
 use nts_folding::{TermFolder, TypeFoldable};
-use nts_model::Leaf;
 use nts_resolve::eager_resolve_vars;
 use nts_store::Fault;
 use nts_table::InferCtxt;
@@ -43,29 +42,25 @@ pub fn resolve_value<T: TypeFoldable>(table: &InferCtxt, cx: &mut Cx, value: T) 
 }
 
 /// The value, and its leaves in the order of first sight. 'static, the erased and the error region are none.
-pub fn leaves_of_value<T: TypeFoldable>(cx: &mut Cx, value: T) -> Result<(T, IndexSet<Leaf>), Fault>
+pub fn leaves_of_value<T: TypeFoldable>(cx: &mut Cx, value: T) -> Result<(T, Leaves), Fault>
     requires holds { T.holds cx.old.nodes value }
     ensures tree { IfOk result (λ r. T.tree cx.new.nodes r.0 ≡ T.tree cx.old.nodes value) }
-    ensures leaves { IfOk result (λ r. r.1.keys ≡ seen is_fixed [] (T.tree cx.old.nodes value)) }
+    ensures leaves { IfOk result (λ r. r.1 ≡ seen is_fixed [] (T.tree cx.old.nodes value)) }
     ensures holds { IfOk result (λ r. T.holds cx.new.nodes r.0) }
     ensures grows { Grows cx.old cx.new }
     ensures memory { IsOkUnless result Fault.Memory }
 {
     let mut reader = Reader {
-        leaves: IndexSet::new(cx.alloc),
+        leaves: Leaves::new(cx.alloc),
     };
     let value = value.fold_with(cx, &mut reader)?;
     Ok((value, reader.leaves))
 }
 
 /// The value with positions in place of its leaves, which are among these.
-pub fn position_value<T: TypeFoldable>(
-    cx: &mut Cx,
-    leaves: &IndexSet<Leaf>,
-    value: T,
-) -> Result<T, Fault>
+pub fn position_value<T: TypeFoldable>(cx: &mut Cx, leaves: &Leaves, value: T) -> Result<T, Fault>
     requires holds { T.holds cx.old.nodes value }
-    ensures tree { IfOk result (λ r. T.tree cx.new.nodes r ≡ positioned leaves.now.keys
+    ensures tree { IfOk result (λ r. T.tree cx.new.nodes r ≡ positioned leaves.now
         (T.tree cx.old.nodes value)) }
     ensures holds { IfOk result (T.holds cx.new.nodes) }
     ensures grows { Grows cx.old cx.new }
@@ -119,7 +114,7 @@ impl TermFolder for Resolver<'_> {
 /// Sees the leaves of terms, and leaves the terms as they are.
 #[derive(Drop)]
 struct Reader {
-    leaves: IndexSet<Leaf>,
+    leaves: Leaves,
 }
 
 impl TermFolder for Reader {
@@ -127,7 +122,7 @@ impl TermFolder for Reader {
 
     ghost Meaning = { List Leaf };
 
-    ghost meaning = { λ ts s. s.leaves.keys };
+    ghost meaning = { λ ts s. s.leaves };
 
     ghost ready = { λ ts s. Unit {0} };
 
@@ -162,7 +157,7 @@ impl TermFolder for Reader {
 /// Puts positions in place of leaves.
 #[derive(Drop)]
 struct Positioner<'a> {
-    leaves: &'a IndexSet<Leaf>,
+    leaves: &'a Leaves,
 }
 
 impl TermFolder for Positioner<'_> {
@@ -170,7 +165,7 @@ impl TermFolder for Positioner<'_> {
 
     ghost Meaning = { List Leaf };
 
-    ghost meaning = { λ ts s. s.leaves.now.keys };
+    ghost meaning = { λ ts s. s.leaves.now };
 
     ghost ready = { λ ts s. Unit {0} };
 

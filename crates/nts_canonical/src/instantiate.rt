@@ -9,7 +9,7 @@ ghost use Rattle.nts_store.specs.declared.fault.Fault.TheVariants.{Memory};
 ghost use Rattle.nts_store.specs.Growth.{tree_at, IsIn, AllIn};
 ghost use Rattle.nts_store.specs.Kept.{AllIn-kept, map-kept};
 ghost use Rattle.nts_store.specs.Filled.{HasValue, HasValues};
-ghost use Rattle.nts_terms.specs.Handles.{Holds, HoldsArg};
+ghost use Rattle.nts_terms.specs.Handles.{HoldsArg};
 ghost use Rattle.nts_terms.specs.Rest.{Grows};
 ghost use Rattle.nts_canonical.specs.Forms.{trees_of};
 ghost use Rattle.nts_canonical.specs.Mapping.{AnswersImage, same_state};

@@ -1,7 +1,7 @@
 //! Positions in place of leaves.
 ghost use Rattle.std.specs.Prelude.{◌≡◌, List, IfOk, refl};
 ghost use Rattle.nts_model.specs.declared.labels.Leaf.{Leaf};
-ghost use Rattle.nts_model.specs.Terms.Trees.{Tree, sort_of_leaf};
+ghost use Rattle.nts_model.specs.Terms.Trees.{sort_of_leaf};
 ghost use Rattle.nts_model.specs.Terms.Substitutions.{replace};
 ghost use Rattle.nts_model.specs.Canonical.Numbered.{number, numbered_leaf};
 ghost use Rattle.nts_store.specs.Growth.{tree_at, Extends};
@@ -11,7 +11,7 @@ ghost use Rattle.nts_canonical.specs.Collecting.{stays_where};
 ghost use Rattle.nts_canonical.specs.Positions.{kind_of-numbered};
 
 use crate::collecting::{Staying, stays};
-use indexmap::IndexSet;
+use crate::leaves::Leaves;
 use nts_model::{BoundVarIndexKind, Label, Leaf, Sort, VariableKind};
 use nts_store::{NodeId, Nodes, Replacer, Step, replace};
 use nts_terms::Stored;
@@ -20,14 +20,14 @@ use std::alloc::{AllocError, Global};
 /// Puts a position in place of each leaf: its number among the leaves.
 #[derive(Drop)]
 struct Numberer<'a> {
-    leaves: &'a IndexSet<Leaf>,
+    leaves: &'a Leaves,
     staying: Staying,
 }
 
 impl Replacer for Numberer<'_> {
     ghost Meaning = { Staying × List Leaf };
 
-    ghost meaning = { λ ts s. (s.staying, s.leaves.now.keys) };
+    ghost meaning = { λ ts s. (s.staying, s.leaves.now) };
 
     ghost ready = { λ ts s. Unit {0} };
 
@@ -57,16 +57,10 @@ impl Replacer for Numberer<'_> {
         if stays(self.staying, leaf) {
             return Ok(Step::Done(t));
         }
-        let position = number_of(self.leaves, leaf);
+        let position = self.leaves.number(leaf);
         let label = Label::Bound(sort_of_leaf(leaf), BoundVarIndexKind::Canonical, position);
         Ok(Step::Done(nodes.make(label, &[])?))
     }
-}
-
-fn number_of(leaves: &IndexSet<Leaf>, leaf: Leaf) -> usize
-    ensures { result ≡ number leaves.now.keys leaf }
-{
-    leaves.get_index_of(&leaf).unwrap_or(leaves.len())
 }
 
 fn sort_of_leaf(leaf: Leaf) -> Sort
@@ -87,14 +81,14 @@ pub fn numbered<T: Stored>(
     alloc: Global,
     nodes: &mut Nodes,
     staying: Staying,
-    leaves: &IndexSet<Leaf>,
+    leaves: &Leaves,
     x: T,
 ) -> Result<T, AllocError>
     requires { Holds T.place nodes.old (T.id x) }
     ensures extends { Extends nodes.old nodes.new }
     ensures holds { IfOk result (λ r. Holds T.place nodes.new (T.id r)) }
     ensures tree { IfOk result (λ r. tree_at nodes.new (T.id r) ≡ replace (numbered_leaf
-        (stays_where staying) leaves.now.keys) (tree_at nodes.old (T.id x))) }
+        (stays_where staying) leaves.now) (tree_at nodes.old (T.id x))) }
 {
     let numberer = Numberer { leaves, staying };
     let node = replace(alloc, nodes, &numberer, x.node())?;

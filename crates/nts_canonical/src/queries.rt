@@ -1,5 +1,5 @@
 //! Values in place of the positions of a query, by one walk that goes into a shared node once.
-ghost use Rattle.std.specs.Prelude.{◌≡◌, List, All, map, IfOk, IsOkUnless};
+ghost use Rattle.std.specs.Prelude.{◌≡◌, All, map, IfOk, IsOkUnless};
 ghost use Rattle.nts_model.specs.Terms.Substitutions.{filled};
 ghost use Rattle.nts_store.specs.Growth.{tree_at, AllIn, Extends};
 ghost use Rattle.nts_terms.specs.Handles.{Holds, HoldsArg};

@@ -1,5 +1,5 @@
 //! What the positions of a canonical input stand for.
-ghost use Rattle.std.specs.Prelude.{◌≡◌, ℕ, List, map, IfOk};
+ghost use Rattle.std.specs.Prelude.{◌≡◌, List, map, IfOk};
 ghost use Rattle.std.specs.List.{position_or_len};
 ghost use Rattle.nts_model.specs.declared.labels.Leaf.{Leaf};
 ghost use Rattle.nts_model.specs.Terms.Substitutions.{leaf_sort};

@@ -12,9 +12,7 @@ use crate::answer_kinds::{answer_kinds, greatest};
 use crate::leaves::leaves_of;
 use crate::numbered::{numbered_constraints, numbered_goals, numbered_hidden, numbered_values};
 use crate::types::{CanonicalResponse, ExternalConstraintsData, Response};
-use indexmap::IndexSet;
-use nts_canonical::Canonical;
-use nts_model::Leaf;
+use nts_canonical::{Canonical, Leaves};
 use nts_store::{Fault, Nodes};
 use nts_table::InferCtxt;
 use nts_terms::{Cx, UniverseIndex};
@@ -57,12 +55,12 @@ pub fn canonicalize_response(
 fn numbered_response(
     alloc: Global,
     nodes: &mut Nodes,
-    leaves: &IndexSet<Leaf>,
+    leaves: &Leaves,
     value: Response,
 ) -> Result<Response, AllocError>
     requires { HoldsResponse nodes.old value }
     ensures findings { IfOk result (λ r. findings_at nodes.new r ≡ findings_by
-        (positioned leaves.now.keys) (findings_at nodes.old value)) }
+        (positioned leaves.now) (findings_at nodes.old value)) }
     ensures certainty { IfOk result (λ r. r.certainty ≡ value.certainty) }
     ensures holds { IfOk result (HoldsResponse nodes.new) }
     ensures extends { Extends nodes.old nodes.new }

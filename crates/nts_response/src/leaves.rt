@@ -10,23 +10,21 @@ ghost use Rattle.nts_canonical.specs.Forms.{trees_of, IsHidden};
 ghost use Rattle.nts_response.specs.Forms.{recorded_at, premise_at, findings_at, StoreHoldsConstraint, HoldsOpen, HoldsResponse};
 
 use crate::types::Response;
-use indexmap::IndexSet;
-use nts_canonical::{Staying, collect};
+use nts_canonical::{Leaves, Staying, collect};
 use nts_certainty::GoalSource;
 use nts_delegate::RegionConstraint;
-use nts_model::Leaf;
 use nts_store::NodeId;
 use nts_terms::{AliasTerm, Cx, GenericArg, Goal, Ty, VisibleForLeakCheck};
 use std::alloc::AllocError;
 
 /// The leaves of what a query found out: of the values, then of the region constraints, the hidden types and the open goals.
 /// 'static, the erased and the error region are none.
-pub(crate) fn leaves_of(cx: &Cx, value: &Response) -> Result<IndexSet<Leaf>, AllocError>
+pub(crate) fn leaves_of(cx: &Cx, value: &Response) -> Result<Leaves, AllocError>
     requires { HoldsResponse cx.now.nodes value.now }
-    ensures { IfOk result (λ s. s.keys ≡ own_leaves (findings_at cx.now.nodes value.now)) }
+    ensures { IfOk result (λ s. s ≡ own_leaves (findings_at cx.now.nodes value.now)) }
 {
     let found = &value.external_constraints;
-    let mut leaves = IndexSet::new(cx.alloc);
+    let mut leaves = Leaves::new(cx.alloc);
     see_values(cx, &mut leaves, &value.var_values)?;
     see_constraints(cx, &mut leaves, &found.region_constraints)?;
     see_hidden(cx, &mut leaves, &found.opaque_types)?;
@@ -34,17 +32,17 @@ pub(crate) fn leaves_of(cx: &Cx, value: &Response) -> Result<IndexSet<Leaf>, All
     Ok(leaves)
 }
 
-fn see(cx: &Cx, leaves: &mut IndexSet<Leaf>, t: NodeId) -> Result<(), AllocError>
+fn see(cx: &Cx, leaves: &mut Leaves, t: NodeId) -> Result<(), AllocError>
     requires { IsIn cx.now.nodes t }
-    ensures { OnOk result (leaves.new.keys ≡ seen is_fixed leaves.old.keys
+    ensures { OnOk result (leaves.new ≡ seen is_fixed leaves.old
         (tree_at cx.now.nodes t)) }
 {
     collect(cx.alloc, &cx.nodes, Staying::FixedRegions, leaves, t)
 }
 
-fn see_values(cx: &Cx, leaves: &mut IndexSet<Leaf>, values: &[GenericArg]) -> Result<(), AllocError>
+fn see_values(cx: &Cx, leaves: &mut Leaves, values: &[GenericArg]) -> Result<(), AllocError>
     requires { All (HoldsArg cx.now.nodes) values.now }
-    ensures { OnOk result (leaves.new.keys ≡ seen is_fixed leaves.old.keys
+    ensures { OnOk result (leaves.new ≡ seen is_fixed leaves.old
         (value_row (trees_of cx.now.nodes values.now) empty)) }
 {
     for i in 0..values.len() {
@@ -55,11 +53,11 @@ fn see_values(cx: &Cx, leaves: &mut IndexSet<Leaf>, values: &[GenericArg]) -> Re
 
 fn see_constraints(
     cx: &Cx,
-    leaves: &mut IndexSet<Leaf>,
+    leaves: &mut Leaves,
     constraints: &[(RegionConstraint, VisibleForLeakCheck)],
 ) -> Result<(), AllocError>
     requires { All (StoreHoldsConstraint cx.now.nodes) constraints.now }
-    ensures { OnOk result (leaves.new.keys ≡ seen is_fixed leaves.old.keys (constraint_row
+    ensures { OnOk result (leaves.new ≡ seen is_fixed leaves.old (constraint_row
         (map (recorded_at cx.now.nodes) constraints.now) empty)) }
 {
     for i in 0..constraints.len() {
@@ -70,13 +68,9 @@ fn see_constraints(
     Ok(())
 }
 
-fn see_hidden(
-    cx: &Cx,
-    leaves: &mut IndexSet<Leaf>,
-    hidden: &[(AliasTerm, Ty)],
-) -> Result<(), AllocError>
+fn see_hidden(cx: &Cx, leaves: &mut Leaves, hidden: &[(AliasTerm, Ty)]) -> Result<(), AllocError>
     requires { All (IsHidden cx.now.nodes) hidden.now }
-    ensures { OnOk result (leaves.new.keys ≡ seen is_fixed leaves.old.keys
+    ensures { OnOk result (leaves.new ≡ seen is_fixed leaves.old
         (hidden_row (map (hidden_of cx.now.nodes) hidden.now) empty)) }
 {
     for i in 0..hidden.len() {
@@ -87,13 +81,9 @@ fn see_hidden(
     Ok(())
 }
 
-fn see_goals(
-    cx: &Cx,
-    leaves: &mut IndexSet<Leaf>,
-    goals: &[(GoalSource, Goal)],
-) -> Result<(), AllocError>
+fn see_goals(cx: &Cx, leaves: &mut Leaves, goals: &[(GoalSource, Goal)]) -> Result<(), AllocError>
     requires { All (HoldsOpen cx.now.nodes) goals.now }
-    ensures { OnOk result (leaves.new.keys ≡ seen is_fixed leaves.old.keys
+    ensures { OnOk result (leaves.new ≡ seen is_fixed leaves.old
         (goal_row (map (premise_at cx.now.nodes) goals.now) empty)) }
 {
     for i in 0..goals.len() {

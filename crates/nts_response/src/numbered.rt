@@ -9,11 +9,9 @@ ghost use Rattle.nts_canonical.specs.Forms.{IsHidden};
 ghost use Rattle.nts_response.specs.Forms.{recorded_at, premise_at, StoreHoldsConstraint, HoldsOpen};
 ghost use Rattle.nts_response.specs.Replacing.{ReplacesEach, argument_value};
 
-use indexmap::IndexSet;
-use nts_canonical::{Staying, numbered};
+use nts_canonical::{Leaves, Staying, numbered};
 use nts_certainty::GoalSource;
 use nts_delegate::RegionConstraint;
-use nts_model::Leaf;
 use nts_store::Nodes;
 use nts_terms::{AliasTerm, GenericArg, Goal, Stored, Ty, VisibleForLeakCheck};
 use std::alloc::{AllocError, Global};
@@ -22,13 +20,13 @@ use std::alloc::{AllocError, Global};
 fn position<T: Stored>(
     alloc: Global,
     nodes: &mut Nodes,
-    leaves: &IndexSet<Leaf>,
+    leaves: &Leaves,
     x: T,
 ) -> Result<T, AllocError>
     requires { Holds T.place nodes.old (T.id x) }
     ensures extends { Extends nodes.old nodes.new }
     ensures holds { IfOk result (λ r. Holds T.place nodes.new (T.id r)) }
-    ensures tree { IfOk result (λ r. tree_at nodes.new (T.id r) ≡ positioned leaves.now.keys
+    ensures tree { IfOk result (λ r. tree_at nodes.new (T.id r) ≡ positioned leaves.now
         (tree_at nodes.old (T.id x))) }
 {
     numbered(alloc, nodes, Staying::FixedRegions, leaves, x)
@@ -37,12 +35,12 @@ fn position<T: Stored>(
 pub(crate) fn numbered_values(
     alloc: Global,
     nodes: &mut Nodes,
-    leaves: &IndexSet<Leaf>,
+    leaves: &Leaves,
     values: &[GenericArg],
 ) -> Result<Vec<GenericArg>, AllocError>
     requires { All (HoldsArg nodes.old) values.now }
     ensures each { IfOk result (λ v. ReplacesEach HoldsArg argument_value
-        (positioned leaves.now.keys) nodes.old nodes.new values.now v.items) }
+        (positioned leaves.now) nodes.old nodes.new values.now v.items) }
     ensures extends { Extends nodes.old nodes.new }
 {
     let mut numbered = Vec::with_capacity(alloc, values.len())?;
@@ -56,12 +54,12 @@ pub(crate) fn numbered_values(
 pub(crate) fn numbered_constraints(
     alloc: Global,
     nodes: &mut Nodes,
-    leaves: &IndexSet<Leaf>,
+    leaves: &Leaves,
     constraints: &[(RegionConstraint, VisibleForLeakCheck)],
 ) -> Result<Vec<(RegionConstraint, VisibleForLeakCheck)>, AllocError>
     requires { All (StoreHoldsConstraint nodes.old) constraints.now }
     ensures each { IfOk result (λ v. ReplacesEach StoreHoldsConstraint recorded_at (recorded_by
-        (positioned leaves.now.keys)) nodes.old nodes.new constraints.now v.items) }
+        (positioned leaves.now)) nodes.old nodes.new constraints.now v.items) }
     ensures extends { Extends nodes.old nodes.new }
 {
     let mut numbered = Vec::with_capacity(alloc, constraints.len())?;
@@ -75,13 +73,13 @@ pub(crate) fn numbered_constraints(
 fn numbered_constraint(
     alloc: Global,
     nodes: &mut Nodes,
-    leaves: &IndexSet<Leaf>,
+    leaves: &Leaves,
     constraint: (RegionConstraint, VisibleForLeakCheck),
 ) -> Result<(RegionConstraint, VisibleForLeakCheck), AllocError>
     requires { StoreHoldsConstraint nodes.old constraint }
     ensures holds { IfOk result (StoreHoldsConstraint nodes.new) }
     ensures replaced { IfOk result (λ r. recorded_at nodes.new r ≡ recorded_by
-        (positioned leaves.now.keys) (recorded_at nodes.old constraint)) }
+        (positioned leaves.now) (recorded_at nodes.old constraint)) }
     ensures extends { Extends nodes.old nodes.new }
 {
     let (constraint, visible) = constraint;
@@ -98,12 +96,12 @@ fn numbered_constraint(
 pub(crate) fn numbered_hidden(
     alloc: Global,
     nodes: &mut Nodes,
-    leaves: &IndexSet<Leaf>,
+    leaves: &Leaves,
     hidden: &[(AliasTerm, Ty)],
 ) -> Result<Vec<(AliasTerm, Ty)>, AllocError>
     requires { All (IsHidden nodes.old) hidden.now }
     ensures each { IfOk result (λ v. ReplacesEach IsHidden hidden_of
-        (hidden_by (positioned leaves.now.keys)) nodes.old nodes.new hidden.now v.items) }
+        (hidden_by (positioned leaves.now)) nodes.old nodes.new hidden.now v.items) }
     ensures extends { Extends nodes.old nodes.new }
 {
     let mut numbered = Vec::with_capacity(alloc, hidden.len())?;
@@ -117,13 +115,13 @@ pub(crate) fn numbered_hidden(
 fn numbered_pair(
     alloc: Global,
     nodes: &mut Nodes,
-    leaves: &IndexSet<Leaf>,
+    leaves: &Leaves,
     hidden: (AliasTerm, Ty),
 ) -> Result<(AliasTerm, Ty), AllocError>
     requires { IsHidden nodes.old hidden }
     ensures holds { IfOk result (IsHidden nodes.new) }
     ensures replaced { IfOk result (λ r. hidden_of nodes.new r ≡ hidden_by
-        (positioned leaves.now.keys) (hidden_of nodes.old hidden)) }
+        (positioned leaves.now) (hidden_of nodes.old hidden)) }
     ensures extends { Extends nodes.old nodes.new }
 {
     let (alias, ty) = hidden;
@@ -139,12 +137,12 @@ fn numbered_pair(
 pub(crate) fn numbered_goals(
     alloc: Global,
     nodes: &mut Nodes,
-    leaves: &IndexSet<Leaf>,
+    leaves: &Leaves,
     goals: &[(GoalSource, Goal)],
 ) -> Result<Vec<(GoalSource, Goal)>, AllocError>
     requires { All (HoldsOpen nodes.old) goals.now }
     ensures each { IfOk result (λ v. ReplacesEach HoldsOpen premise_at
-        (premise_by (positioned leaves.now.keys)) nodes.old nodes.new goals.now v.items) }
+        (premise_by (positioned leaves.now)) nodes.old nodes.new goals.now v.items) }
     ensures extends { Extends nodes.old nodes.new }
 {
     let mut numbered = Vec::with_capacity(alloc, goals.len())?;
@@ -158,13 +156,13 @@ pub(crate) fn numbered_goals(
 fn numbered_goal(
     alloc: Global,
     nodes: &mut Nodes,
-    leaves: &IndexSet<Leaf>,
+    leaves: &Leaves,
     goal: (GoalSource, Goal),
 ) -> Result<(GoalSource, Goal), AllocError>
     requires { HoldsOpen nodes.old goal }
     ensures holds { IfOk result (HoldsOpen nodes.new) }
     ensures replaced { IfOk result (λ r. premise_at nodes.new r ≡ premise_by
-        (positioned leaves.now.keys) (premise_at nodes.old goal)) }
+        (positioned leaves.now) (premise_at nodes.old goal)) }
     ensures extends { Extends nodes.old nodes.new }
 {
     let (source, goal) = goal;

@@ -1,4 +1,7 @@
 //! Canonical inputs of goals, case by case.
+ghost use Rattle.std.specs.Prelude.{◌<◌};
+ghost use Rattle.nts_table.specs.Tables.{IsTable};
+
 use crate::inputs::{
     another_table, canonical, declare, env_of, input_of, join, make_universes, rebuilt, same,
     there_and_back, trait_holds, value_of, with_hidden,
@@ -6,6 +9,7 @@ use crate::inputs::{
 use nts_canonical::{Canonical, CanonicalInput, CanonicalVarKind, instantiate_canonical};
 use nts_fixtures::Fixture;
 use nts_model::{BoundVarIndexKind, Sort, UintTy, VariableKind};
+use nts_store::EvalError;
 use nts_terms::{
     AliasDefId, AliasKind, BoundRegion, BoundTy, Cx, GenericArg, PlaceholderRegion,
     PlaceholderType, RegionKind, TyKind,
@@ -91,26 +95,59 @@ fn static_of_an_environment_stays(rt: HostRuntime) -> Result<(), Fail> {
     Ok(())
 }
 
-#[test]
-fn eighteen_variables_and_the_first_again(rt: HostRuntime) -> Result<(), Fail> {
-    let mut fixture = Fixture::new(rt.alloc())?;
-    let id = declare(&mut fixture, &[Sort::Ty; 19])?;
-    let mut arguments = Vec::new(rt.alloc());
-    let mut positions = Vec::new(rt.alloc());
-    for i in 0..18 {
-        arguments.push(fixture.ty_var()?)?;
+/// Sees the numbers of so many variables, and of the first and the last of them again.
+fn see_both_ends(
+    rt: &impl Abort,
+    fixture: &mut Fixture,
+    count: usize,
+    sorts: &[Sort],
+) -> Result<(), EvalError>
+    requires table { IsTable fixture.old.cx.nodes fixture.old.table }
+    requires some { 0 < count }
+{
+    let alloc = fixture.cx.alloc;
+    let id = declare(fixture, sorts)?;
+    let mut variables = Vec::new(alloc);
+    let mut positions = Vec::new(alloc);
+    for i in 0..count {
+        variables.push(fixture.ty_var()?)?;
         positions.push(fixture.position(i)?)?;
     }
-    let mut again = arguments.clone()?;
-    again.push(arguments[0])?;
+    let mut again = variables.clone()?;
+    again.push(variables[0])?;
+    again.push(variables[count - 1])?;
     positions.push(positions[0])?;
-    let predicate = trait_holds(&rt, &mut fixture, id, &again)?;
+    positions.push(positions[count - 1])?;
+    let predicate = trait_holds(rt, fixture, id, &again)?;
     let env = fixture.env;
-    let (originals, input) = canonical(&mut fixture, env, predicate)?;
-    are(&rt, &originals, &arguments);
-    let wanted = trait_holds(&rt, &mut fixture, id, &positions)?;
+    let (originals, input) = canonical(fixture, env, predicate)?;
+    are(rt, &originals, &variables);
+    let wanted = trait_holds(rt, fixture, id, &positions)?;
     assert!(rt; input.canonical.value.goal.predicate == wanted);
-    assert_eq!(rt; input.canonical.var_kinds.len(), 18);
+    assert_eq!(rt; input.canonical.var_kinds.len(), count);
+    Ok(())
+}
+
+/// So many are searched in a list.
+#[test]
+fn sixteen_variables_and_both_ends_again(rt: HostRuntime) -> Result<(), Fail> {
+    let mut fixture = Fixture::new(rt.alloc())?;
+    see_both_ends(&rt, &mut fixture, 16, &[Sort::Ty; 18])?;
+    Ok(())
+}
+
+/// The last of these is the first that is put into a table.
+#[test]
+fn seventeen_variables_and_both_ends_again(rt: HostRuntime) -> Result<(), Fail> {
+    let mut fixture = Fixture::new(rt.alloc())?;
+    see_both_ends(&rt, &mut fixture, 17, &[Sort::Ty; 19])?;
+    Ok(())
+}
+
+#[test]
+fn eighteen_variables_and_both_ends_again(rt: HostRuntime) -> Result<(), Fail> {
+    let mut fixture = Fixture::new(rt.alloc())?;
+    see_both_ends(&rt, &mut fixture, 18, &[Sort::Ty; 20])?;
     Ok(())
 }
 

@@ -5,4 +5,4 @@ use Rattle.nts_canonical.proofs.canonicalize.collect_all.Given as goal
 
 abbrev pub invariant-loop-i : goal.invariant-loop-i
 invariant-loop-i l =
-    seen no_leaf l.leaves.keys (hidden_pairs l.cx.nodes (drop l.i l.opaque_types)) ≡ seen no_leaf l.initial.leaves.keys (hidden_pairs l.cx.nodes l.opaque_types)
+    seen no_leaf l.leaves (hidden_pairs l.cx.nodes (drop l.i l.opaque_types)) ≡ seen no_leaf l.initial.leaves (hidden_pairs l.cx.nodes l.opaque_types)

@@ -11,7 +11,7 @@ numbered_pair-requires c =
 
 pub loop-i-preserved : goal.loop-i-preserved
 loop-i-preserved c =
-    let f = replace (numbered_leaf no_leaf c.args.leaves.now.keys) in
+    let f = replace (numbered_leaf no_leaf c.args.leaves.now) in
     let a = c.args.nodes.now in
     let b = c.loop-i.nodes in
     let d = c.numbered_pair.new.nodes in

@@ -7,6 +7,6 @@ use Rattle.nts_canonical.proofs.canonicalize.numbered_hidden.Given as goal
 
 abbrev pub invariant-loop-i : goal.invariant-loop-i
 invariant-loop-i l = record {
-  images : AreImages (replace (numbered_leaf no_leaf l.leaves.keys)) l.fn.nodes l.nodes (take l.i l.opaque_types) l.hidden.items;
+  images : AreImages (replace (numbered_leaf no_leaf l.leaves)) l.fn.nodes l.nodes (take l.i l.opaque_types) l.hidden.items;
   extends : Extends l.fn.nodes l.nodes;
 }

@@ -10,14 +10,14 @@ numbered_hidden-requires c = are_hidden-kept c.args.nodes.now c.numbered-2.new.n
 
 pub returns-clause-hidden : goal.returns-clause-hidden
 returns-clause-hidden c =
-    let f = replace (numbered_leaf no_leaf c.args.leaves.now.keys) in
+    let f = replace (numbered_leaf no_leaf c.args.leaves.now) in
     let up = Extends-trans c.numbered.ensures.extends c.numbered-2.ensures.extends in
     AreImages-row f (record { of_empty = refl; of_more = λ s t. refl }) c.numbered-2.new.nodes c.numbered_hidden.new.nodes c.args.opaque_types.now c.in_ok-hidden.hidden.items c.in_ok-hidden.ensures.images
     ∙ ap f (hidden_row-kept c.args.nodes.now c.numbered-2.new.nodes c.args.opaque_types.now c.requires.hidden up)
 
 pub returns-clause-holds : goal.returns-clause-holds
 returns-clause-holds c =
-    let f = replace (numbered_leaf no_leaf c.args.leaves.now.keys) in
+    let f = replace (numbered_leaf no_leaf c.args.leaves.now) in
     let last = c.numbered_hidden.ensures.extends in
     record {
       environment = holds_kept _ _ _ _ c.in_ok-param_env.ensures.holds (Extends-trans c.numbered-2.ensures.extends last);

@@ -4,4 +4,4 @@ use Rattle.nts_canonical.proofs.Gathering.{leaf_added}
 use Rattle.nts_canonical.proofs.collecting.see.Goals as goal
 
 pub returns : goal.returns
-returns c = leaf_added (stays_where c.args.staying) c.args.leaves.now.keys c.insert.new.self.keys c.args.leaf (sym c.stays.ensures ∙ c.if-stays.false) c.in_ok-insert.ensures.keys
+returns c = leaf_added (stays_where c.args.staying) c.args.leaves.now c.add.new.self c.args.leaf (sym c.stays.ensures ∙ c.if-stays.false) c.in_ok-add.ensures

@@ -3,7 +3,7 @@ use Rattle.std.proofs.Common.{◌∙◌}
 use Rattle.nts_canonical.proofs.Gathering.{finish_turn}
 use Rattle.nts_canonical.proofs.collecting.walk.Goals as goal
 
-turn : (c : goal.In_ok-insert-in-Finish) → WalkGoesOn (stays_where c.args.staying) c.args.nodes.now c.loop-task.tasks.items c.loop-task.leaves.keys c.loop-task.finished.keys c.pop.new.self.items c.loop-task.leaves.keys c.insert.new.self.keys
+turn : (c : goal.In_ok-insert-in-Finish) → WalkGoesOn (stays_where c.args.staying) c.args.nodes.now c.loop-task.tasks.items c.loop-task.leaves c.loop-task.finished.keys c.pop.new.self.items c.loop-task.leaves c.insert.new.self.keys
 turn c =
     finish_turn (stays_where c.args.staying) _ _ _ c.in-Finish.term _ _ _ c.loop-task.invariant.reading (rw c.in-Finish.is at c.in-Some.ensures.items) c.in_ok-insert-in-Finish.ensures.keys
 

@@ -6,8 +6,8 @@ use Rattle.nts_canonical.proofs.collecting.walk.Given as goal
 
 abbrev pub invariant-loop-task : goal.invariant-loop-task
 invariant-loop-task l = record {
-  reading : IsReading (stays_where l.staying) l.nodes l.tasks.items l.leaves.keys l.finished.keys;
-  same : seen_after (stays_where l.staying) (jobs l.nodes l.tasks.items) l.leaves.keys ≡ seen (stays_where l.staying) l.fn.leaves.keys (tree_at l.nodes l.fn.t);
+  reading : IsReading (stays_where l.staying) l.nodes l.tasks.items l.leaves l.finished.keys;
+  same : seen_after (stays_where l.staying) (jobs l.nodes l.tasks.items) l.leaves ≡ seen (stays_where l.staying) l.fn.leaves (tree_at l.nodes l.fn.t);
 }
 
 abbrev pub decreases-loop-task : goal.decreases-loop-task

@@ -13,7 +13,7 @@ returns-clause-tree g c = (walk_mapped IsAny itself (seen is_fixed) seeing _ _ _
 pub returns-clause-leaves : goal.returns-clause-leaves
 returns-clause-leaves g c =
     let x = g.T.TypeFoldable.tree c.args.cx.now.nodes c.args.value in
-    let none : c.new.result.keys ≡ [] = search rules in
+    let none : c.new.result ≡ [] = search rules in
     (walk_mapped IsAny itself (seen is_fixed) seeing _ _ _ _ tt c.in_ok-value.ensures.walk).1 ∙ ap (λ s. seen is_fixed s x) none
 
 pub returns-in_err-value-clause-memory : goal.returns-in_err-value-clause-memory

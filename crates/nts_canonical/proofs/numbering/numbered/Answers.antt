@@ -16,7 +16,7 @@ returns-clause-holds g c =
     let old = c.args.nodes.now in
     let new = c.replace.new.nodes in
     let stays = stays_where c.args.staying in
-    let s = c.args.leaves.now.keys in
+    let s = c.args.leaves.now in
     let tree = e.tree ∙ ap (λ (n : NodeId). replace (numbered_leaf stays s) (tree_at old n)) c.node.ensures in
     let held = holds_alike g.T.Stored.place old new (g.T.Stored.id c.args.x) c.in_ok-node.node c.requires e.within (ap kind_of tree ∙ kind_of-numbered stays s (tree_at old (g.T.Stored.id c.args.x))) in
     subst (λ (n : NodeId). Holds g.T.Stored.place new n) (sym c.from_node.ensures) held

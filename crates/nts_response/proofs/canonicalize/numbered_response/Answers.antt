@@ -5,7 +5,7 @@ use Rattle.nts_response.proofs.canonicalize.numbered_response.Goals as goal
 
 pub returns-clause-findings : goal.returns-clause-findings
 returns-clause-findings c =
-    let f = positioned c.args.leaves.now.keys in
+    let f = positioned c.args.leaves.now in
     let a = c.args.nodes.now in
     let b = c.numbered_values.new.nodes in
     let d = c.numbered_constraints.new.nodes in

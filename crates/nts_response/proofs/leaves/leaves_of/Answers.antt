@@ -5,4 +5,4 @@ use Rattle.nts_response.proofs.leaves.leaves_of.Goals as goal
 
 pub returns : goal.returns
 returns c =
-    all_seen (findings_at c.args.cx.now.nodes c.args.value.now) c.see_values.new.leaves.keys c.see_constraints.new.leaves.keys c.see_hidden.new.leaves.keys c.see_goals.new.leaves.keys (search rules) (search rules) (search rules) (search rules)
+    all_seen (findings_at c.args.cx.now.nodes c.args.value.now) c.see_values.new.leaves c.see_constraints.new.leaves c.see_hidden.new.leaves c.see_goals.new.leaves (search rules) (search rules) (search rules) (search rules)

@@ -7,4 +7,4 @@ use Rattle.nts_response.proofs.leaves.see_constraints.Given as goal
 
 abbrev pub invariant-loop-i : goal.invariant-loop-i
 invariant-loop-i l =
-    seen is_fixed l.leaves.keys (constraint_row (map (recorded_at l.cx.nodes) (drop l.i l.constraints)) empty) ≡ seen is_fixed l.initial.leaves.keys (constraint_row (map (recorded_at l.cx.nodes) l.constraints) empty)
+    seen is_fixed l.leaves (constraint_row (map (recorded_at l.cx.nodes) (drop l.i l.constraints)) empty) ≡ seen is_fixed l.initial.leaves (constraint_row (map (recorded_at l.cx.nodes) l.constraints) empty)

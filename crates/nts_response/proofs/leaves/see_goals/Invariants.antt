@@ -7,4 +7,4 @@ use Rattle.nts_response.proofs.leaves.see_goals.Given as goal
 
 abbrev pub invariant-loop-i : goal.invariant-loop-i
 invariant-loop-i l =
-    seen is_fixed l.leaves.keys (goal_row (map (premise_at l.cx.nodes) (drop l.i l.goals)) empty) ≡ seen is_fixed l.initial.leaves.keys (goal_row (map (premise_at l.cx.nodes) l.goals) empty)
+    seen is_fixed l.leaves (goal_row (map (premise_at l.cx.nodes) (drop l.i l.goals)) empty) ≡ seen is_fixed l.initial.leaves (goal_row (map (premise_at l.cx.nodes) l.goals) empty)

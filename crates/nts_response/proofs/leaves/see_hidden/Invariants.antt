@@ -7,4 +7,4 @@ use Rattle.nts_response.proofs.leaves.see_hidden.Given as goal
 
 abbrev pub invariant-loop-i : goal.invariant-loop-i
 invariant-loop-i l =
-    seen is_fixed l.leaves.keys (hidden_row (map (hidden_of l.cx.nodes) (drop l.i l.hidden)) empty) ≡ seen is_fixed l.initial.leaves.keys (hidden_row (map (hidden_of l.cx.nodes) l.hidden) empty)
+    seen is_fixed l.leaves (hidden_row (map (hidden_of l.cx.nodes) (drop l.i l.hidden)) empty) ≡ seen is_fixed l.initial.leaves (hidden_row (map (hidden_of l.cx.nodes) l.hidden) empty)

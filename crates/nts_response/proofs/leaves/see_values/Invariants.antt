@@ -8,4 +8,4 @@ use Rattle.nts_response.proofs.leaves.see_values.Given as goal
 
 abbrev pub invariant-loop-i : goal.invariant-loop-i
 invariant-loop-i l =
-    seen is_fixed l.leaves.keys (value_row (map (λ (x : GenericArg). tree_at l.cx.nodes x.node) (drop l.i l.values)) empty) ≡ seen is_fixed l.initial.leaves.keys (value_row (map (λ (x : GenericArg). tree_at l.cx.nodes x.node) l.values) empty)
+    seen is_fixed l.leaves (value_row (map (λ (x : GenericArg). tree_at l.cx.nodes x.node) (drop l.i l.values)) empty) ≡ seen is_fixed l.initial.leaves (value_row (map (λ (x : GenericArg). tree_at l.cx.nodes x.node) l.values) empty)

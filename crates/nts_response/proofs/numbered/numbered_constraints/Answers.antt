@@ -15,11 +15,11 @@ pub loop-i-preserved : goal.loop-i-preserved
 loop-i-preserved c =
     let up = c.numbered_constraint.ensures.extends in
     record {
-      each = replaced_more StoreHoldsConstraint recorded_at (recorded_by (positioned c.args.leaves.now.keys)) constraints_kept c.args.nodes.now c.loop-i.nodes c.numbered_constraint.new.nodes c.args.constraints.now c.loop-i.numbered.items c.push.new.self.items c.loop-i.i _ c.in_ok-constraint.constraint
+      each = replaced_more StoreHoldsConstraint recorded_at (recorded_by (positioned c.args.leaves.now)) constraints_kept c.args.nodes.now c.loop-i.nodes c.numbered_constraint.new.nodes c.args.constraints.now c.loop-i.numbered.items c.push.new.self.items c.loop-i.i _ c.in_ok-constraint.constraint
           c.loop-i.invariant.extends up c.requires (omega (arith, c.loop-i-test.true)) c.loop-i.invariant.each c.in_ok-constraint.ensures.holds c.in_ok-constraint.ensures.replaced c.in_ok-push.ensures.items;
       extends = Extends-trans c.loop-i.invariant.extends up;
     }
 
 pub returns-clause-each : goal.returns-clause-each
 returns-clause-each c =
-    subst (λ xs. ReplacesEach StoreHoldsConstraint recorded_at (recorded_by (positioned c.args.leaves.now.keys)) c.args.nodes.now c.loop-i.nodes xs c.loop-i.numbered.items) (take_all c.loop-i.i c.args.constraints.now (omega (arith, c.loop-i-test.false))) c.loop-i.invariant.each
+    subst (λ xs. ReplacesEach StoreHoldsConstraint recorded_at (recorded_by (positioned c.args.leaves.now)) c.args.nodes.now c.loop-i.nodes xs c.loop-i.numbered.items) (take_all c.loop-i.i c.args.constraints.now (omega (arith, c.loop-i-test.false))) c.loop-i.invariant.each

@@ -7,6 +7,6 @@ use Rattle.nts_response.proofs.numbered.numbered_constraints.Given as goal
 
 abbrev pub invariant-loop-i : goal.invariant-loop-i
 invariant-loop-i l = record {
-  each : ReplacesEach StoreHoldsConstraint recorded_at (recorded_by (positioned l.leaves.keys)) l.fn.nodes l.nodes (take l.i l.constraints) l.numbered.items;
+  each : ReplacesEach StoreHoldsConstraint recorded_at (recorded_by (positioned l.leaves)) l.fn.nodes l.nodes (take l.i l.constraints) l.numbered.items;
   extends : Extends l.fn.nodes l.nodes;
 }

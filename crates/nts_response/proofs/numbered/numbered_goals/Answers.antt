@@ -16,11 +16,11 @@ pub loop-i-preserved : goal.loop-i-preserved
 loop-i-preserved c =
     let up = c.numbered_goal.ensures.extends in
     record {
-      each = replaced_more HoldsOpen premise_at (premise_by (positioned c.args.leaves.now.keys)) goals_kept c.args.nodes.now c.loop-i.nodes c.numbered_goal.new.nodes c.args.goals.now c.loop-i.numbered.items c.push.new.self.items c.loop-i.i _ c.in_ok-goal.goal
+      each = replaced_more HoldsOpen premise_at (premise_by (positioned c.args.leaves.now)) goals_kept c.args.nodes.now c.loop-i.nodes c.numbered_goal.new.nodes c.args.goals.now c.loop-i.numbered.items c.push.new.self.items c.loop-i.i _ c.in_ok-goal.goal
           c.loop-i.invariant.extends up c.requires (omega (arith, c.loop-i-test.true)) c.loop-i.invariant.each c.in_ok-goal.ensures.holds c.in_ok-goal.ensures.replaced c.in_ok-push.ensures.items;
       extends = Extends-trans c.loop-i.invariant.extends up;
     }
 
 pub returns-clause-each : goal.returns-clause-each
 returns-clause-each c =
-    subst (λ xs. ReplacesEach HoldsOpen premise_at (premise_by (positioned c.args.leaves.now.keys)) c.args.nodes.now c.loop-i.nodes xs c.loop-i.numbered.items) (take_all c.loop-i.i c.args.goals.now (omega (arith, c.loop-i-test.false))) c.loop-i.invariant.each
+    subst (λ xs. ReplacesEach HoldsOpen premise_at (premise_by (positioned c.args.leaves.now)) c.args.nodes.now c.loop-i.nodes xs c.loop-i.numbered.items) (take_all c.loop-i.i c.args.goals.now (omega (arith, c.loop-i-test.false))) c.loop-i.invariant.each

@@ -8,6 +8,6 @@ use Rattle.nts_response.proofs.numbered.numbered_goals.Given as goal
 
 abbrev pub invariant-loop-i : goal.invariant-loop-i
 invariant-loop-i l = record {
-  each : ReplacesEach HoldsOpen premise_at (premise_by (positioned l.leaves.keys)) l.fn.nodes l.nodes (take l.i l.goals) l.numbered.items;
+  each : ReplacesEach HoldsOpen premise_at (premise_by (positioned l.leaves)) l.fn.nodes l.nodes (take l.i l.goals) l.numbered.items;
   extends : Extends l.fn.nodes l.nodes;
 }

@@ -9,6 +9,6 @@ use Rattle.nts_response.proofs.numbered.numbered_hidden.Given as goal
 
 abbrev pub invariant-loop-i : goal.invariant-loop-i
 invariant-loop-i l = record {
-  each : ReplacesEach IsHidden hidden_of (hidden_by (positioned l.leaves.keys)) l.fn.nodes l.nodes (take l.i l.hidden) l.numbered.items;
+  each : ReplacesEach IsHidden hidden_of (hidden_by (positioned l.leaves)) l.fn.nodes l.nodes (take l.i l.hidden) l.numbered.items;
   extends : Extends l.fn.nodes l.nodes;
 }

@@ -15,11 +15,11 @@ pub loop-i-preserved : goal.loop-i-preserved
 loop-i-preserved c =
     let up = c.position.ensures.extends in
     record {
-      each = replaced_more HoldsArg argument_value (positioned c.args.leaves.now.keys) values_kept c.args.nodes.now c.loop-i.nodes c.position.new.nodes c.args.values.now c.loop-i.numbered.items c.push.new.self.items c.loop-i.i _ c.in_ok-value.value
+      each = replaced_more HoldsArg argument_value (positioned c.args.leaves.now) values_kept c.args.nodes.now c.loop-i.nodes c.position.new.nodes c.args.values.now c.loop-i.numbered.items c.push.new.self.items c.loop-i.i _ c.in_ok-value.value
           c.loop-i.invariant.extends up c.requires (omega (arith, c.loop-i-test.true)) c.loop-i.invariant.each c.in_ok-value.ensures.holds c.in_ok-value.ensures.tree c.in_ok-push.ensures.items;
       extends = Extends-trans c.loop-i.invariant.extends up;
     }
 
 pub returns-clause-each : goal.returns-clause-each
 returns-clause-each c =
-    subst (λ xs. ReplacesEach HoldsArg argument_value (positioned c.args.leaves.now.keys) c.args.nodes.now c.loop-i.nodes xs c.loop-i.numbered.items) (take_all c.loop-i.i c.args.values.now (omega (arith, c.loop-i-test.false))) c.loop-i.invariant.each
+    subst (λ xs. ReplacesEach HoldsArg argument_value (positioned c.args.leaves.now) c.args.nodes.now c.loop-i.nodes xs c.loop-i.numbered.items) (take_all c.loop-i.i c.args.values.now (omega (arith, c.loop-i-test.false))) c.loop-i.invariant.each

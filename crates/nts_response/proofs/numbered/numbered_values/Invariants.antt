@@ -7,6 +7,6 @@ use Rattle.nts_response.proofs.numbered.numbered_values.Given as goal
 
 abbrev pub invariant-loop-i : goal.invariant-loop-i
 invariant-loop-i l = record {
-  each : ReplacesEach HoldsArg argument_value (positioned l.leaves.keys) l.fn.nodes l.nodes (take l.i l.values) l.numbered.items;
+  each : ReplacesEach HoldsArg argument_value (positioned l.leaves) l.fn.nodes l.nodes (take l.i l.values) l.numbered.items;
   extends : Extends l.fn.nodes l.nodes;
 }
