@@ -8,6 +8,7 @@
 pub mod canonical;
 pub mod clauses;
 pub mod delegate;
+pub mod explain;
 pub mod normalize;
 pub mod placeholder;
 pub mod resolve;

@@ -1,0 +1,4 @@
+mod FirstEquations
+mod Numbered
+mod Tried
+mod ReasonExamples

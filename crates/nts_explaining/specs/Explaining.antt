@@ -1,0 +1,53 @@
+-- What the reasons of a goal say.
+use Rattle.std.specs.Prelude.{◌≡◌, ◌⊎◌, ℕ, ◌+◌, ◌<◌, List, [], ◌∷◌, ◌++◌, length, take}
+use Rattle.nts_model.specs.Terms.Trees.{Tree}
+use Rattle.nts_model.specs.Tables.Contents.{Content}
+use Rattle.nts_model.specs.Refutation.Choosing.{MeetsEquations, IsCandidateMet}
+use Rattle.nts_model.specs.Derivations.Handlers.{Handler, Candidate}
+use Rattle.nts_store.specs.Growth.{tree_at}
+use Rattle.nts_unify.specs.Reading.{content_of}
+use Rattle.nts_table.specs.Tables.{Table}
+use Rattle.nts_terms.specs.declared.handles.Goal.{Goal}
+use Rattle.nts_terms.specs.declared.modes.TypingMode.{TypingMode}
+use Rattle.nts_terms.specs.Handles.{HoldsGoal}
+use Rattle.nts_terms.specs.Modes.{mode_of}
+use Rattle.nts_delegate.specs.Offered.{certainty_of}
+use Rattle.nts_asking.specs.Evaluation.{IsAskedGoal}
+use Rattle.nts_asking.specs.Meant.{offers_of}
+use Rattle.nts_trying.specs.Opening.{IsOpenedTo, CannotOpen}
+use Rattle.nts_explaining.specs.declared.kinds.Reason.{Reason}
+use Rattle.nts_explaining.specs.declared.kinds.Reason.TheVariants as reason
+
+-- some world of the table meets the first n equations of the candidate
+abbrev pub MeetsFirst : ℕ → Content → Candidate → Type 0
+MeetsFirst n c x = MeetsEquations c x.fresh (take n x.equations)
+
+-- the equation of the number n can't be met together with those before it, which can be, if there are any
+pub record StopsAtEquation (n : ℕ) (c : Content) (x : Candidate) : Type 0 where
+  pub within : 0 < length x.equations → n < length x.equations
+  pub before : (n ≡ 0) ⊎ MeetsFirst n c x
+  pub unmet : MeetsFirst (n + 1) c x → ⊥
+
+-- what a reason says of a candidate that is tried in a table
+abbrev pub Explains : Content → Candidate → Reason → Type 0
+Explains c x (reason.Equation n) = StopsAtEquation n c x
+Explains c x (reason.Condition n g y) = IsCandidateMet c x × (n < length x.goals)
+Explains c x reason.Leak = IsCandidateMet c x
+Explains c x (reason.Holds y) = IsCandidateMet c x × (certainty_of y ≡ x.certainty)
+
+-- the condition that a reason names is a goal of the store
+abbrev pub HoldsReason : List Tree → Reason → Type 0
+HoldsReason ts (reason.Condition n g y) = HoldsGoal ts g
+HoldsReason ts r = Unit {0}
+
+-- a reason for each of the candidates, in their order
+pub data ExplainsEach (c : Content) : List Candidate → List Reason → Type 0 where
+  none : ExplainsEach c [] []
+  more : {xs : List Candidate} {rs : List Reason} (x : Candidate) (r : Reason) → ExplainsEach c xs rs → Explains c x r → ExplainsEach c (xs ++ x ∷ []) (rs ++ r ∷ [])
+
+-- the goal of the table t and the store a is opened, and there is a reason for each candidate that the handler offers for it then;
+-- or no candidate answers it, since it can't be opened, or since handlers are not asked for such a goal, and there is no reason
+pub data GivesReasons (h : Handler) (mode : TypingMode) (a : List Tree) (t : Table) (g : Goal) : List Reason → Type 0 where
+  of_candidates : {rs : List Reason} (b : List Tree) (u : Table) (o : Goal) → IsOpenedTo a b t u g o → IsAskedGoal b o → ExplainsEach (content_of b u.entries) (offers_of h (mode_of mode) b o) rs → GivesReasons h mode a t g rs
+  is_unasked : (b : List Tree) (u : Table) (o : Goal) → IsOpenedTo a b t u g o → (IsAskedGoal b o → ⊥) → GivesReasons h mode a t g []
+  is_unopened : CannotOpen (tree_at a g.predicate.node) → GivesReasons h mode a t g []

@@ -1,0 +1,12 @@
+//! Explaining: why a goal is not answered yes, one level deep. Each candidate that the handler offers for it is tried in a probe,
+//! and what it comes to is told as data.
+#![tactic(auto)]
+
+mod candidates;
+mod conditions;
+mod equations;
+mod kinds;
+mod opening;
+
+pub use candidates::explain;
+pub use kinds::Reason;
