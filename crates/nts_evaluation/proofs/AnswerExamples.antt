@@ -1,9 +1,8 @@
 -- What is promised of the answers to goals of a store and a table: what meets it, and what does not.
-use Rattle.std.proofs.Common.{◌≡◌, ℕ, List, [], ◌∷◌, None, refl}
+use Rattle.std.proofs.Common.{ℕ, List, [], ◌∷◌, None, refl}
 use Rattle.nts_model.specs.declared.labels.VariableKind.TheVariants as kind
-use Rattle.nts_model.specs.Terms.Trees.{Tree, empty}
-use Rattle.nts_model.specs.Derivations.Related.{pair}
-use Rattle.nts_model.specs.Derivations.Handlers.{Handler, never_leaks}
+use Rattle.nts_model.specs.Terms.Trees.{Tree}
+use Rattle.nts_model.specs.Derivations.Handlers.{Handler}
 use Rattle.nts_certainty.specs.declared.certainty.Certainty.{Certainty}
 use Rattle.nts_certainty.specs.declared.certainty.Certainty.TheVariants as certainty
 use Rattle.nts_certainty.specs.declared.certainty.MaybeCause.TheVariants as cause
@@ -15,7 +14,6 @@ use Rattle.nts_terms.specs.declared.modes.TypingMode.TheVariants as modes
 use Rattle.nts_unify.specs.declared.contents.Variable.{Variable}
 use Rattle.nts_unify.specs.declared.contents.State.{State}
 use Rattle.nts_unify.specs.declared.contents.State.TheVariants.{Unset, Known}
-use Rattle.nts_unify.specs.Entries.{Entries}
 use Rattle.nts_table.specs.Tables.{Table}
 use Rattle.nts_theory.proofs.Refutation.Tight.{tight_respects}
 use Rattle.nts_theory.proofs.Examples.InputExamples.{no_clauses as nowhere}
@@ -28,14 +26,14 @@ use Rattle.nts_evaluation.specs.Solutions.{IsCoherenceOf, HasNoSolutionUnder, Ke
 abbrev store : List Tree
 store = nowhere ∷ auto_list ∷ auto_of other_type ∷ auto_of variable ∷ other_type ∷ []
 
-abbrev node_at : ℕ → NodeId
+abbrev pub node_at : ℕ → NodeId
 node_at n = record { number = n }
 
-abbrev goal_at : ℕ → Goal
+abbrev pub goal_at : ℕ → Goal
 goal_at n = record { param_env = record { node = node_at 0 }; predicate = record { node = node_at n } }
 
 -- a table of coherence with these variables
-abbrev table_with : List Variable → List ℕ → Table
+abbrev pub table_with : List Variable → List ℕ → Table
 table_with vs order =
     record { entries = record { variables = vs; order = order; universe = 0; constraints = []; hidden = record { lookup = []; duplicates = [] } }; saved = []; mode = modes.Coherence }
 

@@ -1,10 +1,9 @@
 -- A call that fails, and does not say that there is no solution, promises no more than how the search went on.
-use Rattle.std.proofs.Common.{◌≡◌, ◌≢◌, List, Result, Ok, Err, true, false, refl}
+use Rattle.std.proofs.Common.{ℕ, Bool, ◌≡◌, ◌≢◌, List, Result, Ok, Err, true, refl}
 use Rattle.std.specs.Global.{Box}
 use Rattle.std.specs.Result.{is_err}
 use Rattle.std.proofs.lemmas.Result.{IfOk-from_err}
 use Rattle.nts_certainty.specs.declared.sources.PathKind.{PathKind}
-use Rattle.nts_certainty.specs.declared.certainty.Certainty.{Certainty}
 use Rattle.nts_store.specs.declared.fault.EvalError.{EvalError}
 use Rattle.nts_store.specs.declared.fault.EvalError.TheVariants as error
 use Rattle.nts_terms.specs.declared.cx.Cx.{Cx}
@@ -15,12 +14,12 @@ use Rattle.nts_table.specs.Tables.{Table}
 use Rattle.nts_canonical.specs.declared.types.Canonical.{Canonical}
 use Rattle.nts_canonical.specs.declared.types.CanonicalInput.{CanonicalInput}
 use Rattle.nts_response.specs.declared.types.Response.{Response}
-use Rattle.nts_delegate.specs.declared.delegate.CandidateData.{CandidateData}
 use Rattle.nts_search.specs.declared.stack.SearchGraph.{SearchGraph}
 use Rattle.nts_asking.specs.Searching.{Searches}
 use Rattle.nts_model.specs.Derivations.Handlers.{Handler}
 use Rattle.nts_evaluation.specs.Promises.{IsAnswered, AnswersQuery, AnswersGoal, AnswersBy}
 use Rattle.nts_asking.specs.Meant.{Rules}
+use Rattle.nts_evaluation.proofs.Deciding.{decides_fault}
 
 -- an error that is not that there is no solution is no answer
 never_answered : (r : Result (Box (Canonical Response)) EvalError) → is_err r ≡ true → r ≢ Err error.NoSolution → IsAnswered r → ⊥
@@ -29,11 +28,11 @@ never_answered (Err error.NoSolution) fails other h = other refl
 never_answered (Err error.Memory) fails other h = h
 never_answered (Err error.Full) fails other h = h
 
-pub query_failed : {R : Rules} {a b : Cx} {g h : SearchGraph} {input : CanonicalInput} {step : PathKind} (r : Result (Box (Canonical Response)) EvalError) → is_err r ≡ true → r ≢ Err error.NoSolution → Grows a b → Searches a b g h → AnswersQuery R a b g h input step r
-query_failed r fails other grows searches = record { grows = grows; searches = searches; counted = λ none limit answered. absurd (never_answered r fails other answered); fits = IfOk-from_err r _ fails; proved = λ s. IfOk-from_err r _ fails; told = λ s tells. IfOk-from_err r _ fails; refuted = λ s tells n. absurd (other n) }
+pub query_failed : {R : Rules} {a b : Cx} {g h : SearchGraph} {input : CanonicalInput} {step : PathKind} {depth : ℕ} (r : Result (Box (Canonical Response)) EvalError) → is_err r ≡ true → r ≢ Err error.NoSolution → Grows a b → Searches a b g h → AnswersQuery R a b g h input step depth r
+query_failed r fails other grows searches = record { grows = grows; searches = searches; counted = λ none limit answered. absurd (never_answered r fails other answered); fits = IfOk-from_err r _ fails; proved = λ s. IfOk-from_err r _ fails; told = λ s tells. IfOk-from_err r _ fails; refuted = λ s tells n. absurd (other n); decided = λ s n b d can. decides_fault r fails other }
 
-pub goal_failed : {R : Rules} {a b : Cx} {g h : SearchGraph} {t : Table} {goal : Goal} {values : List GenericArg} (r : Result (Box (Canonical Response)) EvalError) → is_err r ≡ true → r ≢ Err error.NoSolution → Grows a b → Searches a b g h → AnswersGoal R a b g h t goal values r
-goal_failed r fails other grows searches = record { grows = grows; searches = searches; found = IfOk-from_err r _ fails; told = λ s tells. IfOk-from_err r _ fails; refuted = λ s tells n. absurd (other n) }
+pub goal_failed : {R : Rules} {a b : Cx} {g h : SearchGraph} {t : Table} {goal : Goal} {values : List GenericArg} {depth : ℕ} (r : Result (Box (Canonical Response)) EvalError) → is_err r ≡ true → r ≢ Err error.NoSolution → Grows a b → Searches a b g h → AnswersGoal R a b g h t goal values depth r
+goal_failed r fails other grows searches = record { grows = grows; searches = searches; found = IfOk-from_err r _ fails; told = λ s tells. IfOk-from_err r _ fails; refuted = λ s tells n. absurd (other n); decided = λ s n b d can. decides_fault r fails other }
 
-pub try_failed : {Offered : Handler → Type 0} {Told : Handler → Canonical Response → Type 0} {Failed : Handler → Type 0} {R : Rules} {a b : Cx} {g h : SearchGraph} {t u : Table} {goal : Goal} {values : List GenericArg} (r : Result (Box (Canonical Response)) EvalError) → is_err r ≡ true → r ≢ Err error.NoSolution → u ≡ t → Grows a b → Searches a b g h → AnswersBy Offered Told Failed R a b g h t u goal values r
-try_failed r fails other same grows searches = record { same = same; grows = grows; searches = searches; found = IfOk-from_err r _ fails; told = λ s tells. IfOk-from_err r _ fails; refuted = λ s tells n. absurd (other n) }
+pub try_failed : {Offered : Handler → Type 0} {Told : Handler → Canonical Response → Type 0} {Failed : Handler → Type 0} {Settled : Handler → ℕ → Bool → Type 0} {R : Rules} {a b : Cx} {g h : SearchGraph} {t u : Table} {goal : Goal} {values : List GenericArg} {depth : ℕ} (r : Result (Box (Canonical Response)) EvalError) → is_err r ≡ true → r ≢ Err error.NoSolution → u ≡ t → Grows a b → Searches a b g h → AnswersBy Offered Told Failed Settled R a b g h t u goal values depth r
+try_failed r fails other same grows searches = record { same = same; grows = grows; searches = searches; found = IfOk-from_err r _ fails; told = λ s tells. IfOk-from_err r _ fails; refuted = λ s tells n. absurd (other n); decided = λ s n b d can. decides_fault r fails other }

@@ -1,11 +1,8 @@
 -- A run of a candidate, after the handler's leak check.
-use Rattle.std.proofs.Common.{◌≡◌, ◌⊎◌, ⊎_elim, inl, inr, ℕ, List, refl, arith, sym, ap, ◌∙◌, subst}
+use Rattle.std.proofs.Common.{◌≡◌, ◌⊎◌, inl, inr, ℕ, arith, sym, ◌∙◌, subst}
 use Rattle.std.specs.Prelude.{Result, Ok, Err, IfOk, IfErr, OnOk}
-use Rattle.nts_model.specs.Terms.Trees.{Tree}
-use Rattle.nts_model.specs.Derivations.Handlers.{Handler}
 use Rattle.nts_store.specs.declared.fault.EvalError.{EvalError}
 use Rattle.nts_store.specs.declared.fault.EvalError.TheVariants as error
-use Rattle.nts_store.specs.Growth.{tree_at}
 use Rattle.nts_store.proofs.Growing.{IsIn-extended}
 use Rattle.nts_certainty.specs.declared.certainty.Certainty.{Certainty}
 use Rattle.nts_certainty.specs.declared.certainty.Certainty.TheVariants as certainty
@@ -25,7 +22,8 @@ use Rattle.nts_asking.specs.Meant.{Rules, Since, FailsIn, HasRunTo}
 use Rattle.nts_asking.specs.Searching.{IsSearch}
 use Rattle.nts_asking.proofs.Evaluating.{Runs-trans, Runs-extends}
 use Rattle.nts_asking.proofs.Searching.{search_later, search_grown, covers_grown, served_more}
-use Rattle.nts_evaluation.specs.Promises.{RunsOne, BringsOnlyOf}
+use Rattle.nts_evaluation.specs.Promises.{RunsOne}
+use Rattle.nts_evaluation.proofs.DecidedCandidates.{checked_decided}
 
 -- what is checked is answered by what ran, where it is answered
 ok_ran : {X E : Type 0} (P : Type 0) (r s : Result X E) → IfOk s (λ y. r ≡ Ok y) → OnOk r P → OnOk s P
@@ -42,13 +40,13 @@ leaks_or_not Refused Leaks Ran (Ok y) s h ran e refused (inr l) leaks = leaks ra
 leaks_or_not Refused Leaks Ran (Err x) s h ran e refused d leaks = refused (sym h ∙ e)
 
 module _ {R : Rules} {a b c : Cx} {g h : SearchGraph} {t u : Table} {goal : Goal} {x : CandidateData} (n : ℕ) (r s : Result Certainty EvalError)
-    (search : IsSearch a g n) (holds : HoldsGoal a.nodes goal) (ran : RunsOne R a b g h t u goal x r) (grows : Grows b c)
+    (search : IsSearch a g n) (holds : HoldsGoal a.nodes goal) (ran : RunsOne R a b g h t u goal x n r) (grows : Grows b c)
     (ok : IfOk s (λ y. r ≡ Ok y)) (err : IfErr r (λ e. s ≡ Err e)) (leaks : s ≡ Err error.NoSolution → r ≡ Err error.NoSolution ⊎ (R.handler b.nodes).leaks (content_of b.nodes u.entries) 0)
     (means : (z : Since R.ready a) → MeansSame (R.handler b.nodes) (R.handler z.base)) where
   same : content_of c.nodes u.entries ≡ content_of b.nodes u.entries
   same = (let goes = ran.runs.goes in content_of-extended grows.extends goes.table.now)
 
-  pub checked : RunsOne R a c g h t u goal x s
+  pub checked : RunsOne R a c g h t u goal x n s
   checked =
       let goes = ran.runs.goes in
       record {
@@ -63,4 +61,7 @@ module _ {R : Rules} {a b c : Cx} {g h : SearchGraph} {t u : Table} {goal : Goal
         refuted = λ z tells e.
             leaks_or_not (FailsIn (R.handler z.base) t.mode a.nodes t x) _ (HasRunTo (R.handler z.base) t.mode a.nodes t b.nodes u x) r s err (ran.told z tells) e (ran.refuted z tells) (leaks e)
             (λ to l. is_leaky to.values to.met (content_of b.nodes u.entries) to.begun to.reaches (let m = means z in m.leaks (content_of b.nodes u.entries) 0 l));
+        decided = λ z j k d can.
+            checked_decided (R.handler z.base) (content_of b.nodes u.entries) r s can.tight ok
+            (λ e. elim (leaks e) [ inl q ↦ inl q | inr l ↦ inr (let m = means z in m.leaks (content_of b.nodes u.entries) 0 l) ]) (ran.decided z j k d can);
       }

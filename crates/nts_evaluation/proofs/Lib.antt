@@ -2,3 +2,11 @@ mod Failing
 mod Coherence
 mod Leaking
 mod AnswerExamples
+mod Deciding
+mod DecidedSteps
+mod DecidedCandidates
+mod DecidedTrials
+mod DecidedQueries
+mod DecidedGoals
+mod DecidedRounds
+mod DecidedExamples

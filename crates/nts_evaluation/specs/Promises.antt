@@ -1,6 +1,6 @@
 -- What the calls of an evaluation promise: one record for each family of calls.
 use Rattle.std.specs.Global.{Box}
-use Rattle.std.specs.Prelude.{◌≡◌, ◌⊎◌, ℕ, ◌<◌, ◌≤◌, List, Result, Err, ◌≢◌, [], ◌∷◌, Ok, IfOk, IfSome, OnOk, OnErr, IsTrue}
+use Rattle.std.specs.Prelude.{◌≡◌, ◌⊎◌, ℕ, ◌<◌, ◌≤◌, List, Result, Err, ◌≢◌, [], ◌∷◌, ◌+◌, Bool, false, Ok, IfOk, IfSome, OnOk, OnErr, IsTrue}
 use Rattle.nts_model.specs.Terms.Trees.{Tree}
 use Rattle.nts_model.specs.Derivations.Handlers.{Handler}
 use Rattle.nts_model.specs.Derivations.Proofs.{Assumed, passed}
@@ -38,13 +38,14 @@ use Rattle.nts_trying.specs.declared.steps.Step.{Step}
 use Rattle.nts_asking.specs.declared.round.Round.{Round}
 use Rattle.nts_asking.specs.declared.round.Ended.{Ended}
 use Rattle.nts_trying.specs.Found.{Found}
+use Rattle.nts_evaluation.specs.Deciding.{IsQueryDecided, CanDecide, IsBelow, IsAsBefore, Decides, IsYes, IsYesUnchanged, IsOwnYes, IsRoundDecided, IsRootQuery, AreRootValues, CandidatesSettled, IsSettled, GoalsSettled}
+use Rattle.nts_decisions.specs.Deciding.{IsGoalDecided}
 use Rattle.nts_trying.specs.Stopping.{StopsIn}
 use Rattle.nts_trying.specs.Stepping.{ArePosed, AreLeft, AreSettled, terms_of, bound_of}
 use Rattle.nts_trying.specs.declared.steps.AvailableDepth.{AvailableDepth}
 use Rattle.nts_asking.specs.Evaluation.{Runs, asked_terms}
 use Rattle.nts_store.specs.declared.fault.EvalError.TheVariants as error
 use Rattle.nts_certainty.specs.declared.certainty.Certainty.TheVariants as certainty
-use Rattle.nts_search.specs.declared.kinds.CurrentGoalKind.TheVariants as kinds
 use Rattle.nts_store.specs.Growth.{tree_at}
 use Rattle.nts_model.specs.Tables.Resolving.{deeply_resolved}
 
@@ -52,6 +53,11 @@ use Rattle.nts_model.specs.Tables.Resolving.{deeply_resolved}
 -- handler meant then
 abbrev pub WhereTold : Rules → Cx → SearchGraph → (Handler → Type 0) → Type 0
 WhereTold R a g P = (s : Since R.ready a) → HeadsTell (R.handler s.base) a.nodes g → P (R.handler s.base)
+
+-- since any such store: where a goal is decided so, and the search may go so deep, it is answered as it is decided
+abbrev pub AnswersDecided : {A : Type 0} → Rules → Cx → SearchGraph → SearchGraph → ℕ → (Handler → ℕ → Bool → Type 0) → Result A EvalError → (A → Type 0) → Type 0
+AnswersDecided R a g h depth Is r P =
+    Always R a (λ s. (n : ℕ) (b : Bool) → Is (R.handler s.base) n b → CanDecide (R.handler s.base) a g n depth → Decides b r P g h)
 
 -- what is assumed behind a step of that kind
 abbrev pub assumed_behind : PathKind → Cx → SearchGraph → List Assumed
@@ -64,7 +70,7 @@ IsAnswered (Err error.NoSolution) = Unit {0}
 IsAnswered (Err e) = ⊥
 
 -- a query of that input is answered, which a step of that kind asks
-pub record AnswersQuery (R : Rules) (a b : Cx) (g h : SearchGraph) (input : CanonicalInput) (step : PathKind) (r : Result (Box (Canonical Response)) EvalError) : Type 0 where
+pub record AnswersQuery (R : Rules) (a b : Cx) (g h : SearchGraph) (input : CanonicalInput) (step : PathKind) (depth : ℕ) (r : Result (Box (Canonical Response)) EvalError) : Type 0 where
   pub grows : Grows a b
   pub searches : Searches a b g h
   -- a round was counted, where the input did not stand on the stack
@@ -76,13 +82,15 @@ pub record AnswersQuery (R : Rules) (a b : Cx) (g h : SearchGraph) (input : Cano
   -- and an answer is told, or refuted
   pub told : WhereTold R a g (λ m. IfAnswered r (IsQueryTold m (mode_of input.typing_mode) a.nodes input b.nodes))
   pub refuted : WhereTold R a g (λ m. r ≡ Err error.NoSolution → IsQueryRefuted m (mode_of input.typing_mode) a.nodes input ⊎ IsCut a.nodes g (form_of a.nodes input) input.typing_mode step)
+  -- what is decided is answered so, and the positions are their own values
+  pub decided : AnswersDecided R a g h (depth + 1) (λ m n b. IsBelow n (λ k. IsQueryDecided m (mode_of input.typing_mode) k (form_of a.nodes input) b)) r (λ x. IsOwnYes b.nodes (kinds_of input) x.value)
 
 -- what a table came to stand for has only labels of these trees
 abbrev pub BringsOnlyOf : List Tree → Cx → Table → Cx → Table → Type 0
 BringsOnlyOf ts a t b u = BringsOnly ts (content_of a.nodes t.entries) (content_of b.nodes u.entries)
 
 -- a goal of a table is asked in a query of its own, by a step of that kind
-pub record AsksGoal (R : Rules) (a b : Cx) (g h : SearchGraph) (t u : Table) (goal : Goal) (step : PathKind) (r : Result Evaluated EvalError) : Type 0 where
+pub record AsksGoal (R : Rules) (a b : Cx) (g h : SearchGraph) (t u : Table) (goal : Goal) (step : PathKind) (depth : ℕ) (r : Result Evaluated EvalError) : Type 0 where
   pub runs : Runs a b t u
   pub searches : Searches a b g h
   pub err : OnErr r (u ≡ t)
@@ -90,6 +98,7 @@ pub record AsksGoal (R : Rules) (a b : Cx) (g h : SearchGraph) (t u : Table) (go
   pub proved : Always R a (λ s. IfSure r (IsProvedFromSince R.handler s t.mode (assumed_behind step b h) b.nodes u goal))
   pub told : WhereTold R a g (λ m. IfOk r (λ e. EvaluatesGoal m t.mode a.nodes t b.nodes u goal e.certainty e.has_changed))
   pub refuted : WhereTold R a g (λ m. r ≡ Err error.NoSolution → IsRefusedIn m t.mode a.nodes t goal ⊎ IsGoalCut a.nodes g (content_of a.nodes t.entries) t.mode (tree_at a.nodes goal.param_env.node) (tree_at a.nodes goal.predicate.node) step)
+  pub decided : AnswersDecided R a g h (depth + 1) (λ m n b. IsBelow n (λ k. IsGoalDecided m (mode_of t.mode) k (tree_at a.nodes goal.param_env.node) (tree_at a.nodes goal.predicate.node) b)) r IsYesUnchanged
 
 -- .. as the table knows it; or not at all, where no depth is left for it: then the overflow is marked
 pub record AsksAdded (R : Rules) (a b : Cx) (g h : SearchGraph) (t u : Table) (goal : Goal) (step : PathKind) (depth : AvailableDepth) (r : Result Evaluated EvalError) : Type 0 where
@@ -101,9 +110,10 @@ pub record AsksAdded (R : Rules) (a b : Cx) (g h : SearchGraph) (t u : Table) (g
   pub marks : bound_of depth ≡ 0 → IsTrue h.has_overflowed
   pub told : WhereTold R a g (λ m. IfOk r (λ e. EvaluatesUnder m t.mode a.nodes t b.nodes u goal e.certainty e.has_changed ⊎ (bound_of depth ≡ 0) × (u.entries ≡ t.entries)))
   pub refuted : WhereTold R a g (λ m. r ≡ Err error.NoSolution → IsRefusedUnder m t.mode a.nodes t goal ⊎ (let c = content_of a.nodes t.entries in IsGoalCut a.nodes g c t.mode (deeply_resolved c (tree_at a.nodes goal.param_env.node)) (deeply_resolved c (tree_at a.nodes goal.predicate.node)) step))
+  pub decided : AnswersDecided R a g h (bound_of depth) (λ m n b. IsBelow n (λ k. (let c = content_of a.nodes t.entries in IsGoalDecided m (mode_of t.mode) k (deeply_resolved c (tree_at a.nodes goal.param_env.node)) (deeply_resolved c (tree_at a.nodes goal.predicate.node)) b))) r IsYesUnchanged
 
 -- a round of a query: the input was on the stack, and is off it again
-pub record EndsRound (R : Rules) (a b : Cx) (g h : SearchGraph) (asked : Round) (step : PathKind) (r : Result (Box Ended) EvalError) : Type 0 where
+pub record EndsRound (R : Rules) (a b : Cx) (g h : SearchGraph) (asked : Round) (step : PathKind) (depth : ℕ) (r : Result (Box Ended) EvalError) : Type 0 where
   pub grows : Grows a b
   pub searches : Searches a b g h
   pub entry : IfOk r (λ z. (z.value.entry.input ≡ asked.input) × (z.value.entry.step_kind ≡ step) × (z.value.entry.provisional ≡ asked.provisional))
@@ -113,44 +123,51 @@ pub record EndsRound (R : Rules) (a b : Cx) (g h : SearchGraph) (asked : Round) 
   pub told : WhereTold R a g (λ m. IsAnswerTold m (mode_of asked.input.typing_mode) a.nodes (form_of a.nodes asked.input) asked.provisional
       → IfOk r (λ z. IsAnswerTold m (mode_of asked.input.typing_mode) b.nodes (form_of a.nodes asked.input) z.value.answer))
   pub no : r ≢ Err error.NoSolution
+  -- a decided goal reads no provisional answer
+  pub decided : Always R a (λ s. (n : ℕ) (k : Bool) → IsBelow n (λ m. IsQueryDecided (R.handler s.base) (mode_of asked.input.typing_mode) m (form_of a.nodes asked.input) k) → CanDecide (R.handler s.base) a g n (depth + 1)
+      → IfOk r (λ z. (z.value.entry.is_read ≡ false) × IsRoundDecided k b.nodes (kinds_of asked.input) z.value.answer × IsAsBefore g h))
 
 -- a goal of a query's table is answered for the terms that stand for its positions
-pub record AnswersGoal (R : Rules) (a b : Cx) (g h : SearchGraph) (t : Table) (goal : Goal) (values : List GenericArg) (r : Result (Box (Canonical Response)) EvalError) : Type 0 where
+pub record AnswersGoal (R : Rules) (a b : Cx) (g h : SearchGraph) (t : Table) (goal : Goal) (values : List GenericArg) (depth : ℕ) (r : Result (Box (Canonical Response)) EvalError) : Type 0 where
   pub grows : Grows a b
   pub searches : Searches a b g h
   pub found : IfAnswered r (Found (λ c u. Always R a (λ s. IsProvedNow R.handler s t.mode (assumed_in b.nodes h) c u goal)) a.nodes b.nodes t goal values)
   pub told : WhereTold R a g (λ m. IfAnswered r (IsTold m t.mode a.nodes t goal values b.nodes))
   pub refuted : WhereTold R a g (λ m. r ≡ Err error.NoSolution → IsRefuted m t.mode a.nodes t goal values)
+  pub decided : AnswersDecided R a g h depth (λ m n b. IsRootQuery a.nodes t goal values × IsGoalDecided m (mode_of t.mode) n (tree_at a.nodes goal.param_env.node) (tree_at a.nodes goal.predicate.node) b) r (λ x. IsYes x.value.value.certainty)
 
--- .. by candidates, of which what is offered is said where they are offered: `Offered`, and what is told and refuted of them
-pub record AnswersBy (Offered : Handler → Type 0) (Told : Handler → Canonical Response → Type 0) (Failed : Handler → Type 0) (R : Rules) (a b : Cx) (g h : SearchGraph) (t u : Table) (goal : Goal)
-    (values : List GenericArg) (r : Result (Box (Canonical Response)) EvalError) : Type 0 where
+-- .. by candidates, of which what is offered is said where they are offered: `Offered`; what is told and refuted of them; and how
+-- they fare where the goal is decided
+pub record AnswersBy (Offered : Handler → Type 0) (Told : Handler → Canonical Response → Type 0) (Failed : Handler → Type 0) (Settled : Handler → ℕ → Bool → Type 0) (R : Rules) (a b : Cx) (g h : SearchGraph) (t u : Table) (goal : Goal)
+    (values : List GenericArg) (depth : ℕ) (r : Result (Box (Canonical Response)) EvalError) : Type 0 where
   pub same : u ≡ t
   pub grows : Grows a b
   pub searches : Searches a b g h
   pub found : IfAnswered r (Found (λ c v. Always R a (λ s. Offered (R.handler s.base) → IsServedSince R.handler s t.mode (assumed_in b.nodes h) c v goal)) a.nodes b.nodes t goal values)
   pub told : WhereTold R a g (λ m. IfAnswered r (Told m))
   pub refuted : WhereTold R a g (λ m. r ≡ Err error.NoSolution → Failed m)
+  pub decided : AnswersDecided R a g h depth (λ m n b. AreRootValues a.nodes values × Settled m n b) r (λ x. IsYes x.value.value.certainty)
 
-abbrev pub TriesEach : Rules → Cx → Cx → SearchGraph → SearchGraph → Table → Table → Goal → List GenericArg → List CandidateData → Result (Box (Canonical Response)) EvalError → Type 0
-TriesEach R a b g h t u goal values xs r =
-    AnswersBy (λ m. AreOffered m t.mode a.nodes goal xs) (λ m. CandidatesTell m t.mode a.nodes t goal values xs b.nodes) (λ m. HaveOutcomes m t.mode a.nodes t goal values xs []) R a b g h t u goal values r
+abbrev pub TriesEach : Rules → Cx → Cx → SearchGraph → SearchGraph → Table → Table → Goal → List GenericArg → List CandidateData → ℕ → Result (Box (Canonical Response)) EvalError → Type 0
+TriesEach R a b g h t u goal values xs depth r =
+    AnswersBy (λ m. AreOffered m t.mode a.nodes goal xs) (λ m. CandidatesTell m t.mode a.nodes t goal values xs b.nodes) (λ m. HaveOutcomes m t.mode a.nodes t goal values xs []) (λ m n k. CandidatesSettled m t.mode n a.nodes t xs k) R a b g h t u goal values depth r
 
-abbrev pub TriesOne : Rules → Cx → Cx → SearchGraph → SearchGraph → Table → Table → Goal → List GenericArg → CandidateData → Result (Box (Canonical Response)) EvalError → Type 0
-TriesOne R a b g h t u goal values x r =
-    AnswersBy (λ m. IsOffered m t.mode a.nodes goal x) (λ m. RepliesWith m t.mode a.nodes t goal values x b.nodes) (λ m. FailsIn m t.mode a.nodes t x) R a b g h t u goal values r
+abbrev pub TriesOne : Rules → Cx → Cx → SearchGraph → SearchGraph → Table → Table → Goal → List GenericArg → CandidateData → ℕ → Result (Box (Canonical Response)) EvalError → Type 0
+TriesOne R a b g h t u goal values x depth r =
+    AnswersBy (λ m. IsOffered m t.mode a.nodes goal x) (λ m. RepliesWith m t.mode a.nodes t goal values x b.nodes) (λ m. FailsIn m t.mode a.nodes t x) (λ m n k. IsSettled m t.mode n a.nodes t x k) R a b g h t u goal values depth r
 
 -- a candidate is run, and what it did stays in the table
-pub record RunsOne (R : Rules) (a b : Cx) (g h : SearchGraph) (t u : Table) (goal : Goal) (x : CandidateData) (r : Result Certainty EvalError) : Type 0 where
+pub record RunsOne (R : Rules) (a b : Cx) (g h : SearchGraph) (t u : Table) (goal : Goal) (x : CandidateData) (depth : ℕ) (r : Result Certainty EvalError) : Type 0 where
   pub runs : Runs a b t u
   pub searches : Searches a b g h
   pub labels : OnOk r (BringsOnlyOf (asked_terms a.nodes goal) a t b u)
   pub proved : Always R a (λ s. IsOffered (R.handler s.base) t.mode a.nodes goal x → r ≡ Ok certainty.Yes → IsServedSince R.handler s t.mode (assumed_in b.nodes h) b.nodes u goal)
   pub told : WhereTold R a g (λ m. OnOk r (HasRunTo m t.mode a.nodes t b.nodes u x))
   pub refuted : WhereTold R a g (λ m. r ≡ Err error.NoSolution → FailsIn m t.mode a.nodes t x)
+  pub decided : AnswersDecided R a g h depth (λ m n k. IsSettled m t.mode n a.nodes t x k) r IsYes
 
 -- goals are asked in steps: `left` are those that are left. After an error too the table is one that asking some of them leaves
-pub record StepsGoals (R : Rules) (a b : Cx) (g h : SearchGraph) (t u : Table) (given gone : List (GoalSource × Goal)) (kind : CurrentGoalKind) (n : ℕ) (r : Result Certainty EvalError) : Type 0 where
+pub record StepsGoals (R : Rules) (a b : Cx) (g h : SearchGraph) (t u : Table) (given gone : List (GoalSource × Goal)) (kind : CurrentGoalKind) (depth : AvailableDepth) (n : ℕ) (r : Result Certainty EvalError) : Type 0 where
   pub runs : Runs a b t u
   pub searches : Searches a b g h
   pub steps : n ≤ a.step_limit
@@ -162,9 +179,10 @@ pub record StepsGoals (R : Rules) (a b : Cx) (g h : SearchGraph) (t u : Table) (
   pub sure : r ≡ Ok certainty.Yes → gone ≡ []
   pub told : WhereTold R a g (λ m. ReachesBy m t.mode a.nodes t b.nodes u given)
   pub refuted : WhereTold R a g (λ m. r ≡ Err error.NoSolution → StopsIn g kind m t.mode a.nodes (content_of a.nodes t.entries) given)
+  pub decided : AnswersDecided R a g h (bound_of depth) (λ m i k. GoalsSettled m t.mode i a.nodes t given k) r IsYes
 
 -- .. and each of them once
-pub record StepsOnce (R : Rules) (a b : Cx) (g h : SearchGraph) (t u : Table) (given : List (GoalSource × Goal)) (kind : CurrentGoalKind) (r : Result Step EvalError) : Type 0 where
+pub record StepsOnce (R : Rules) (a b : Cx) (g h : SearchGraph) (t u : Table) (given : List (GoalSource × Goal)) (kind : CurrentGoalKind) (depth : AvailableDepth) (r : Result Step EvalError) : Type 0 where
   pub runs : Runs a b t u
   pub searches : Searches a b g h
   pub posed : IfOk r (λ z. ArePosed b.nodes u z.left.items)
@@ -174,3 +192,5 @@ pub record StepsOnce (R : Rules) (a b : Cx) (g h : SearchGraph) (t u : Table) (g
   pub sure : IfOk r (λ z. z.certainty ≡ certainty.Yes → z.left.items ≡ [])
   pub told : WhereTold R a g (λ m. ReachesBy m t.mode a.nodes t b.nodes u given)
   pub refuted : WhereTold R a g (λ m. r ≡ Err error.NoSolution → StopsIn g kind m t.mode a.nodes (content_of a.nodes t.entries) given)
+  -- goals that are decided are certain after one step, which finds nothing out
+  pub decided : AnswersDecided R a g h (bound_of depth) (λ m i k. GoalsSettled m t.mode i a.nodes t given k) r (λ z. (z.certainty ≡ certainty.Yes) × (z.has_changed ≡ false))

@@ -45,7 +45,7 @@ pub fn evaluate_goal<H: GoalHandler>(
     requires ready { H.ready cx.old.nodes handler.now }
     requires search { IsSearch cx.old graph.old (depth + 1) }
     ensures { AsksGoal (rules_of H.ready H.handler handler.now) cx.old cx.new graph.old graph.new
-        table.old table.new goal step result }
+        table.old table.new goal step depth result }
 {
     let (originals, input) = boxed_query(table, cx, goal)?;
     let answer = search(cx, handler, graph, input, step, depth)?;
@@ -68,7 +68,7 @@ pub fn search<H: GoalHandler>(
     requires ready { H.ready cx.old.nodes handler.now }
     requires search { IsSearch cx.old graph.old (depth + 1) }
     ensures { AnswersQuery (rules_of H.ready H.handler handler.now) cx.old cx.new
-        graph.old graph.new input.value step result }
+        graph.old graph.new input.value step depth result }
 {
     if let Some(head) = graph.find(cx, &input) {
         return answer_cycle(cx, graph, head, &input, step);
@@ -95,7 +95,7 @@ fn evaluate_rounds<H: GoalHandler>(
     requires ready { H.ready cx.old.nodes handler.now }
     requires search { IsSearch cx.old graph.old (depth + 1) }
     ensures { AnswersQuery (rules_of H.ready H.handler handler.now) cx.old cx.new
-        graph.old graph.new input.value step result }
+        graph.old graph.new input.value step depth result }
 {
     let mut asked = first_round(cx, input)?;
     for round in 0..cx.round_limit() {
@@ -127,7 +127,7 @@ fn evaluate_round<H: GoalHandler>(
     requires ready { H.ready cx.old.nodes handler.now }
     requires search { IsSearch cx.old graph.old (depth + 1) }
     ensures { EndsRound (rules_of H.ready H.handler handler.now) cx.old cx.new graph.old graph.new
-        asked.value step result }
+        asked.value step depth result }
 {
     let (mut table, goal, values) = query_table(cx, &asked.input)?;
     push_query(graph, asked, step)?;
@@ -153,7 +153,7 @@ fn compute_goal<H: GoalHandler>(
     requires values { All (IsArgOf cx.old.nodes table.old.entries) values.now }
     requires search { IsSearch cx.old graph.old (depth) }
     ensures { AnswersGoal (rules_of H.ready H.handler handler.now) cx.old cx.new graph.old graph.new
-        table.old goal values.now result }
+        table.old goal values.now depth result }
 {
     let opened = enter_forall(table, cx, goal)?;
     cx.terms_are_formed();
@@ -169,7 +169,16 @@ fn compute_goal<H: GoalHandler>(
         GoalRow::Candidates(opened) => opened,
     };
     let candidates = handler.relevant_candidates(cx, table.typing_mode(), opened)?;
-    let response = evaluate_candidates(table, cx, handler, graph, opened, &candidates, values, depth);
+    let response = evaluate_candidates(
+        table,
+        cx,
+        handler,
+        graph,
+        opened,
+        &candidates,
+        values,
+        depth,
+    );
     cx.terms_are_formed();
     response
 }
@@ -194,7 +203,7 @@ fn evaluate_candidates<H: GoalHandler>(
     requires values { All (IsArgOf cx.old.nodes table.old.entries) values.now }
     requires search { IsSearch cx.old graph.old (depth) }
     ensures { TriesEach (rules_of H.ready H.handler handler.now) cx.old cx.new graph.old graph.new
-        table.old table.new goal values.now candidates.now result }
+        table.old table.new goal values.now candidates.now depth result }
 {
     let mut responses = Vec::new(cx.alloc);
     for candidate in candidates {
@@ -224,7 +233,7 @@ fn probe_candidate<H: GoalHandler>(
     requires values { All (IsArgOf cx.old.nodes table.old.entries) values.now }
     requires search { IsSearch cx.old graph.old (depth) }
     ensures { TriesOne (rules_of H.ready H.handler handler.now) cx.old cx.new graph.old graph.new
-        table.old table.new goal values.now candidate.now result }
+        table.old table.new goal values.now candidate.now depth result }
 {
     let snapshot = table.start_snapshot()?;
     let certainty = match run_candidate(table, cx, handler, graph, goal, candidate, depth) {
@@ -262,7 +271,7 @@ fn run_candidate<H: GoalHandler>(
     requires candidate { IsCandidate cx.old.nodes goal candidate.now }
     requires search { IsSearch cx.old graph.old (depth) }
     ensures { RunsOne (rules_of H.ready H.handler handler.now) cx.old cx.new graph.old graph.new
-        table.old table.new goal candidate.now result }
+        table.old table.new goal candidate.now depth result }
 {
     let tried = try_candidate(table, cx, handler, graph, goal, candidate, depth);
     check_leaks(table, cx, handler, tried)
@@ -285,7 +294,7 @@ fn try_candidate<H: GoalHandler>(
     requires candidate { IsCandidate cx.old.nodes goal candidate.now }
     requires search { IsSearch cx.old graph.old (depth) }
     ensures { RunsOne (rules_of H.ready H.handler handler.now) cx.old cx.new graph.old graph.new
-        table.old table.new goal candidate.now result }
+        table.old table.new goal candidate.now depth result }
 {
     let kind = goal_kind(cx, handler, goal);
     let values = equate(table, cx, goal, candidate)?;
@@ -296,6 +305,7 @@ fn try_candidate<H: GoalHandler>(
     };
     record_constraints(table, cx, trial, &candidate.region_constraints)?;
     let mut goals = trial.added_goals(table, cx, &candidate.goals)?;
+    cx.terms_are_formed();
     let mut last_steps = 0;
     let certainty = try_evaluate_goals(
         table,
@@ -329,7 +339,7 @@ pub fn try_evaluate_goals<H: GoalHandler>(
     requires ready { H.ready cx.old.nodes handler.now }
     requires search { IsSearch cx.old graph.old (bound_of depth) }
     ensures { StepsGoals (rules_of H.ready H.handler handler.now) cx.old cx.new graph.old graph.new
-        table.old table.new goals.old.items goals.new.items kind last_steps.new result }
+        table.old table.new goals.old.items goals.new.items kind depth last_steps.new result }
 {
     *last_steps = 0;
     for step in 0..cx.step_limit() {
@@ -359,7 +369,7 @@ fn evaluate_step<H: GoalHandler>(
     requires ready { H.ready cx.old.nodes handler.now }
     requires search { IsSearch cx.old graph.old (bound_of depth) }
     ensures { StepsOnce (rules_of H.ready H.handler handler.now) cx.old cx.new graph.old graph.new
-        table.old table.new goals.now kind result }
+        table.old table.new goals.now kind depth result }
 {
     let mut step = Step::new(cx.alloc);
     for added in goals {

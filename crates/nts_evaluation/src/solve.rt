@@ -1,5 +1,5 @@
 //! The evaluation of goals.
-ghost use Rattle.std.specs.Prelude.{◌+◌, ◌≡◌, ◌↔◌, IsTrue, None, IfOk, OnOk, OnErr, IsOkUnless};
+ghost use Rattle.std.specs.Prelude.{◌+◌, ◌≡◌, ◌↔◌, Bool, IsTrue, None, IfOk, OnOk, OnErr, IsOkUnless};
 ghost use Rattle.nts_model.specs.Derivations.Handlers.{meaning, HasNoCoinductiveTrait};
 ghost use Rattle.nts_store.specs.Growth.{Extends};
 ghost use Rattle.nts_table.specs.Tables.{IsTable};
@@ -11,6 +11,7 @@ ghost use Rattle.nts_asking.specs.Evaluation.{Runs, IsAdmitted, IsPosed, IsGoalU
 ghost use Rattle.nts_asking.specs.Meant.{rules_of, Always, IsProvedSince, EvaluatesUnder, IsRefusedUnder};
 ghost use Rattle.nts_certainty.specs.declared.certainty.Certainty.TheVariants as certainty;
 ghost use Rattle.nts_terms.specs.Rest.{Grows};
+ghost use Rattle.nts_evaluation.specs.Deciding.{IsDeterminate, MayAnswer, IsAsDecided};
 ghost use Rattle.nts_evaluation.specs.Solutions.{IsCoherenceOf, HasNoSolutionUnder, KeepsSolutionsUnder};
 
 use crate::evaluate::evaluate_goal;
@@ -66,9 +67,10 @@ pub fn goal_is_admitted(table: &InferCtxt, cx: &mut Cx, goal: Goal) -> Result<bo
 /// is. Where it is yes, the goal has a ranked proof, whatever cycles were met: each of its steps leads to a lower rank, or is
 /// coinductive. Each candidate is asked to its end: the response says nothing new, or it is the one that stands for those of
 /// all candidates that did not fail. One that is in doubt leaves no region constraints. `NoSolution` says that each candidate
-/// failed: its equations can't be met, an equality of regions can't be, or a goal that it asks for was refused; or that no
-/// solution of the table grants the response. After an error the table is as it was. A fault is want of memory, or `Full`
-/// where a universe above the greatest is asked for.
+/// failed: its equations can't be met, or a goal that it asks for was refused; or that no solution of the table grants the
+/// response. A goal that a finite tree of goals decides, no higher than the recursion limit, is answered as it is decided, yes or
+/// no, whatever the rules say of other goals. After an error the table is as it was. A fault is want of memory, or `Full` where a
+/// universe above the greatest is asked for.
 pub fn evaluate_root_goal<H: GoalHandler>(
     table: &mut InferCtxt,
     cx: &mut Cx,
@@ -101,6 +103,10 @@ pub fn evaluate_root_goal<H: GoalHandler>(
     ensures keeps { IsCoherenceOf (H.handler cx.old.nodes handler.now) table.old.mode →
         OnOk result (KeepsSolutionsUnder (H.handler cx.old.nodes handler.now) cx.old.nodes table.old
         cx.new.nodes table.new goal) }
+    ensures decided { (b : Bool) → IsDeterminate (H.handler cx.old.nodes handler.now) table.old.mode
+        cx.old.nodes table.old goal cx.old.recursion_limit b → MayAnswer
+        (H.handler cx.old.nodes handler.now) cx.old → IsAsDecided b result (λ e. e.certainty ≡
+        certainty.Yes) }
 {
     let _ = (span, stalled_on);
     cx.terms_are_formed();
@@ -133,6 +139,10 @@ pub(crate) fn evaluate_root<H: GoalHandler>(
     ensures refuted { Always (rules_of H.ready H.handler handler.now) cx.old (λ s.
         result ≡ Err EvalError.NoSolution → IsRefusedUnder (H.handler s.base handler.now)
         table.old.mode cx.old.nodes table.old goal) }
+    ensures decided { Always (rules_of H.ready H.handler handler.now) cx.old (λ s. (b : Bool) →
+        IsDeterminate (H.handler s.base handler.now) table.old.mode cx.old.nodes table.old goal
+        depth b → MayAnswer (H.handler s.base handler.now) cx.old → IsAsDecided b result (λ e.
+        e.certainty ≡ certainty.Yes)) }
 {
     let asked = resolve_goal(table, cx, goal)?;
     let mut graph = SearchGraph::new(cx.alloc, depth);

@@ -4,7 +4,6 @@ pub mod ProofExamples
 pub mod TermExamples
 pub mod AnswerExamples
 pub mod StackExamples
-pub mod DecidingExamples
 pub mod ErasingExamples
 pub mod OpenGoalExample
 pub mod ToldExamples

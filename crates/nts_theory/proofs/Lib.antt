@@ -3,6 +3,5 @@ pub mod Responses
 pub mod Searching
 pub mod Refutation
 pub mod Aliases
-pub mod Decisions
 pub mod Erased
 pub mod Examples

@@ -1,4 +1,3 @@
-pub mod Decisions
 pub mod Erased
 pub mod Refutation
 pub mod Telling

@@ -1,11 +1,14 @@
 -- Recording a candidate's constraints, one by one.
-use Rattle.std.proofs.Common.{◌≡◌, ◌⊎◌, inl, inr, ℕ, zero, suc, ◌+◌, ◌<◌, List, [], ◌∷◌, ◌++◌, map, get_or, take, length, refl, sym, ap, ◌∙◌, subst, true, arith}
+use Rattle.std.proofs.Common.{Result, Ok, Err, ◌≢◌, ◌≡◌, ◌⊎◌, inl, inr, ℕ, ◌+◌, ◌<◌, List, [], ◌∷◌, ◌++◌, map, get_or, take, length, refl, sym, ap, ◌∙◌, subst, true}
+use Rattle.std.specs.Prelude.{IsOkUnless}
+use Rattle.nts_store.specs.declared.fault.EvalError.{EvalError}
+use Rattle.nts_store.specs.declared.fault.EvalError.TheVariants as error
 use Rattle.std.proofs.lemmas.List.{take_more}
 use Rattle.nts_model.specs.declared.labels.Relation.{Relation}
 use Rattle.nts_model.specs.declared.labels.Relation.TheVariants as relation
 use Rattle.nts_model.specs.Terms.Trees.{Tree}
 use Rattle.nts_model.specs.Tables.Contents.{Content, with_constraint}
-use Rattle.nts_model.specs.Tables.Equations.{AreRelated, AreUnrelated}
+use Rattle.nts_model.specs.Tables.Equations.{AreRelated}
 use Rattle.nts_model.specs.Derivations.Related.{Constraint}
 use Rattle.nts_model.specs.Terms.Substitutions.{filled}
 use Rattle.nts_model.specs.Derivations.Handlers.{constraint_by}
@@ -20,7 +23,6 @@ use Rattle.nts_unify.specs.Lawful.{content_of-constrained}
 use Rattle.nts_delegate.specs.declared.delegate.RegionConstraint.{RegionConstraint}
 use Rattle.nts_delegate.specs.Offered.{constraint_of}
 use Rattle.nts_asking.specs.Running.{constraint_between}
-use Rattle.nts_theory.specs.Telling.{FailsToAdd}
 use Rattle.nts_asking.proofs.Running.{constraint-kept}
 
 -- a recorded constraint, which the leak check sees
@@ -44,14 +46,9 @@ adds_more a b k vs ks i c d e l x w y z h r =
     let here : Adds (constraint_by (filled (map (tree_at a) vs)) (constraint_of b item)) d e = rw (map-kept a b vs w x) at r in
     rw (take_more ks i k l) (adds_push a (map (tree_at a) vs) (take i ks) item c d e h (subst (λ q. Adds (constraint_by (filled (map (tree_at a) vs)) q) d e) (constraint-kept {a = a} {b = b} item x y z) here))
 
--- an equality of regions that can't be
-failed_at : (a : List Tree) (xs : List Tree) (ks : List RegionConstraint) (i : ℕ) (k : RegionConstraint) (c d : Content) → i < length ks → AddsAll xs (map (constraint_of a) (take i ks)) c d → (get_or ks i k).relation ≡ relation.Equal
-    → AreUnrelated d (filled xs (constraint_of a (get_or ks i k)).left) (filled xs (constraint_of a (get_or ks i k)).right) → FailsToAdd xs (map (constraint_of a) ks) c
-failed_at a xs [] i k c d l h q r = absurd (omega arith)
-failed_at a xs (x ∷ ks) zero k c d l h q r = inl (q, subst (λ z. AreUnrelated z (filled xs (constraint_of a x).left) (filled xs (constraint_of a x).right)) h r)
-failed_at a xs (x ∷ ks) (suc i) k c d l (m, y, rest) q r = inr (m, y, failed_at a xs ks i k m d (omega (arith, l)) rest q r)
-
-pub add_fails : (a b : List Tree) (k : RegionConstraint) (vs : List NodeId) (ks : List RegionConstraint) (i : ℕ) (c d : Content) → i < length ks → Extends a b → AllIn a vs → IsIn a (get_or ks i k).left.node → IsIn a (get_or ks i k).right.node → AddsAll (map (tree_at a) vs) (map (constraint_of a) (take i ks)) c d
-    → ((get_or ks i k).relation ≡ relation.Equal) × AreUnrelated d (filled (map (tree_at b) vs) (tree_at b (get_or ks i k).left.node)) (filled (map (tree_at b) vs) (tree_at b (get_or ks i k).right.node)) → FailsToAdd (map (tree_at a) vs) (map (constraint_of a) ks) c
-add_fails a b k vs ks i c d l x w y z h r =
-    failed_at a (map (tree_at a) vs) ks i k c d l h r.0 (rw (map-kept a b vs w x, x.kept (get_or ks i k).left.node y, x.kept (get_or ks i k).right.node z) at r.1)
+-- an equality of regions is never refused
+pub never_refused : (r : Result (Unit {0}) EvalError) → (r ≡ Err error.NoSolution → ⊥) → r ≢ Err error.Full → IsOkUnless r error.Memory
+never_refused (Ok x) n f = tt
+never_refused (Err error.NoSolution) n f = absurd (n refl)
+never_refused (Err error.Memory) n f = refl
+never_refused (Err error.Full) n f = absurd (f refl)

@@ -10,7 +10,7 @@ use Rattle.nts_model.specs.Terms.Substitutions.{filled}
 use Rattle.nts_asking.specs.Evaluation.{AreValues}
 use Rattle.nts_store.specs.Formed.{AreFormed}
 use Rattle.nts_store.proofs.Growing.{IsIn-extended}
-use Rattle.std.proofs.Common.{List, map, refl, ap, ◌++◌, ◌-◌, ◌<◌, ◌∙◌, ◌∷◌, ◌≡◌}
+use Rattle.std.proofs.Common.{List, map, refl, ap, ◌∙◌, ◌≡◌}
 use Rattle.nts_model.specs.declared.labels.Sort.{Sort}
 use Rattle.nts_store.specs.declared.nodes.NodeId.{NodeId}
 

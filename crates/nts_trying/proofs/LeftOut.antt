@@ -48,11 +48,11 @@ unmet c x r m =
 
 -- the outcomes of one more, where there are outcomes of more than those before it
 last_outcome : {h : Handler} {mode : Mode} {c : Content} {k p : Tree} {qs : List Tree} {rs : List Verdict} (xs ys zs : List Candidate) (x : Candidate) → zs ≡ ys ++ x ∷ [] → ((ws : List Candidate) (ps : List Verdict) → ws ≡ ys → Outcomes h mode c k p qs ws ps → Outcomes h mode c k p qs xs ps) → Outcomes h mode c k p qs zs rs → Outcomes h mode c k p qs (xs ++ x ∷ []) rs
-last_outcome xs ys zs x e more no_outcome = absurd (let l = ap length e in omega (arith, l, length-append ys (x ∷ [])))
-last_outcome {h} {mode} {c} {k} {p} {qs} xs ys zs x e more (then_fails {xs = ws} {vs = ps} {x = w} o f) =
-    let same = push_inj ws ys w x e in then_fails (more ws ps same.0 o) (subst (Fails h mode c) same.1 f)
-last_outcome {h} {mode} {c} {k} {p} {qs} xs ys zs x e more (then_replies {xs = ws} {vs = ps} {x = w} {v = r} o f) =
-    let same = push_inj ws ys w x e in then_replies (more ws ps same.0 o) (subst (λ z. Replies h mode c k p qs z r) same.1 f)
+last_outcome xs ys zs x e before no_outcome = absurd (let l = ap length e in omega (arith, l, length-append ys (x ∷ [])))
+last_outcome {h} {mode} {c} {k} {p} {qs} xs ys zs x e before (then_fails {xs = ws} {vs = ps} {x = w} o f) =
+    let same = push_inj ws ys w x e in then_fails (before ws ps same.0 o) (subst (Fails h mode c) same.1 f)
+last_outcome {h} {mode} {c} {k} {p} {qs} xs ys zs x e before (then_replies {xs = ws} {vs = ps} {x = w} {v = r} o f) =
+    let same = push_inj ws ys w x e in then_replies (before ws ps same.0 o) (subst (λ z. Replies h mode c k p qs z r) same.1 f)
 
 -- so the outcomes of the others are outcomes of all
 pub all_outcomes : {h : Handler} {mode : Mode} {c : Content} {k p : Tree} {qs : List Tree} {xs ys : List Candidate} → LeavesOut xs ys → (zs : List Candidate) (rs : List Verdict) → zs ≡ ys → Outcomes h mode c k p qs zs rs → Outcomes h mode c k p qs xs rs
@@ -81,5 +81,5 @@ among_all z none i = absurd i
 among_all z (offered {xs} {ys} x l) i = elim (last_or_before ys x z i) [ inl j ↦ before_last xs x z (among_all z l j) | inr e ↦ at_last xs x z e ]
 among_all z (left_out {xs} {ys} x l r) i = before_last xs x z (among_all z l i)
 
-pub kept_offered : {ts : List Tree} (g : Goal) {xs : List CandidateData} (h : Handler) (mode : TypingMode) → LeavesOut (offers_of h (mode_of mode) ts g) (candidates_of ts xs) → AreOffered h mode ts g xs
-kept_offered g h mode same z i = among_all z same i
+pub kept_offered : (ts : List Tree) (g : Goal) (xs : List CandidateData) (h : Handler) (mode : TypingMode) → LeavesOut (offers_of h (mode_of mode) ts g) (candidates_of ts xs) → AreOffered h mode ts g xs
+kept_offered ts g xs h mode same z i = among_all z same i

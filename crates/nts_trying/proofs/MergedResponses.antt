@@ -1,5 +1,5 @@
 -- The response that stands for those of all candidates.
-use Rattle.std.proofs.Common.{◌≡◌, false, inl, inr, ⊎_elim, ℕ, zero, suc, ◌+◌, ◌<◌, List, [], ◌∷◌, map, length, get_or, Some, None, refl, sym, ap, ◌∙◌, subst, arith}
+use Rattle.std.proofs.Common.{◌≡◌, false, inl, inr, ⊎_elim, ℕ, zero, suc, ◌+◌, ◌<◌, List, [], ◌∷◌, map, length, get_or, Some, refl, sym, ap, ◌∙◌, subst, arith}
 use Rattle.std.proofs.lemmas.List.{get_or_default}
 use Rattle.nts_model.proofs.Tables.Under.{same_or_other}
 use Rattle.nts_model.specs.declared.labels.Label.{Label}

@@ -1,10 +1,10 @@
 -- A goal that was opened: what is said of it where it was opened is said of the goal.
 use Rattle.std.proofs.Common.{◌≡◌, ◌⊎◌, inl, inr, ℕ, ◌+◌, Bool, true, false, List, [], refl, sym, ap, ◌∙◌, subst}
-use Rattle.std.specs.Prelude.{◌==◌, if◌then◌else◌, Option, Some, None, IfSome, Result, Ok, Err, OnOk}
+use Rattle.std.specs.Prelude.{if◌then◌else◌, Option, Some, None, IfSome, Result, Ok, Err, OnOk}
 use Rattle.nts_model.specs.Derivations.Proofs.{Assumed}
 use Rattle.nts_model.specs.Searching.Stacks.{IsProvedFrom}
 use Rattle.nts_model.specs.declared.labels.Label.{Label}
-use Rattle.nts_model.specs.Terms.Trees.{Tree, node, IsClosed, IsFormed}
+use Rattle.nts_model.specs.Terms.Trees.{Tree, IsClosed, IsFormed}
 use Rattle.nts_model.specs.Tables.Contents.{Content, in_universe}
 use Rattle.nts_model.specs.Derivations.Related.{unbound, pair}
 use Rattle.nts_model.specs.Derivations.Rules.{opened, statement_of}
@@ -51,7 +51,6 @@ use Rattle.nts_theory.specs.Telling.{IsPlainResponse, Verdict, IsReady, IsTraitG
 use Rattle.nts_theory.specs.Telling.Tells.{tells_nothing, tells_one}
 use Rattle.nts_theory.specs.Telling.Refutes.{all_fail}
 use Rattle.nts_asking.specs.Answering.{is_yes, verdict_at}
-use Rattle.nts_model.specs.Canonical.Inputs.{PositionKind}
 use Rattle.nts_model.specs.Answers.Applying.{IsProperContent}
 use Rattle.nts_table.proofs.TermTables.{proper_content}
 use Rattle.nts_theory.proofs.Refutation.QueryLabels.{opened_goal_passes}

@@ -33,8 +33,8 @@ use Rattle.nts_delegate.specs.Candidates.{AreNested}
 use Rattle.nts_delegate.specs.Offered.{constraint_of, premise_of, candidate_of}
 use Rattle.nts_response.specs.Forms.{premise_at}
 use Rattle.nts_trying.specs.Choices.{EquatesCandidate}
-use Rattle.nts_theory.specs.Telling.{FailsToAdd, IsBegun, goals_with}
-use Rattle.nts_theory.specs.Telling.Fails.{breaks_off, is_refused}
+use Rattle.nts_theory.specs.Telling.{IsBegun, goals_with}
+use Rattle.nts_theory.specs.Telling.Fails.{is_refused}
 use Rattle.nts_trying.specs.Stepping.{ArePosed, AreSettled, terms_of}
 use Rattle.nts_trying.specs.Adding.{AreAdded}
 use Rattle.nts_asking.specs.Meant.{HasRunTo, FailsIn, ReachesBy, RefusesOneOf}
@@ -44,13 +44,9 @@ use Rattle.nts_asking.proofs.Running.{premise_stays, premises-kept}
 use Rattle.nts_trying.proofs.Stepping.{all_among}
 
 -- its equations and its constraints
-begins : {a b : List Tree} {t u : Table} (e : List Tree) (v : Table) (x : CandidateData) (vs : List NodeId) → EquatesCandidate a b t u x.fresh.items vs x.equations.items → AddsAll (map (tree_at b) vs) (map (constraint_of b) x.region_constraints.items) (content_of b u.entries) (content_of e v.entries)
+pub begins : {a b : List Tree} {t u : Table} (e : List Tree) (v : Table) (x : CandidateData) (vs : List NodeId) → EquatesCandidate a b t u x.fresh.items vs x.equations.items → AddsAll (map (tree_at b) vs) (map (constraint_of b) x.region_constraints.items) (content_of b u.entries) (content_of e v.entries)
     → map (constraint_of b) x.region_constraints.items ≡ map (constraint_of a) x.region_constraints.items → IsBegun (content_of a t.entries) (candidate_of a x) (map (tree_at b) vs) (content_of e v.entries)
 begins {a} {b} {t} {u} e v x vs q k same = record { made = q.made; equal = content_of b u.entries; freshens = q.freshens; equates = q.equates; adds = rw same at k }
-
-pub breaks : {a b : List Tree} {t u : Table} (h : Handler) (mode : TypingMode) (x : CandidateData) (vs : List NodeId) → EquatesCandidate a b t u x.fresh.items vs x.equations.items → FailsToAdd (map (tree_at b) vs) (map (constraint_of b) x.region_constraints.items) (content_of b u.entries)
-    → map (constraint_of b) x.region_constraints.items ≡ map (constraint_of a) x.region_constraints.items → FailsIn h mode a t x
-breaks {a} {b} {t} {u} h mode x vs q f same = breaks_off (record { values = map (tree_at b) vs; made = q.made; equal = content_of b u.entries; freshens = q.freshens; equates = q.equates; fails = rw same at f })
 
 -- its goals, in another store
 pub added_is : {a e : List Tree} (z : List Tree) (g : Goal) (fresh : List Sort) (vs : List NodeId) (hs : List CandidateGoal) → Extends a e → AreNested a fresh g hs → map (tree_at e) vs ≡ map (tree_at z) vs
@@ -67,7 +63,7 @@ module _ {a b e f : List Tree} {t u v : Table} (h : Handler) (mode : TypingMode)
     (equated : EquatesCandidate a b t u x.fresh.items vs x.equations.items) (adds : AddsAll (map (tree_at b) vs) (map (constraint_of b) x.region_constraints.items) (content_of b u.entries) (content_of e v.entries))
     (constraints : map (constraint_of b) x.region_constraints.items ≡ map (constraint_of a) x.region_constraints.items) (nested : AreNested a x.fresh.items g x.goals.items)
     (ab : Extends a b) (be : Extends b e) (ae : Extends a e) (ef : Extends e f) (table : IsTable e v) (within : AllIn b vs) (added : goals_at f gs ≡ goals_with (map (tree_at e) vs) (map (premise_of e) x.goals.items)) where
-  its_goals : goals_at f gs ≡ goals_with (map (tree_at b) vs) (map (premise_of a) x.goals.items)
+  pub its_goals : goals_at f gs ≡ goals_with (map (tree_at b) vs) (map (premise_of a) x.goals.items)
   its_goals = added ∙ added_is b g x.fresh.items vs x.goals.items ae nested (map-kept b e vs within be)
 
   pub ran_to : (z : List Tree) (w : Table) → ReachesBy h mode f v z w gs → HasRunTo h mode a t z w x

@@ -22,7 +22,7 @@ use Rattle.nts_search.specs.Searching.{IsStack}
 use Rattle.nts_asking.specs.Searching.{IsHead, AreLater, IsGoalCut}
 use Rattle.nts_asking.proofs.Cuts.{goal_cut_before}
 use Rattle.nts_asking.proofs.Rounds.{not_cut}
-use Rattle.nts_trying.specs.Stopping.{Turn, IsTurnRefused, IsTurnCut, StopsIn, RefusesAmong}
+use Rattle.nts_trying.specs.Stopping.{IsTurnRefused, IsTurnCut, StopsIn, RefusesAmong}
 use Rattle.nts_asking.specs.Meant.{IsNestedSince}
 use Rattle.nts_asking.proofs.Searching.{stays_more, none_passed}
 use Rattle.nts_model.specs.Terms.Trees.{Tree}
@@ -49,7 +49,7 @@ use Rattle.nts_table.specs.Tables.{Table, IsTable}
 use Rattle.nts_response.specs.Forms.{premise_at}
 use Rattle.nts_asking.specs.Evaluation.{Goes, IsPosed, asked_terms, goals_at}
 use Rattle.nts_trying.specs.Stepping.{ArePosed, terms_of, AreLeft, AreSettled, left_after, none_left, is_left, is_done}
-use Rattle.nts_asking.specs.Telling.{Reaches, RefusesOne, Asked, Refused}
+use Rattle.nts_asking.specs.Telling.{Reaches, Asked, Refused}
 use Rattle.nts_theory.specs.Telling.Reaches.{asks_nothing, then_asks}
 use Rattle.nts_theory.specs.Telling.RefusesOne.{refuses_one}
 use Rattle.nts_asking.specs.Meant.{Since, IsProvedSince, IsProvedFromSince, EvaluatesUnder, IsRefusedUnder, ReachesBy, RefusesOneOf}

@@ -12,7 +12,7 @@ use Rattle.nts_model.specs.Tables.Equations.{AreRelated, AreUnrelated}
 use Rattle.nts_model.specs.Derivations.Handlers.{kind_of_sort}
 use Rattle.nts_model.specs.Answers.Applying.{IsProperContent, IsNew}
 use Rattle.nts_model.specs.Refutation.Choosing.{left_of, right_of, Freshens, EquatesAll, FailsToEquate, MeetsEquations}
-use Rattle.nts_theory.proofs.Refutation.Choosing.{AreOfTable, IsProperContent-with_slot, fresh_known, equations_known, unmet_when_failed}
+use Rattle.nts_theory.proofs.Refutation.Choosing.{AreOfTable, IsProperContent-with_slot, fresh_known, equations_known, unmet_when_failed, met_when_equated}
 use Rattle.nts_store.specs.declared.nodes.NodeId.{NodeId}
 use Rattle.nts_store.specs.Growth.{tree_at, trees_at, AllIn, Extends}
 use Rattle.nts_store.specs.Kept.{map-kept}
@@ -138,6 +138,11 @@ equated_more {a} {b} {e} {t} {u} {v} {ws} {rs} {g} q fresh vs qs i y z l x k w o
       freshens = rw same h.freshens;
       equates = rw same (equated_push a (map (tree_at b) vs) (take i qs) item h.made (content_of b u.entries) (content_of e v.entries) h.equates one);
     })
+
+-- where the equations were made equal, some world of the table meets them
+pub some_meets : {a b : List Tree} {t u : Table} {g : Goal} (fresh : List Sort) (vs : List NodeId) (qs : List Equation) → AreFormed a → IsPosed a t g → AreEquations a fresh g qs → IsTable b u → EquatesCandidate a b t u fresh vs qs → MeetsEquations (content_of a t.entries) fresh (map (equation_of a) qs)
+some_meets {a} {b} {t} {u} {g} fresh vs qs f p all k h =
+    met_when_equated fresh (map (equation_of a) qs) (map (tree_at b) vs) (content_of a t.entries) h.made (content_of b u.entries) h.freshens h.equates k.now.sound k.now.proper.solvable (equations_of_table a fresh g (content_of a t.entries) qs f p.knows all)
 
 -- where an equation fails, no world of the table meets them all
 pub none_meets : {a b : List Tree} {t u : Table} {ws : List NodeId} {rs : List Equation} {g : Goal} (q : Equation) (fresh : List Sort) (vs : List NodeId) (qs : List Equation) (i : ℕ) → ws ≡ vs → rs ≡ qs → i < length qs → Extends a b → AreFormed a → IsPosed a t g → AreEquations a fresh g qs → IsEquation a fresh g (get_or qs i q) → EquatesCandidate a b t u fresh vs (take i qs)

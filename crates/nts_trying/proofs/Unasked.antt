@@ -1,10 +1,7 @@
 -- Goals that handlers are not asked, and goals that can't be opened, by what the tests of them see.
 use Rattle.std.proofs.Common.{◌≡◌, ℕ, zero, suc, ◌<◌, ◌||◌, inl, inr, arith, Bool, true, false, not, List, is_some, refl, sym, ap, ◌∙◌, subst}
-use Rattle.nts_model.specs.declared.labels.ListHead.TheVariants as list
-use Rattle.nts_model.specs.declared.labels.Label.TheVariants as label
 use Rattle.nts_model.specs.Terms.Trees.{Tree, empty, more, node, children, row_length, row_at, IsInRow, any_label, is_canonical, is_alias, IsClosed}
 use Rattle.nts_model.specs.Terms.Scoping.{IsWellBound}
-use Rattle.nts_model.specs.Derivations.Related.{no_sorts, unbound}
 use Rattle.nts_model.specs.Derivations.Rules.{statement_of}
 use Rattle.nts_model.specs.Derivations.Sequents.{HasClosedStatements}
 use Rattle.nts_theory.specs.Telling.{IsTraitStatement}

@@ -23,7 +23,6 @@ ghost use Rattle.nts_table.specs.Tables.{IsTermIn};
 ghost use Rattle.nts_trying.specs.Instances.{HoldsValues, IsTermInstance, IsGoalInstance, instance_at};
 ghost use Rattle.nts_trying.specs.Choices.{EquatesCandidate};
 ghost use Rattle.nts_trying.specs.Adding.{AreAdded};
-ghost use Rattle.nts_theory.specs.Telling.{FailsToAdd};
 ghost use Rattle.nts_terms.specs.Rest.{Grows};
 
 use nts_certainty::GoalSource;
@@ -237,7 +236,8 @@ fn relate_terms(table: &mut InferCtxt, cx: &mut Cx, a: NodeId, b: NodeId) -> Res
     relate_nodes(alloc, &mut cx.nodes, table, a, b)
 }
 
-/// Records the region constraints of a candidate, with the values in place of its fresh variables.
+/// Records the region constraints of a candidate, with the values in place of its fresh variables. Any two regions can be one, so
+/// it fails for want of memory alone.
 #[inline(never)]
 pub fn record_constraints(
     table: &mut InferCtxt,
@@ -257,10 +257,7 @@ pub fn record_constraints(
         (content_of cx.new.nodes table.new.entries)) }
     ensures labels { OnOk result (BringsOnly (asked_terms cx.old.nodes trial.entry.goal)
         (content_of cx.old.nodes table.old.entries) (content_of cx.new.nodes table.new.entries)) }
-    ensures no { result ≡ Err EvalError.NoSolution → FailsToAdd (map (tree_at cx.old.nodes)
-        trial.entry.values.now) (map (constraint_of cx.old.nodes) constraints.now) (content_of
-        cx.old.nodes table.old.entries) }
-    ensures full { result ≢ Err EvalError.Full }
+    ensures memory { IsOkUnless result EvalError.Memory }
 {
     for constraint in constraints {
         record_one(table, cx, trial, *constraint)?;
@@ -287,11 +284,7 @@ fn record_one(
         table.old.entries) (content_of cx.new.nodes table.new.entries)) }
     ensures labels { OnOk result (BringsOnly (asked_terms cx.old.nodes trial.entry.goal)
         (content_of cx.old.nodes table.old.entries) (content_of cx.new.nodes table.new.entries)) }
-    ensures no { result ≡ Err EvalError.NoSolution → (constraint.relation ≡ relations.Equal) ×
-        AreUnrelated
-        (content_of cx.old.nodes table.old.entries) (instance_at cx.old.nodes trial.entry.values.now
-        constraint.left.node) (instance_at cx.old.nodes trial.entry.values.now constraint.right.node) }
-    ensures full { result ≢ Err EvalError.Full }
+    ensures memory { IsOkUnless result EvalError.Memory }
 {
     let (left, right) = trial.instantiate_both(cx, constraint.left.node, constraint.right.node)?;
     if let Relation::Equal = constraint.relation {

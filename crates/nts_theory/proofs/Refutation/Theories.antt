@@ -41,7 +41,6 @@ use Rattle.nts_theory.proofs.Refutation.OpenedGoals.{rename_opened, kept_tree}
 use Rattle.nts_theory.proofs.Refutation.Carrying.{names_replaced}
 use Rattle.nts_theory.proofs.Refutation.Carriers.{forward_others, forward_property, none_renamed, none_carrying, then_by, then_carrying, rename_then, back_to, back_carrying, region_carried, instance_by, AreMovable, extension_carrying, shifted, shifted_carrying, shifted_low}
 use Rattle.nts_theory.proofs.Refutation.UsedRules.{handlers_replaced, handlers_before}
-use Rattle.nts_theory.proofs.Decisions.Reopening.{index_of as name_of}
 
 -- elements of mapped lists
 mapped : {X Y : Type 0} (f : X → Y) (xs : List X) (y : Y) → Among (map f xs) y → (x : X) × Among xs x × (y ≡ f x)
@@ -412,6 +411,11 @@ module _ (t : Tree) (f : Sort → ℕ → Leaf) (h : AreAbsent t f) where
 
   below_absent : (n : ℕ) (l : Leaf) → Occurs l t → Among (below f n) l → ⊥
   below_absent n l o i = let r = below_is f n l i in h.absent r.0 r.1 (subst (λ z. Occurs z t) r.3 o)
+
+-- one more than the greatest index of a bound variable
+abbrev name_of : Label → ℕ
+name_of (label.Bound s (index.Bound d) n) = suc n
+name_of l = 0
 
 abbrev names_below : Tree → ℕ
 names_below empty = 0

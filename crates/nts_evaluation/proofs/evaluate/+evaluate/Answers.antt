@@ -39,7 +39,7 @@ use Rattle.nts_theory.specs.Telling.Fails.{is_unmet}
 use Rattle.nts_trying.proofs.Opened.{told_through, told_offered, refuted_through, nothing_through, labels_through, labels_entered, proved_through, opened_holds}
 use Rattle.nts_trying.proofs.Probed.{found_in, found_still, found_fits, found_derived, went_in, plain_of, doubtful, not_kept, says_found, says_before, run_replies}
 use Rattle.nts_trying.proofs.Outcomes.{found_earlier, founds_more, founds_with, outcomes_first, outcomes_more, found_merged, told_merged, failed_of}
-use Rattle.nts_trying.proofs.Ran.{breaks, added_is, added_only, ran_to, ran_refused, all_proved, all_posed, proved_all, ok_inside}
+use Rattle.nts_trying.proofs.Ran.{added_is, added_only, ran_to, ran_refused, all_proved, all_posed, proved_all, ok_inside}
 use Rattle.nts_model.specs.Derivations.Rules.{goal_kind}
 use Rattle.nts_model.specs.Derivations.Proofs.{passed}
 use Rattle.nts_theory.proofs.Derivations.Assuming.{covers_passed}
@@ -65,6 +65,13 @@ use Rattle.std.specs.Result.{is_err}
 use Rattle.std.proofs.lemmas.Result.{IfOk-from_err}
 use Rattle.nts_evaluation.proofs.Failing.{query_failed, goal_failed, try_failed}
 use Rattle.nts_evaluation.proofs.evaluate.+evaluate.Goals.{search-then-graph, search-else-graph}
+use Rattle.nts_evaluation.proofs.Deciding.{decides_fault, decides_error, decides_refused, decides_then, decides_grown, decides_later, same_search, then_same}
+use Rattle.nts_evaluation.proofs.DecidedCandidates.{all_merged}
+use Rattle.nts_evaluation.proofs.DecidedTrials.{refused_no}
+use Rattle.nts_evaluation.proofs.DecidedGoals.{is_opened, is_asked_here}
+use Rattle.nts_evaluation.proofs.DecidedRounds.{stands_high, as_query, marked_again}
+use Rattle.nts_evaluation.proofs.DecidedSteps.{IsStepSoFar, next_goal, at_end, step_decided}
+use Rattle.nts_trying.specs.Stepping.{left_after}
 use Rattle.nts_evaluation.proofs.evaluate.+evaluate.Goals as goal
 use Rattle.nts_evaluation.proofs.evaluate.+evaluate.Answers.Queries as queries
 use Rattle.nts_evaluation.proofs.evaluate.+evaluate.Answers.Candidates as candidates
@@ -102,6 +109,8 @@ compute_goal-returns-in-Unopened g t c =
       found = found_in c.in_ok-response-in-Unopened.response.value _ o.goes c.terms_are_formed.ensures r.grows.extends (only_same _ o.grows.extends c.requires.posed.table (o.left (ap is_some c.in-Unopened.ensures))) c.requires.values r.certainty r.says r.holds (record { no_hidden = r.nothing.0; no_goals = r.nothing.1 }) (λ y. absurd (doubtful _ y));
       told = λ s tells ks. tells_nothing (content_of c.enter_forall.new.cx.nodes c.enter_forall.new.table.entries) (inl (content_same o.grows.extends c.requires.posed.table (o.left (ap is_some c.in-Unopened.ensures)))) (ap is_yes r.certainty) (rw trees at plain);
       refuted = search rules;
+      decided = λ s n b d can.
+          absurd (is_opened (g.H.GoalHandler.handler s.base c.args.handler.now) (g.met.H.GoalHandler.lawful s.base c.args.handler.now s.formed s.is_ready) (mode_of c.args.table.now.mode) n b c.args.goal c.args.values.now d.0 d.1 c.requires.posed c.terms_are_formed.ensures o.grows.extends (o.unopened (ap is_some c.in-Unopened.ensures)));
     }
 
 pub compute_goal-returns-in_err-candidates : goal.compute_goal-returns-in_err-candidates
@@ -132,6 +141,9 @@ compute_goal-returns-in-Unanswered g t c =
       found = found_in c.in_ok-response-in-Unanswered.response.value _ o.goes c.terms_are_formed.ensures r.grows.extends (labels_entered c.requires.posed (rw c.in-Unanswered.ensures.0 at o.opened) o.grows.extends) c.requires.values r.certainty r.says r.holds (record { no_hidden = r.nothing.0; no_goals = r.nothing.1 }) (λ y. absurd (doubtful _ y));
       told = λ s tells. nothing_through c.requires.posed (rw c.in-Unanswered.ensures.0 at o.opened) o.grows.extends (g.H.GoalHandler.handler s.base c.args.handler.now) c.args.table.now.mode c.args.values.now _ c.in_ok-response-in-Unanswered.response.value trees (ap is_yes r.certainty) plain;
       refuted = search rules;
+      decided = λ s n b d can.
+          absurd (c.in-Unanswered.ensures.1
+          (is_asked_here (g.H.GoalHandler.handler s.base c.args.handler.now) (g.met.H.GoalHandler.lawful s.base c.args.handler.now s.formed s.is_ready) (mode_of c.args.table.now.mode) n b c.args.goal c.args.values.now d.0 d.1 c.requires.posed c.terms_are_formed.ensures o.grows.extends _ (rw c.in-Unanswered.ensures.0 at o.opened) (rw c.in-Unanswered.ensures.0 at o.posed)));
     }
 
 pub evaluate_added-evaluate_goal-requires : goal.evaluate_added-evaluate_goal-requires
@@ -163,6 +175,7 @@ evaluate_added-returns-in-None g t c =
       marks = λ e. refl;
       told = λ s tells. inr (c.next.ensures.too_deep.0 (search rules), refl);
       refuted = search rules;
+      decided = λ s n b d can. absurd (let none = c.next.ensures.too_deep.0 (search rules) in omega (arith, none, can.deep, d.1));
     }
 
 pub evaluate_added-returns-in_err-asked-in-Some : goal.evaluate_added-returns-in_err-asked-in-Some
@@ -176,6 +189,7 @@ evaluate_added-returns-in_err-asked-in-Some g t c =
       marks = λ e. (let less : c.in-Some.below + 1 ≤ bound_of c.args.depth = omega (arith, c.in-Some.ensures.within) in absurd (omega (arith, e, less)));
       told = search rules;
       refuted = search rules;
+      decided = λ s n b d can. decides_fault c.from_residual.result (search rules) (search rules);
     }
 
 pub evaluate_added-returns-in_ok-asked-in-Some : goal.evaluate_added-returns-in_ok-asked-in-Some
@@ -200,6 +214,9 @@ evaluate_added-returns-in_ok-asked-in-Some g t c =
       marks = λ e. (let less : c.in-Some.below + 1 ≤ bound_of c.args.depth = omega (arith, c.in-Some.ensures.within) in absurd (omega (arith, e, less)));
       told = λ s tells. IfOk-map c.evaluate_goal.result (λ x f. inl (evaluates_at same (rw (k.env, k.predicate) at f))) (c.evaluate_goal.ensures.told (Since-later k.grows s) (tell_grown (g.H.GoalHandler.handler s.base c.args.handler.now) (bound_of c.args.depth) c.requires.search k.grows tells));
       refuted = λ s tells n. goal_cut_earlier k.grows.extends c.requires.search.stack c.requires.search.heads (rw (same, k.env, k.predicate) at (c.evaluate_goal.ensures.refuted (Since-later k.grows s) (tell_grown (g.H.GoalHandler.handler s.base c.args.handler.now) (bound_of c.args.depth) c.requires.search k.grows tells) n));
+      decided = λ s n b d can.
+          let depth : c.in-Some.below + 1 ≡ bound_of c.args.depth = c.in-Some.ensures.whole can.unmarked in
+          c.evaluate_goal.ensures.decided (Since-later k.grows s) n b (d.0, d.1, rw (k.env, k.predicate) d.2) (decides_later n (c.in-Some.below + 1) c.requires.search k.grows (same_search _) (omega arith) (omega (arith, depth, can.deep)) can);
     }
 
 pub evaluate_candidates-loop-candidate-init : goal.evaluate_candidates-loop-candidate-init
@@ -234,6 +251,12 @@ evaluate_candidates-returns g t c =
       found = IfOk-map c.merge_responses.result (λ r f. found_merged c.loop-candidate.responses.items r.value i.grows.extends k.grows.extends c.terms_are_formed.ensures c.requires.posed.table c.requires.values (founds_with c.loop-candidate.responses.items (λ b u w s offered. served_more covers (w s offered)) i.found) f) (rw i.same at k.merged);
       told = λ s tells. IfOk-map c.merge_responses.result (λ r f. told_merged (g.H.GoalHandler.handler s.base c.args.handler.now) c.args.table.now.mode c.args.candidates.now c.loop-candidate.responses.items r.value i.grows.extends k.grows.extends c.requires.posed.table c.requires.values i.found (rw all at (i.told s tells)) f) (rw i.same at k.merged);
       refuted = search rules;
+      decided = λ s n b d can.
+          let goes = goes-back c.requires.posed.table i.grows.extends i.same in
+          let trees = trees_kept c.args.cx.now.nodes c.loop-candidate.cx.nodes c.args.table.now.entries c.args.values.now i.grows.extends c.requires.values in
+          let so_far = i.decided s n b d can in
+          decides_then so_far.1
+          (all_merged (g.H.GoalHandler.handler s.base c.args.handler.now) c.args.table.now.mode n c.args.cx.now.nodes c.args.table.now c.args.candidates.now c.loop-candidate.candidate-index b c.loop-candidate.cx.nodes c.merge_responses.new.cx.nodes c.loop-candidate.table c.args.goal c.args.values.now (omega (arith, c.loop-candidate-test.false)) d.0 trees i.found c.merge_responses.result so_far.0 k.merged k.no);
     }
 
 pub evaluate_candidates-returns-in_err-keep_response : goal.evaluate_candidates-returns-in_err-keep_response
@@ -272,6 +295,9 @@ evaluate_goal-returns-in_err-answer g t c =
           let h = g.H.GoalHandler.handler s.base c.args.handler.now in
           let refused : c.search.result ≡ Err EvalError.NoSolution = search rules in
           query_cut c.requires.posed q.query q.grows.extends c.search.ensures.grows.extends c.requires.search.stack c.requires.search.heads (c.search.ensures.refuted (Since-later q.grows s) (tell_grown h (c.args.depth + 1) c.requires.search q.grows tells) refused);
+      decided = λ s n b d can.
+          decides_error c.search.result c.from_residual-in_err-answer.result fails (λ no. (search rules)) (λ no. no)
+          (c.search.ensures.decided (Since-later q.grows s) n b (as_query c.args.goal c.in_ok-originals.input.value n b q.query d) (decides_grown c.requires.search q.grows can));
     }
 
 pub evaluate_goal-returns-in_err-originals : goal.evaluate_goal-returns-in_err-originals
@@ -285,6 +311,7 @@ evaluate_goal-returns-in_err-originals g t c =
       proved = λ s. IfOk-from_err c.from_residual.result _ fails;
       told = λ s tells. IfOk-from_err c.from_residual.result _ fails;
       refuted = search rules;
+      decided = λ s n b d can. decides_fault c.from_residual.result fails (search rules);
     }
 
 pub evaluate_goal-search-requires : goal.evaluate_goal-search-requires
@@ -314,6 +341,7 @@ evaluate_round-returns-in_err-push_query g t c =
       fits = IfOk-from_err c.from_residual-in_err-push_query.result _ fails;
       proved = λ s. IfOk-from_err c.from_residual-in_err-push_query.result _ fails;
       told = λ s tells told. IfOk-from_err c.from_residual-in_err-push_query.result _ fails;
+      decided = λ s n b d can. IfOk-from_err c.from_residual-in_err-push_query.result _ fails;
       no = search rules;
     }
 
@@ -327,6 +355,7 @@ evaluate_round-returns-in_err-table g t c =
       fits = IfOk-from_err c.from_residual.result _ fails;
       proved = λ s. IfOk-from_err c.from_residual.result _ fails;
       told = λ s tells told. IfOk-from_err c.from_residual.result _ fails;
+      decided = λ s n b d can. IfOk-from_err c.from_residual.result _ fails;
       no = search rules;
     }
 
@@ -352,6 +381,11 @@ evaluate_rounds-returns g t c =
       proved = search rules;
       told = λ s tells. says_nothing (let i = c.loop-round.invariant in subst (λ (w : CanonicalInput). SaysNothing (kinds_of w) (response_at c.unchanged_answer.new.cx.nodes c.in_ok-answer.answer.value)) i.input (rw c.deref-2.ensures at c.in_ok-answer.ensures.nothing));
       refuted = search rules;
+      decided = λ s n b d can.
+          let i = c.loop-round.invariant in
+          let first = i.decided s n b d can in
+          let grown_first = c.in_ok-asked.ensures.grows.rest.rounds in
+          absurd (omega (arith, first, can.rounds, grown_first, c.loop-round-test.false, c.round_limit-round-end.ensures));
     }
 
 pub evaluate_rounds-returns-in_err-answer : goal.evaluate_rounds-returns-in_err-answer
@@ -415,6 +449,7 @@ evaluate_step-loop-added-init g t c = record {
   proved = λ s y i. absurd i;
   sure = λ y. c.new-step.ensures.left;
   told = λ s tells. asks_nothing;
+  decided = λ s n b here can. record { rest = here.decided; left = c.new-step.ensures.left; certain = c.new-step.ensures.certainty; unchanged = c.new-step.ensures.unchanged; search = same_search _ };
 }
 
 pub evaluate_step-loop-added-preserved : goal.evaluate_step-loop-added-preserved
@@ -438,6 +473,18 @@ evaluate_step-loop-added-preserved g t c =
           (settled_proved (assumed_in c.loop-added.cx.nodes c.loop-added.graph) (assumed_in c.evaluate_added.new.cx.nodes c.evaluate_added.new.graph) (λ ts. g.H.GoalHandler.handler ts c.args.handler.now) s c.args.table.now.mode (goal_kind_of c.args.kind) gs c.loop-added.step.left.items c.loop-added.added-index d c.in_ok-answer.answer.certainty at c.requires.posed i.runs.goes.extends e.runs.goes covers (rw (i.runs.goes.mode, c.step_kind_for_source-kind.ensures) at (e.proved (Since-later (ran i.runs) s))) (i.proved s));
       sure = λ y. n.left ∙ sure_more c.loop-added.step.certainty c.in_ok-answer.answer.certainty c.loop-added.step.left.items (get_or gs c.loop-added.added-index d) i.sure (sym n.certainty ∙ y);
       told = λ s tells. reach_more c.loop-added.table (g.H.GoalHandler.handler s.base c.args.handler.now) c.args.table.now.mode gs (get_or gs c.loop-added.added-index d) c.requires.posed there i.runs.goes.extends (i.told s tells) c.evaluate_added.new.table i.runs.goes.table e.runs.goes.extends (rw i.runs.goes.mode at (e.told (Since-later (ran i.runs) s) (heads_tell_later (g.H.GoalHandler.handler s.base c.args.handler.now) (bound_of c.args.depth) c.requires.search i.runs.goes.extends i.searches tells)));
+      decided = λ s m b here can.
+          let before = i.decided s m b here can in
+          let next = next_goal (g.H.GoalHandler.handler s.base c.args.handler.now) m gs b c.loop-added.added-index d i.runs.goes c.requires.posed here at before.rest in
+          let there = decides_later m (bound_of c.args.depth) c.requires.search (ran i.runs) before.search (omega arith) can.deep can in
+          let x = e.decided (Since-later (ran i.runs) s) m next.answer next.below there in
+          record {
+            rest = next.yes x.answer.0;
+            left = n.left ∙ ap (left_after c.loop-added.step.left.items (get_or gs c.loop-added.added-index d)) x.answer.1.0 ∙ before.left;
+            certain = n.certainty ∙ rw (before.certain, x.answer.1.0) refl;
+            unchanged = n.changed.1 (before.unchanged, x.answer.1.1);
+            search = then_same before.search x.search;
+          };
     }
 
 pub evaluate_step-returns : goal.evaluate_step-returns
@@ -452,6 +499,9 @@ evaluate_step-returns g t c =
       sure = search rules;
       told = search rules;
       refuted = search rules;
+      decided = λ s m b here can.
+          let x = c.loop-added.invariant.decided s m b here can in
+          record { answer = (at_end (g.H.GoalHandler.handler s.base c.args.handler.now) m c.args.cx.now.nodes c.args.table.now c.args.goals.now c.loop-added.added-index b (omega (arith, c.loop-added-test.false)) x.rest, (x.certain, x.unchanged)); search = x.search };
     }
 
 pub evaluate_step-returns-in_err-answer : goal.evaluate_step-returns-in_err-answer
@@ -473,6 +523,11 @@ evaluate_step-returns-in_err-answer g t c =
           let later = heads_tell_later h (bound_of c.args.depth) c.requires.search i.runs.goes.extends i.searches tells in
           stop_more c.loop-added.table h c.args.table.now.mode c.args.goals.now _ c.requires.posed (among_get c.args.goals.now c.loop-added.added-index _ c.loop-added-test.true) i.runs.goes.extends (i.told s tells) i.runs.goes.table c.args.kind _ c.step_kind_for_source-kind.ensures c.args.graph.now
           (cut_at_first i.runs.goes.extends c.requires.search i.searches (rw i.runs.goes.mode at (c.evaluate_added.ensures.refuted (Since-later (ran i.runs) s) later refused)));
+      decided = λ s m b here can.
+          let before = i.decided s m b here can in
+          let next = next_goal (g.H.GoalHandler.handler s.base c.args.handler.now) m c.args.goals.now b c.loop-added.added-index _ i.runs.goes c.requires.posed here c.loop-added-test.true before.rest in
+          let there = decides_later m (bound_of c.args.depth) c.requires.search (ran i.runs) before.search (omega arith) can.deep can in
+          decides_then before.search (decides_error c.evaluate_added.result c.from_residual.result fails (λ no. (search rules)) next.no (c.evaluate_added.ensures.decided (Since-later (ran i.runs) s) m next.answer next.below there));
     }
 
 pub evaluate_step-returns-in_err-note : goal.evaluate_step-returns-in_err-note
@@ -491,6 +546,7 @@ evaluate_step-returns-in_err-note g t c =
           let e = c.in_ok-answer.ensures in
           reach_more c.loop-added.table (g.H.GoalHandler.handler s.base c.args.handler.now) c.args.table.now.mode c.args.goals.now _ c.requires.posed (among_get c.args.goals.now c.loop-added.added-index _ c.loop-added-test.true) i.runs.goes.extends (i.told s tells) c.evaluate_added.new.table i.runs.goes.table e.runs.goes.extends (rw i.runs.goes.mode at (e.told (Since-later (ran i.runs) s) (heads_tell_later (g.H.GoalHandler.handler s.base c.args.handler.now) (bound_of c.args.depth) c.requires.search i.runs.goes.extends i.searches tells)));
       refuted = search rules;
+      decided = λ s m b here can. decides_fault c.from_residual-in_err-note.result fails (search rules);
     }
 
 pub probe_candidate-boxed_response-requires-clause-values : goal.probe_candidate-boxed_response-requires-clause-values
@@ -585,6 +641,7 @@ try_candidate-returns-in_err-goals g t c =
       proved = search rules;
       told = λ s tells. IfOk-from_err c.from_residual-in_err-goals.result _ fails;
       refuted = search rules;
+      decided = λ s n b d can. decides_fault c.from_residual-in_err-goals.result fails (search rules);
     }
 
 pub try_candidate-returns-in_err-record_constraints : goal.try_candidate-returns-in_err-record_constraints
@@ -598,9 +655,8 @@ try_candidate-returns-in_err-record_constraints g t c =
       labels = IfOk-from_err c.from_residual-in_err-record_constraints.result _ fails;
       proved = search rules;
       told = λ s tells. IfOk-from_err c.from_residual-in_err-record_constraints.result _ fails;
-      refuted = λ s tells n.
-          let no : c.record_constraints.result ≡ Err EvalError.NoSolution = search rules in
-          breaks {t = c.args.table.now} {u = c.equate.new.table} (g.H.GoalHandler.handler s.base c.args.handler.now) c.args.table.now.mode c.args.candidate.now c.deref-2.result.now (rw c.deref-2.ensures.value v.equated) (rw c.deref-3.ensures.value at (c.record_constraints.ensures.no no)) constraints;
+      refuted = search rules;
+      decided = λ s n b d can. decides_fault c.from_residual-in_err-record_constraints.result fails (search rules);
     }
 
 pub try_candidate-returns-in_err-values : goal.try_candidate-returns-in_err-values
@@ -615,6 +671,11 @@ try_candidate-returns-in_err-values g t c =
       refuted = λ s tells n.
           let no : c.equate.result ≡ Err EvalError.NoSolution = search rules in
           is_unmet (c.equate.ensures.unmet no);
+      decided = λ s n b d can.
+          decides_refused c.from_residual.result fails
+          (λ no.
+          let refused : c.equate.result ≡ Err EvalError.NoSolution = search rules in
+          refused_no d (c.equate.ensures.unmet refused)) (same_search _);
     }
 
 pub try_candidate-try_evaluate_goals-requires : goal.try_candidate-try_evaluate_goals-requires
@@ -637,6 +698,12 @@ search-returns g t c =
         | inl q ↦ inl q
         | inr x ↦ inr (record { head = x.head; below = x.below; same = x.same; path = x.path; elsewhere = x.elsewhere })
       ];
+      decided = λ s n b d can.
+          let x = e.decided s n b d (record { deep = can.deep; above = can.above; unmarked = refl; steps = can.steps; rounds = can.rounds; tight = can.tight }) in
+          record {
+            answer = x.answer;
+            search = marked_again _ _ _ _ c.evaluate_rounds-answer.result x.search refl refl refl (λ m. elim c.if-graph.branch [ search-then-graph w ↦ absurd (let yes = w.if-graph.true in cc (m, yes)) | search-else-graph w ↦ w.graph-is ]);
+          };
     }
 
 pub search-returns-in-Some : goal.search-returns-in-Some
@@ -649,6 +716,7 @@ search-returns-in-Some g t c =
       proved = λ s. ok_two c.answer_cycle.result (λ r fits usable sure. cycle_derived (meaning_since (λ ts. g.H.GoalHandler.handler ts c.args.handler.now) s) (mode_of c.args.input.value.typing_mode) (passed (path_kind_of c.args.step) (assumed_in c.answer_cycle.new.cx.nodes c.answer_cycle.new.graph)) c.args.cx.now.nodes c.answer_cycle.new.cx.nodes c.args.input.value r.value c.requires.input fits (usable sure)) (rw c.deref-in-Some.ensures at c.answer_cycle.ensures.fits) (rw c.deref-in-Some.ensures at c.answer_cycle.ensures.usable);
       told = λ s tells. IfOk-map c.answer_cycle.result (λ r x. cycle_told (g.H.GoalHandler.handler s.base c.args.handler.now) c.in-Some.head (c.args.depth + 1) c.args.input.value c.requires.search c.answer_cycle.ensures.grows (rw c.deref.ensures at c.in-Some.ensures.found) tells r.value x) (rw c.deref-in-Some.ensures at c.answer_cycle.ensures.some);
       refuted = λ s tells no. cycle_refuted (g.H.GoalHandler.handler s.base c.args.handler.now) c.in-Some.head (c.args.depth + 1) c.args.input.value c.requires.search c.answer_cycle.ensures.grows (rw c.deref.ensures at c.in-Some.ensures.found) tells (rw c.deref-in-Some.ensures at (c.answer_cycle.ensures.none no));
+      decided = λ s n b d can. absurd (stands_high (g.H.GoalHandler.handler s.base c.args.handler.now) c.args.cx.now.nodes n b c.args.graph.now c.args.input.value c.in-Some.head can.above (rw c.deref.ensures at c.in-Some.ensures.found) d);
     }
 
 pub try_evaluate_goals-evaluate_step-requires : goal.try_evaluate_goals-evaluate_step-requires
@@ -682,6 +750,8 @@ try_evaluate_goals-loop-step-init g t c = record {
   labels = only-refl _ _;
   proved = λ s y i. inl i;
   told = λ s tells. asks_nothing;
+  first = λ e. (refl, refl, refl, refl);
+  decided = λ s n b d can. refl;
 }
 
 pub try_evaluate_goals-loop-step-preserved : goal.try_evaluate_goals-loop-step-preserved
@@ -704,6 +774,11 @@ try_evaluate_goals-loop-step-preserved g t c =
           let i = c.loop-step.invariant in
           let e = c.in_ok-stepped.ensures in
           reach_step c.loop-step.table (g.H.GoalHandler.handler s.base c.args.handler.now) c.args.table.now.mode c.args.goals.now.items c.loop-step.goals.items c.requires.posed i.left i.runs.goes.extends (i.told s tells) c.evaluate_step.new.cx.nodes c.evaluate_step.new.table (rw (i.runs.goes.mode, c.deref.ensures.value) at (e.told (Since-later (ran i.runs) s) (heads_tell_later (g.H.GoalHandler.handler s.base c.args.handler.now) (bound_of c.args.depth) c.requires.search i.runs.goes.extends i.searches tells)));
+      first = λ e. absurd (omega (arith, e));
+      decided = λ s n b d can.
+          let first = i.first (i.decided s n b d can) in
+          let x = step_decided (g.H.GoalHandler.handler s.base c.args.handler.now) n b first.0 first.1 first.2 (rw c.deref.ensures.value first.3) d can (e.decided (Since-later (ran i.runs) s) n b) in
+          absurd (let more = c.if-not-stepped.false in let off = x.answer.1.1 in let clash = rw off at more in cc clash);
     }
 
 pub try_evaluate_goals-returns : goal.try_evaluate_goals-returns
@@ -721,6 +796,7 @@ try_evaluate_goals-returns g t c =
       sure = search rules;
       told = i.told;
       refuted = search rules;
+      decided = λ s n b d can. (let first = i.decided s n b d can in absurd (omega (arith, first, can.steps, c.loop-step-test.false, c.step_limit-step-end.ensures)));
     }
 
 pub try_evaluate_goals-returns-in_err-stepped : goal.try_evaluate_goals-returns-in_err-stepped
@@ -744,6 +820,10 @@ try_evaluate_goals-returns-in_err-stepped g t c =
           let search = c.requires.search in
           stop_step c.loop-step.table h c.args.table.now.mode c.args.goals.now.items c.loop-step.goals.items c.requires.posed i.left i.runs.goes.extends (i.told s tells) c.args.graph.now c.loop-step.graph c.args.kind search.stack search.heads (let y = i.searches in y.later)
           (rw (i.runs.goes.mode, c.deref.ensures.value) at (c.evaluate_step.ensures.refuted (Since-later (ran i.runs) s) (heads_tell_later (g.H.GoalHandler.handler s.base c.args.handler.now) (bound_of c.args.depth) c.requires.search i.runs.goes.extends i.searches tells) refused));
+      decided = λ s n b d can.
+          let first = i.first (i.decided s n b d can) in
+          let x = step_decided (g.H.GoalHandler.handler s.base c.args.handler.now) n b first.0 first.1 first.2 (rw c.deref.ensures.value first.3) d can (c.evaluate_step.ensures.decided (Since-later (ran i.runs) s) n b) in
+          decides_error c.evaluate_step.result c.from_residual.result fails (λ no. (search rules)) (λ no. no) x;
     }
 
 pub try_evaluate_goals-returns-then-not-stepped : goal.try_evaluate_goals-returns-then-not-stepped
@@ -762,4 +842,8 @@ try_evaluate_goals-returns-then-not-stepped g t c =
       sure = search rules;
       told = λ s tells. reach_step c.loop-step.table (g.H.GoalHandler.handler s.base c.args.handler.now) c.args.table.now.mode c.args.goals.now.items c.loop-step.goals.items c.requires.posed i.left i.runs.goes.extends (i.told s tells) c.evaluate_step.new.cx.nodes c.evaluate_step.new.table (rw (i.runs.goes.mode, c.deref.ensures.value) at (e.told (Since-later (ran i.runs) s) (heads_tell_later (g.H.GoalHandler.handler s.base c.args.handler.now) (bound_of c.args.depth) c.requires.search i.runs.goes.extends i.searches tells)));
       refuted = search rules;
+      decided = λ s n b d can.
+          let first = i.first (i.decided s n b d can) in
+          let x = step_decided (g.H.GoalHandler.handler s.base c.args.handler.now) n b first.0 first.1 first.2 (rw c.deref.ensures.value first.3) d can (e.decided (Since-later (ran i.runs) s) n b) in
+          record { answer = (x.answer.0, x.answer.1.0); search = x.search };
     }

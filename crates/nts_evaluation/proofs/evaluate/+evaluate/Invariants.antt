@@ -1,9 +1,8 @@
-use Rattle.std.proofs.Common.{◌<◌, ◌≡◌, ◌+◌, ◌*◌, ◌≤◌, take, map, []}
+use Rattle.std.proofs.Common.{ℕ, Bool, ◌<◌, ◌≡◌, ◌+◌, ◌*◌, ◌≤◌, take, drop, map, []}
 use Rattle.std.specs.Prelude.{All}
 use Rattle.nts_model.specs.Tables.Passing.{BringsOnly}
 use Rattle.nts_unify.specs.Reading.{content_of}
 use Rattle.nts_terms.specs.Rest.{Grows}
-use Rattle.nts_response.specs.Forms.{response_at}
 use Rattle.nts_certainty.specs.declared.certainty.Certainty.TheVariants as certainty
 use Rattle.nts_asking.specs.Meant.{AreOffered, IsServedSince, IsNestedSince, HaveOutcomes, ReachesBy}
 use Rattle.nts_asking.specs.Searching.{Searches, IsHeadAnswer, IsAnswerTold, assumed_in}
@@ -15,6 +14,9 @@ use Rattle.nts_trying.specs.Found.{Found}
 use Rattle.nts_trying.specs.Stepping.{ArePosed, AreLeft, AreSettled, terms_of, bound_of}
 use Rattle.nts_asking.specs.Evaluation.{Runs}
 use Rattle.nts_evaluation.specs.Promises.{WhereTold}
+use Rattle.nts_evaluation.specs.Deciding.{IsQueryDecided, IsBelow, CanDecide, IsAsBefore, AreRootValues, CandidatesSettled, GoalsSettled}
+use Rattle.nts_evaluation.proofs.DecidedCandidates.{AreSoFar}
+use Rattle.nts_evaluation.proofs.DecidedSteps.{IsStepSoFar}
 use Rattle.nts_asking.specs.Meant.{rules_of, Always}
 use Rattle.nts_evaluation.proofs.evaluate.+evaluate.Given as goal
 use Rattle.nts_asking.specs.Answering.{verdict_at}
@@ -64,6 +66,9 @@ invariant-evaluate_rounds-loop-round g l = record {
   input : l.asked.value.input ≡ l.fn.input.value;
   fits : IsHeadAnswer l.cx.nodes (kinds_of l.fn.input.value) l.asked.value.provisional;
   told : WhereTold (rules_of g.H.GoalHandler.ready g.H.GoalHandler.handler l.handler) l.fn.cx l.fn.graph (λ m. IsAnswerTold m (mode_of l.fn.input.value.typing_mode) l.cx.nodes (form_of l.fn.cx.nodes l.fn.input.value) l.asked.value.provisional);
+  first : l.round ≡ 0 → IsAsBefore l.fn.graph l.graph;
+  decided : Always (rules_of g.H.GoalHandler.ready g.H.GoalHandler.handler l.handler) l.fn.cx (λ s. (n : ℕ) (b : Bool) → IsBelow n (λ m. IsQueryDecided (g.H.GoalHandler.handler s.base l.handler) (mode_of l.fn.input.value.typing_mode) m (form_of l.fn.cx.nodes l.fn.input.value) b)
+      → CanDecide (g.H.GoalHandler.handler s.base l.handler) l.fn.cx l.fn.graph n (l.fn.depth + 1) → l.round ≡ 0);
 }
 
 -- the first candidates have these responses, and the table is as before
@@ -74,6 +79,9 @@ invariant-evaluate_candidates-loop-candidate g l = record {
   searches : Searches l.fn.cx l.cx l.fn.graph l.graph;
   found : All (Found (λ b u. Always (rules_of g.H.GoalHandler.ready g.H.GoalHandler.handler l.handler) l.fn.cx (λ s. AreOffered (g.H.GoalHandler.handler s.base l.handler) l.fn.table.mode l.fn.cx.nodes l.goal l.candidates → IsServedSince (λ ts. g.H.GoalHandler.handler ts l.handler) s l.fn.table.mode (assumed_in l.cx.nodes l.graph) b u l.goal)) l.fn.cx.nodes l.cx.nodes l.fn.table l.goal l.values) l.responses.items;
   told : WhereTold (rules_of g.H.GoalHandler.ready g.H.GoalHandler.handler l.handler) l.fn.cx l.fn.graph (λ m. HaveOutcomes m l.fn.table.mode l.fn.cx.nodes l.fn.table l.goal l.values (take l.candidate-index l.candidates) (map (verdict_at l.cx.nodes) l.responses.items));
+  decided : Always (rules_of g.H.GoalHandler.ready g.H.GoalHandler.handler l.handler) l.fn.cx (λ s. (n : ℕ) (b : Bool) → AreRootValues l.fn.cx.nodes l.values × CandidatesSettled (g.H.GoalHandler.handler s.base l.handler) l.fn.table.mode n l.fn.cx.nodes l.fn.table l.candidates b
+      → CanDecide (g.H.GoalHandler.handler s.base l.handler) l.fn.cx l.fn.graph n l.depth
+      → AreSoFar (g.H.GoalHandler.handler s.base l.handler) l.fn.table.mode n l.fn.cx.nodes l.fn.table (drop l.candidate-index l.candidates) b l.responses.items × IsAsBefore l.fn.graph l.graph);
 }
 
 -- the goals that are left, after the first steps
@@ -88,6 +96,9 @@ invariant-try_evaluate_goals-loop-step g l = record {
   labels : BringsOnly (terms_of l.fn.cx.nodes l.fn.goals.items) (content_of l.fn.cx.nodes l.fn.table.entries) (content_of l.cx.nodes l.table.entries);
   proved : Always (rules_of g.H.GoalHandler.ready g.H.GoalHandler.handler l.handler) l.fn.cx (λ s. AreSettled (IsNestedSince (λ ts. g.H.GoalHandler.handler ts l.handler) s l.fn.table.mode (goal_kind_of l.kind) (assumed_in l.cx.nodes l.graph) l.cx.nodes l.table) l.fn.goals.items l.goals.items);
   told : WhereTold (rules_of g.H.GoalHandler.ready g.H.GoalHandler.handler l.handler) l.fn.cx l.fn.graph (λ m. ReachesBy m l.fn.table.mode l.fn.cx.nodes l.fn.table l.cx.nodes l.table l.fn.goals.items);
+  first : l.step ≡ 0 → (l.cx ≡ l.fn.cx) × (l.table ≡ l.fn.table) × (l.graph ≡ l.fn.graph) × (l.goals.items ≡ l.fn.goals.items);
+  decided : Always (rules_of g.H.GoalHandler.ready g.H.GoalHandler.handler l.handler) l.fn.cx (λ s. (n : ℕ) (b : Bool) → GoalsSettled (g.H.GoalHandler.handler s.base l.handler) l.fn.table.mode n l.fn.cx.nodes l.fn.table l.fn.goals.items b
+      → CanDecide (g.H.GoalHandler.handler s.base l.handler) l.fn.cx l.fn.graph n (bound_of l.depth) → l.step ≡ 0);
 }
 
 -- the first goals were asked in this step
@@ -100,4 +111,7 @@ invariant-evaluate_step-loop-added g l = record {
   proved : Always (rules_of g.H.GoalHandler.ready g.H.GoalHandler.handler l.handler) l.fn.cx (λ s. AreSettled (IsNestedSince (λ ts. g.H.GoalHandler.handler ts l.handler) s l.fn.table.mode (goal_kind_of l.fn.kind) (assumed_in l.cx.nodes l.graph) l.cx.nodes l.table) (take l.added-index l.goals) l.step.left.items);
   sure : l.step.certainty ≡ certainty.Yes → l.step.left.items ≡ [];
   told : WhereTold (rules_of g.H.GoalHandler.ready g.H.GoalHandler.handler l.handler) l.fn.cx l.fn.graph (λ m. ReachesBy m l.fn.table.mode l.fn.cx.nodes l.fn.table l.cx.nodes l.table l.goals);
+  decided : Always (rules_of g.H.GoalHandler.ready g.H.GoalHandler.handler l.handler) l.fn.cx (λ s. (n : ℕ) (b : Bool) → GoalsSettled (g.H.GoalHandler.handler s.base l.handler) l.fn.table.mode n l.fn.cx.nodes l.fn.table l.goals b
+      → CanDecide (g.H.GoalHandler.handler s.base l.handler) l.fn.cx l.fn.graph n (bound_of l.depth)
+      → IsStepSoFar (g.H.GoalHandler.handler s.base l.handler) n l.fn.cx.nodes l.fn.table (drop l.added-index l.goals) b l.step l.fn.graph l.graph);
 }

@@ -1,4 +1,4 @@
-use Rattle.std.proofs.Common.{◌≡◌, inl, inr, true, false, Err, rules}
+use Rattle.std.proofs.Common.{◌≡◌, ◌∙◌, inl, inr, true, false, Err, rules, sym}
 use Rattle.nts_store.specs.declared.fault.EvalError.TheVariants as EvalError
 use Rattle.nts_asking.proofs.Evaluating.{IsPosed-admitted, Since-now}
 use Rattle.nts_evaluation.proofs.may_hold.root_goal_may_hold_opaque_types_jank.Goals as goal
@@ -20,3 +20,14 @@ pub returns-in-Err-NoSolution-clause-refuted : goal.returns-in-Err-NoSolution-cl
 returns-in-Err-NoSolution-clause-refuted g c = λ no.
     let refused : c.evaluate_and_roll_back.result ≡ Err EvalError.NoSolution = search rules in
     inl (c.evaluate_and_roll_back.ensures.refuted (Since-now c.terms_are_formed.ensures c.requires.ready) refused)
+
+pub returns-in-Ok-clause-decided : goal.returns-in-Ok-clause-decided
+returns-in-Ok-clause-decided g c = λ b d may.
+    let x = c.in-Ok.ensures.decided (Since-now c.terms_are_formed.ensures c.requires.ready) b (rw c.recursion_limit-depth.ensures d) may in
+    c.is_all_good.ensures.1 (rw x.1 tt) ∙ sym x.0
+
+pub returns-in-Err-NoSolution-clause-decided : goal.returns-in-Err-NoSolution-clause-decided
+returns-in-Err-NoSolution-clause-decided g c = λ b d may.
+    let refused : c.evaluate_and_roll_back.result ≡ Err EvalError.NoSolution = search rules in
+    let x = c.evaluate_and_roll_back.ensures.decided (Since-now c.terms_are_formed.ensures c.requires.ready) b (rw c.recursion_limit-depth.ensures d) may in
+    sym (rw refused at x)

@@ -1,4 +1,4 @@
-use Rattle.std.proofs.Common.{◌≡◌, Err, rules}
+use Rattle.std.proofs.Common.{◌≡◌, Err, rules, sym}
 use Rattle.nts_store.specs.declared.fault.EvalError.TheVariants as EvalError
 use Rattle.nts_asking.proofs.Evaluating.{IsPosed-admitted, Since-now}
 use Rattle.nts_evaluation.proofs.Coherence.{no_solution_under}
@@ -21,3 +21,12 @@ returns-in-Err-NoSolution-clause-none g c = λ no here.
     let lawful = g.met.H.GoalHandler.lawful ts c.args.handler.now c.terms_are_formed.ensures c.requires.ready in
     let law = g.met.H.GoalHandler.offered ts c.args.handler.now c.terms_are_formed.ensures c.requires.ready in
     no_solution_under c.requires.table c.requires.admitted lawful law here (returns-in-Err-NoSolution-clause-refuted g c no)
+
+pub returns-in-Ok-clause-decided : goal.returns-in-Ok-clause-decided
+returns-in-Ok-clause-decided g c = λ b d may. (let x = c.in-Ok.ensures.decided (Since-now c.terms_are_formed.ensures c.requires.ready) b d may in sym x.0)
+
+pub returns-in-Err-NoSolution-clause-decided : goal.returns-in-Err-NoSolution-clause-decided
+returns-in-Err-NoSolution-clause-decided g c = λ b d may.
+    let refused : c.evaluate_and_roll_back.result ≡ Err EvalError.NoSolution = search rules in
+    let x = c.evaluate_and_roll_back.ensures.decided (Since-now c.terms_are_formed.ensures c.requires.ready) b d may in
+    sym (rw refused at x)

@@ -1,4 +1,4 @@
-use Rattle.std.proofs.Common.{◌≡◌, ◌∙◌, Err, rules}
+use Rattle.std.proofs.Common.{◌≡◌, ◌∙◌, suc, arith, Err, rules}
 use Rattle.nts_store.specs.declared.fault.EvalError.TheVariants as EvalError
 use Rattle.nts_unify.specs.Lawful.{content_of-extended}
 use Rattle.nts_asking.proofs.Running.{unread}
@@ -9,6 +9,7 @@ use Rattle.nts_certainty.specs.declared.sources.PathKind.TheVariants as path
 use Rattle.nts_delegate.specs.Offered.{path_kind_of}
 use Rattle.nts_asking.specs.Meant.{IsProvedFromSince}
 use Rattle.nts_asking.proofs.Rounds.{search_begun, tell_begun, nothing_left, not_cut}
+use Rattle.nts_evaluation.proofs.Deciding.{fault_is_decided, decides_error, begun_decides}
 use Rattle.nts_evaluation.proofs.solve.evaluate_root.Goals as goal
 
 pub evaluate_goal-requires-clause-search : goal.evaluate_goal-requires-clause-search
@@ -49,3 +50,19 @@ returns-in_err-evaluated-clause-refuted g c = λ s q.
     let here = content_of-extended k.grows.extends c.requires.posed.table.now in
     let refused : c.evaluate_goal.result ≡ Err EvalError.NoSolution = search rules in
     not_cut c.new-graph.result c.new-graph.ensures.empty (rw (here, k.env, k.predicate) at (c.evaluate_goal.ensures.refuted (Since-later k.grows s) (tell_begun c.new-graph.result (g.H.GoalHandler.handler s.base c.args.handler.now) c.resolve_goal.new.cx.nodes c.new-graph.ensures.empty) refused))
+
+pub returns-in_err-asked-clause-decided : goal.returns-in_err-asked-clause-decided
+returns-in_err-asked-clause-decided g c = λ s b d may. fault_is_decided b c.from_residual.result _ (search rules) (search rules)
+
+pub returns-in_err-evaluated-clause-decided : goal.returns-in_err-evaluated-clause-decided
+returns-in_err-evaluated-clause-decided g c = λ s b d may.
+    let k = c.in_ok-asked.ensures in
+    let x = c.evaluate_goal.ensures.decided (Since-later k.grows s) (suc d.height) b (d.height, (omega arith), rw (k.env, k.predicate) d.decided) (begun_decides d k.grows may c.new-graph.ensures.empty c.new-graph.ensures.overflowed) in
+    let y = decides_error c.evaluate_goal.result c.from_residual-in_err-evaluated.result (search rules) (λ no. (search rules)) (λ no. no) x in
+    y.answer
+
+pub returns-clause-decided : goal.returns-clause-decided
+returns-clause-decided g c = λ s b d may.
+    let k = c.in_ok-asked.ensures in
+    let x = c.in_ok-evaluated.ensures.decided (Since-later k.grows s) (suc d.height) b (d.height, (omega arith), rw (k.env, k.predicate) d.decided) (begun_decides d k.grows may c.new-graph.ensures.empty c.new-graph.ensures.overflowed) in
+    (x.answer.0, x.answer.1.0)

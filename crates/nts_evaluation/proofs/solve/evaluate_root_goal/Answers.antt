@@ -51,3 +51,6 @@ returns-clause-keeps g c = λ x.
     let law = g.met.H.GoalHandler.offered ts c.args.handler.now c.terms_are_formed.ensures c.requires.ready in
     let told = c.evaluate_root-evaluated.ensures.evaluates (Since-now c.terms_are_formed.ensures c.requires.ready) in
     each_kept c.evaluate_root-evaluated.result told (λ e k. keeps_solutions_under c.requires.table c.requires.admitted lawful law x c.evaluate_root-evaluated.new.cx.nodes c.evaluate_root-evaluated.new.table k)
+
+pub returns-clause-decided : goal.returns-clause-decided
+returns-clause-decided g c = rw c.recursion_limit-depth.ensures at (c.evaluate_root-evaluated.ensures.decided (Since-now c.terms_are_formed.ensures c.requires.ready))

@@ -1,9 +1,7 @@
-use Rattle.std.proofs.Common.{◌≡◌, Err, arith, rules, refl, get_or}
-use Rattle.nts_store.specs.declared.fault.EvalError.TheVariants as EvalError
+use Rattle.std.proofs.Common.{arith, refl, get_or}
 use Rattle.std.proofs.lemmas.List.{take_all}
 use Rattle.nts_asking.proofs.Running.{Constrains-step}
 use Rattle.nts_trying.proofs.Constraining.{adds_more}
-use Rattle.nts_trying.proofs.Constraining.{add_fails}
 use Rattle.nts_delegate.specs.Candidates.{IsRegionConstraint}
 use Rattle.nts_delegate.specs.declared.delegate.RegionConstraint.{RegionConstraint}
 use Rattle.nts_asking.proofs.Evaluating.{Runs-refl, Runs-trans, AreValues-later, IsRegionConstraint-extended, constraint_at, IsPosed-later}
@@ -49,10 +47,3 @@ record_one-requires-clause-posed c = IsPosed-later c.loop-constraint.invariant.r
 pub returns-clause-added : goal.returns-clause-added
 returns-clause-added c =
     rw (take_all c.loop-constraint.constraint-index c.args.constraints.now (omega (arith, c.loop-constraint-test.false))) at c.loop-constraint.invariant.added
-
-pub returns-in_err-record_one-clause-no : goal.returns-in_err-record_one-clause-no
-returns-in_err-record_one-clause-no c = λ q.
-    let i = c.loop-constraint.invariant in
-    let at = constraint_at c.args.cx.now.nodes c.args.trial.fresh.now c.args.trial.goal c.args.constraints.now c.loop-constraint.constraint-index _ c.requires.constraints c.loop-constraint-test.true in
-    let no : c.record_one.result ≡ Err EvalError.NoSolution = search rules in
-    add_fails _ _ _ c.args.trial.values.now c.args.constraints.now c.loop-constraint.constraint-index _ _ c.loop-constraint-test.true i.runs.goes.extends c.requires.values.within at.left.within at.right.within i.added (c.record_one.ensures.no no)

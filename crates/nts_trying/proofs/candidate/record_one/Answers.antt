@@ -1,4 +1,4 @@
-use Rattle.std.proofs.Common.{◌∙◌, map}
+use Rattle.std.proofs.Common.{◌∙◌, map, ap, Some}
 use Rattle.nts_store.specs.Growth.{tree_at}
 use Rattle.nts_terms.proofs.Moved.{KeepsRest-refl}
 use Rattle.nts_table.specs.TableLaws.{IsTable-extended}
@@ -10,7 +10,9 @@ use Rattle.nts_model.specs.Terms.Substitutions.{filled}
 use Rattle.nts_model.specs.Derivations.Handlers.{constraint_by}
 use Rattle.nts_unify.specs.Lawful.{content_of-extended}
 use Rattle.nts_delegate.specs.Offered.{constraint_of}
-use Rattle.nts_trying.proofs.Constraining.{added_equal}
+use Rattle.nts_model.specs.Tables.Recording.{left_kind}
+use Rattle.nts_decisions.proofs.RelatedRegions.{regions_are_related}
+use Rattle.nts_trying.proofs.Constraining.{added_equal, never_refused}
 use Rattle.nts_trying.proofs.candidate.record_one.Goals as goal
 use Rattle.nts_trying.proofs.Labels.{over_only}
 use Rattle.nts_trying.proofs.Sides.{instance_closed}
@@ -115,11 +117,22 @@ returns-clause-added c =
     let same = content_of-extended e.grows.extends c.requires.posed.table.now in
     rw (e.left.tree, e.right.tree, same) at c.in_ok-record_outlives.ensures.added
 
-pub returns-in-Equal-clause-no : goal.returns-in-Equal-clause-no
-returns-in-Equal-clause-no c = λ q.
+pub returns-in-Equal-clause-memory : goal.returns-in-Equal-clause-memory
+returns-in-Equal-clause-memory c =
     let e = c.in_ok-left.ensures in
-    let same = content_of-extended e.grows.extends c.requires.posed.table.now in
-    (c.in-Equal.is, rw (e.left.tree, e.right.tree, same) at (c.relate_terms.ensures.no q))
+    let k = c.requires.constraint in
+    let p = c.requires.posed in
+    let l = instance_term p.table (can_fill p k.left c.requires.values) e.grows.extends e.left in
+    let r = instance_term p.table (can_fill p k.right c.requires.values) e.grows.extends e.right in
+    let table = IsTable-extended e.grows.extends p.table in
+    let now = table.now in
+    let proper = now.proper in
+    let sort = ap left_kind c.in-Equal.is in
+    never_refused c.relate_terms.result
+    (λ q. regions_are_related _ _ _ now.sound proper.solvable
+    (record { knows = l.knows; of_kind = e.left.kind ∙ k.left_sort ∙ ap Some sort; formed = e.left.formed _ l.within; closed = rw e.left.tree (instance_closed k.left c.requires.values) })
+    (record { knows = r.knows; of_kind = e.right.kind ∙ k.right_sort; formed = e.right.formed _ r.within; closed = rw e.right.tree (instance_closed k.right c.requires.values) })
+    (c.relate_terms.ensures.no q)) c.relate_terms.ensures.full
 
 pub returns-in-Equal-clause-labels : goal.returns-in-Equal-clause-labels
 returns-in-Equal-clause-labels c =

@@ -1,5 +1,4 @@
-use Rattle.std.proofs.Common.{rules, ◌≡◌, true, false, sym, ap, ◌∙◌}
-use Rattle.std.specs.Prelude.{IsTrue, not}
+use Rattle.std.proofs.Common.{rules, ◌≡◌, true, false}
 use Rattle.nts_trying.proofs.MergedResponses.{over_more, label_over}
 use Rattle.nts_trying.proofs.merged.is_over_terms.Goals as goal
 

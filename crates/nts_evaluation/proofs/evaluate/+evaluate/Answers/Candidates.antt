@@ -1,67 +1,54 @@
 -- Longer answers for the functions that answer a goal by its candidates.
-use Rattle.std.proofs.Common.{◌≡◌, inl, inr, Err, Ok, arith, rules, ◌+◌, ◌≤◌, map, length, take, get_or, refl, ap, sym, ◌∙◌, subst, length-append, [], ◌∷◌, true, false}
-use Rattle.std.specs.Prelude.{is_some, IfSome}
-use Rattle.std.proofs.lemmas.List.{take_all}
-use Rattle.nts_model.specs.Lists.{Among}
+use Rattle.std.proofs.Common.{◌≡◌, Err, Ok, arith, rules, ◌+◌, map, length, get_or, refl, ap, sym, ◌∙◌, subst, ◌∷◌, true}
 use Rattle.nts_model.specs.Derivations.Handlers.{meaning}
-use Rattle.nts_model.proofs.Tables.Bringing.{only-trans, only-refl}
-use Rattle.nts_certainty.specs.declared.sources.GoalSource.{GoalSource}
+use Rattle.nts_model.proofs.Tables.Bringing.{only-trans}
 use Rattle.nts_store.specs.Growth.{tree_at, AllIn}
 use Rattle.nts_store.proofs.Growing.{Extends-trans, Extends-refl}
-use Rattle.nts_terms.specs.declared.handles.Goal.{Goal}
 use Rattle.nts_terms.specs.Modes.{mode_of}
 use Rattle.nts_terms.proofs.Moved.{KeepsRest-trans, KeepsRest-refl}
 use Rattle.nts_unify.specs.Reading.{content_of}
 use Rattle.nts_unify.specs.Lawful.{content_of-extended}
 use Rattle.nts_table.specs.TableLaws.{IsTable-extended}
-use Rattle.nts_delegate.specs.Offered.{certainty_of, candidate_of, premise_of, path_kind_of, candidates_of}
-use Rattle.nts_delegate.proofs.Results.{IfOk-map, OnOk-map}
-use Rattle.nts_canonical.specs.Building.{kinds_of}
-use Rattle.nts_canonical.specs.Forms.{trees_of, form_of}
-use Rattle.nts_response.specs.Forms.{response_at}
-use Rattle.nts_asking.specs.Meant.{Since, meaning_since, IsProvedNow, IsNestedSince, rules_of}
+use Rattle.nts_delegate.specs.Candidates.{IsCandidate}
+use Rattle.nts_delegate.specs.Offered.{certainty_of, candidate_of, premise_of, candidates_of}
+use Rattle.nts_delegate.proofs.Results.{IfOk-map}
+use Rattle.nts_canonical.specs.Forms.{trees_of}
+use Rattle.nts_asking.specs.Meant.{Since, rules_of}
 use Rattle.nts_evaluation.proofs.Leaking.{checked}
-use Rattle.nts_trying.specs.Stepping.{AreLeft, AreSettled, bound_of}
-use Rattle.nts_theory.specs.Telling.Reaches.{asks_nothing}
 use Rattle.nts_asking.proofs.Asking.{IsAskedGoal-extended, kind_asked}
-use Rattle.nts_asking.proofs.AskedGoals.{trees_kept, ok_both, ok_two, args_there, applicable, evaluates, evaluates_at, was_asked, asked_stays, asked_labels, query_cut, response_refused, ok_three}
-use Rattle.nts_asking.proofs.AnsweredQueries.{first_entries, query_environment, query_predicate, args_later}
-use Rattle.nts_trying.proofs.Labels.{only_earlier, only_back, only_same, only_resolved, content_same}
-use Rattle.nts_asking.proofs.Evaluating.{Goes-trans, Goes-extends, Runs-trans, Runs-extends, Runs-refl, rolled_back, Since-later, offers-kept, IsPosed-later, AreValues-later, IsCandidate-extended, candidate_at, goes-back, HoldsGoal-extended}
-use Rattle.nts_trying.proofs.Stepping.{stopped_refused, among_get, posed_later, posed_left, only_one, only_left, reach_more, reach_step, left_trans, settled_step, left_more, settled_proved, sure_more}
-use Rattle.nts_asking.proofs.Running.{term_table, unread, HasRun, has_run, both_sure, constraints-kept, offered_there, Equates-later, Constrains-later}
+use Rattle.nts_asking.proofs.AskedGoals.{trees_kept}
+use Rattle.nts_asking.proofs.AnsweredQueries.{args_later}
+use Rattle.nts_trying.proofs.Labels.{only_earlier, only_back}
+use Rattle.nts_asking.proofs.Evaluating.{Goes-trans, Goes-extends, Runs-trans, Runs-extends, rolled_back, Since-later, offers-kept, IsPosed-later, AreValues-later, IsCandidate-extended, candidate_at, goes-back, HoldsGoal-extended}
+use Rattle.nts_trying.proofs.Stepping.{stopped_refused, among_get}
+use Rattle.nts_asking.proofs.Running.{term_table, HasRun, has_run, both_sure, constraints-kept, offered_there, Equates-later, Constrains-later}
 use Rattle.nts_canonical.specs.declared.types.Canonical.{Canonical}
 use Rattle.nts_response.specs.declared.types.Response.{Response}
-use Rattle.nts_terms.specs.Handles.{HoldsGoal}
 use Rattle.nts_store.specs.Kept.{map-kept, AllIn-kept}
-use Rattle.nts_theory.specs.Telling.{IsPlainResponse}
-use Rattle.nts_theory.specs.Telling.Tells.{tells_nothing, says_nothing}
-use Rattle.nts_theory.specs.Telling.Fails.{is_unmet}
-use Rattle.nts_trying.proofs.Opened.{told_through, told_offered, refuted_through, nothing_through, labels_through, labels_entered, proved_through}
-use Rattle.nts_trying.proofs.Probed.{found_in, found_still, found_fits, found_derived, went_in, plain_of, doubtful, not_kept, says_found, says_before, run_replies}
-use Rattle.nts_trying.proofs.Outcomes.{found_earlier, founds_more, founds_with, outcomes_first, outcomes_more, found_merged, told_merged, failed_of}
-use Rattle.nts_trying.proofs.Ran.{breaks, added_is, added_only, ran_to, ran_refused, all_proved, all_posed, proved_all, ok_inside}
+use Rattle.nts_trying.proofs.Opened.{told_through, told_offered, refuted_through, labels_through, proved_through}
+use Rattle.nts_trying.proofs.Probed.{found_in, found_still, went_in, plain_of, not_kept, says_found, says_before, run_replies}
+use Rattle.nts_trying.proofs.Outcomes.{found_earlier, founds_more, founds_with, outcomes_first, outcomes_more, failed_of}
+use Rattle.nts_trying.proofs.Ran.{added_is, added_only, ran_to, ran_refused, all_proved, all_posed, proved_all, ok_inside}
 use Rattle.nts_model.specs.Derivations.Rules.{goal_kind}
-use Rattle.nts_model.specs.Derivations.Proofs.{passed}
-use Rattle.nts_theory.proofs.Derivations.Assuming.{covers_passed}
-use Rattle.nts_search.specs.Kinds.{goal_kind_of}
-use Rattle.nts_search.specs.Searching.{entry_at, entries_at}
-use Rattle.nts_search.proofs.Stacked.{entries_pushed, entries_popped}
-use Rattle.nts_asking.specs.Searching.{HeadsTell, IsAnswerTold, IsHeadAnswer, assumed_in}
-use Rattle.nts_asking.proofs.Searching.{Searches-refl, Searches-trans, search_later, search_grown, search_grows, search_covers, covers_grown, stays_more, served_more, tell_grown, heads_tell_later, search_counted, search_marked, head_answer_later, answer_told_later, form_later, input_later, later_long}
-use Rattle.nts_search.specs.declared.stack.StackEntry.{StackEntry}
-use Rattle.nts_canonical.specs.declared.types.CanonicalInput.{CanonicalInput}
-use Rattle.nts_asking.specs.Answering.{IsAnswerTo, is_yes, verdict_at}
-use Rattle.nts_model.specs.Searching.Stacks.{IsDerivedFrom, IsProvedFrom, assumptions}
-use Rattle.nts_trying.specs.Found.{Found}
-use Rattle.nts_model.specs.Answers.Responses.{answer_sequent}
-use Rattle.nts_asking.proofs.Rounds.{search_noted, own_asked, own_form, entry_held, round_proved, round_told, grown, ran, search_then, entry_of, holds_answer, search_pushed, tell_pushed, search_same, search_popped, round_closes, last_fits, last_told, last_refuted, last_each, cycle_told, cycle_refuted, cycle_derived, first_fits, first_told, round_ends, ended_entry}
+use Rattle.nts_asking.specs.Searching.{HeadsTell, assumed_in}
+use Rattle.nts_asking.proofs.Searching.{Searches-refl, Searches-trans, search_later, search_grown, search_grows, search_covers, covers_grown, served_more, tell_grown, heads_tell_later}
+use Rattle.nts_asking.specs.Answering.{is_yes, verdict_at}
+use Rattle.nts_asking.proofs.Rounds.{grown, ran, search_then}
 use Rattle.nts_delegate.specs.Relevant.{LeavesOut}
 use Rattle.nts_trying.proofs.LeftOut.{all_outcomes, kept_offered}
-use Rattle.nts_asking.specs.declared.round.Round.{Round}
-use Rattle.nts_certainty.specs.declared.sources.GoalSource.TheVariants as source
 use Rattle.nts_store.specs.declared.fault.EvalError.TheVariants as EvalError
-use Rattle.nts_certainty.specs.declared.certainty.Certainty.TheVariants as certainty
+use Rattle.std.proofs.Common.{drop}
+use Rattle.std.proofs.lemmas.List.{drop_more}
+use Rattle.std.specs.Result.{is_err}
+use Rattle.nts_asking.specs.Answering.{is_kept}
+use Rattle.nts_asking.proofs.Running.{candidate-kept}
+use Rattle.nts_trying.proofs.Stepping.{among_get}
+use Rattle.nts_decisions.proofs.Faring.{among_by}
+use Rattle.nts_evaluation.specs.Deciding.{AreRootValues}
+use Rattle.nts_evaluation.proofs.Deciding.{decides_error, decides_grown, decides_later, same_search, then_same}
+use Rattle.nts_evaluation.proofs.DecidedCandidates.{AreSoFar, none_held, next_so_far, sure_yes}
+use Rattle.nts_evaluation.proofs.DecidedTrials.{its_decided}
+use Rattle.nts_evaluation.proofs.DecidedGoals.{opened_decided, kept_settled}
 use Rattle.nts_evaluation.proofs.evaluate.+evaluate.Goals as goal
 
 pub compute_goal-evaluate_candidates-response-requires : goal.compute_goal-evaluate_candidates-response-requires
@@ -128,7 +115,7 @@ compute_goal-returns g t c =
                 let law = g.met.H.GoalHandler.lawful s.base c.args.handler.now s.formed s.is_ready in
                 let there = Goes-trans goes f.goes in
                 let later = (Goes-trans o.goes there).continues in
-                let among = kept_offered c.in-Candidates.opened h c.enter_forall.new.table.mode offered in
+                let among = kept_offered _ c.in-Candidates.opened _ h c.enter_forall.new.table.mode offered in
                 proved_through c.requires.posed opened o.grows.extends h s.variances (mode_of c.args.table.now.mode) (assumed_in c.evaluate_candidates-response.new.cx.nodes c.evaluate_candidates-response.new.graph) posed (let z = c.in-Candidates.ensures.1 in z.asked) there later f.formed law (rw o.goes.mode at (f.sure y (Since-later (grown o.grows e.grows) s) among));
           })
           (rw c.deref.ensures.value at c.evaluate_candidates-response.ensures.found);
@@ -151,6 +138,18 @@ compute_goal-returns g t c =
           let predicate = e.grows.extends.kept c.in-Candidates.opened.predicate.node posed.holds.predicate.within in
           refuted_through c.requires.posed opened o.grows.extends posed c.in-Candidates.ensures.1 h c.args.table.now.mode c.args.values.now
           (rw (here, o.goes.mode, both, offers-kept h (mode_of c.args.table.now.mode) e.grows.extends posed.holds, environment, predicate) at (all_outcomes offered _ _ refl run));
+      decided = λ s n b d can.
+          let h = g.H.GoalHandler.handler s.base c.args.handler.now in
+          let law = g.met.H.GoalHandler.lawful s.base c.args.handler.now s.formed s.is_ready in
+          let same = g.met.H.GoalHandler.handler_kept s.base c.relevant_candidates.new.cx.nodes c.args.handler.now s.is_ready (Extends-trans s.extends up) in
+          let offered = subst (λ os. LeavesOut os (candidates_of c.relevant_candidates.new.cx.nodes c.in_ok-candidates.candidates.items)) (ap (λ m. (g.H.GoalHandler.handler c.relevant_candidates.new.cx.nodes c.args.handler.now).offers (mode_of m) (tree_at c.relevant_candidates.new.cx.nodes c.in-Candidates.opened.param_env.node) (tree_at c.relevant_candidates.new.cx.nodes c.in-Candidates.opened.predicate.node)) c.typing_mode.ensures ∙ same.offers _ _ _) e.offered in
+          let x = opened_decided h law (mode_of c.args.table.now.mode) n b c.args.goal c.args.values.now d.0 d.1 c.requires.posed c.terms_are_formed.ensures o.grows.extends c.in-Candidates.opened opened posed in
+          let environment = e.grows.extends.kept c.in-Candidates.opened.param_env.node posed.holds.env.within in
+          let predicate = e.grows.extends.kept c.in-Candidates.opened.predicate.node posed.holds.predicate.within in
+          let settled = kept_settled h c.args.table.now.mode n b c.enter_forall.new.cx.nodes c.in-Candidates.opened c.in_ok-candidates.candidates.items here environment predicate x (rw o.goes.mode at offered) in
+          let root = d.0 in
+          let values : AreRootValues c.relevant_candidates.new.cx.nodes c.args.values.now = record { kinds = root.kinds; roots = root.roots; values = trees_kept c.args.cx.now.nodes c.relevant_candidates.new.cx.nodes c.args.table.now.entries c.args.values.now up c.requires.values ∙ root.values } in
+          c.evaluate_candidates-response.ensures.decided (Since-later (grown o.grows e.grows) s) n b (values, rw (o.goes.mode, c.deref.ensures.value) settled) (decides_grown c.requires.search (grown o.grows e.grows) can);
     }
 
 pub evaluate_candidates-loop-candidate-init : goal.evaluate_candidates-loop-candidate-init
@@ -160,6 +159,7 @@ evaluate_candidates-loop-candidate-init g t c = record {
   searches = Searches-refl c.args.depth c.requires.search (record { extends = Extends-refl _; rest = KeepsRest-refl _ });
   found = λ k d l. absurd (omega (arith, l, ap (length {A = Canonical Response}) c.new-responses.ensures.items));
   told = λ s tells. outcomes_first c.args.cx.now.nodes c.args.cx.now.nodes c.args.table.now c.args.goal (g.H.GoalHandler.handler s.base c.args.handler.now) c.args.table.now.mode c.args.values.now c.args.candidates.now c.new-responses.result.items c.new-responses.ensures.items;
+  decided = λ s n b d can. (let fares = d.1 in (subst (AreSoFar (g.H.GoalHandler.handler s.base c.args.handler.now) c.args.table.now.mode n c.args.cx.now.nodes c.args.table.now c.args.candidates.now b) (sym c.new-responses.ensures.items) (none_held fares.fares), same_search _));
 }
 
 pub evaluate_candidates-loop-candidate-preserved : goal.evaluate_candidates-loop-candidate-preserved
@@ -191,6 +191,23 @@ evaluate_candidates-loop-candidate-preserved g t c =
       told = λ s tells. outcomes_more (g.H.GoalHandler.handler s.base c.args.handler.now) mode cs c.loop-candidate.candidate-index x x rs new c.probe_candidate-answer.result at c.candidate-item.is i.grows.extends p.grows.extends w c.requires.values (candidate_at c.args.cx.now.nodes c.args.goal cs c.loop-candidate.candidate-index x c.requires.candidates at) i.found m.kept holds
           (rw i.same at (p.told (Since-later i.grows s) (later s tells)))
           (failed_of c.probe_candidate-answer.result m.dropped (λ n. rw i.same at (p.refuted (Since-later i.grows s) (later s tells) n))) (i.told s tells);
+      decided = λ s n b d can.
+          let h = g.H.GoalHandler.handler s.base c.args.handler.now in
+          let so_far = i.decided s n b d can in
+          let index = c.loop-candidate.candidate-index in
+          let left = drop_more cs index x at ∙ ap (λ z. z ∷ drop (index + 1) cs) (sym c.candidate-item.is) in
+          let candidate : IsCandidate c.args.cx.now.nodes c.args.goal x = rw c.candidate-item.is (candidate_at c.args.cx.now.nodes c.args.goal cs index x c.requires.candidates at) in
+          let kept = candidate-kept {a = c.args.cx.now.nodes} {b = c.loop-candidate.cx.nodes} {g = c.args.goal} {d = x} i.grows.extends candidate in
+          let trees = trees_kept c.args.cx.now.nodes c.loop-candidate.cx.nodes c.args.table.now.entries c.args.values.now i.grows.extends c.requires.values in
+          let root = d.0 in
+          let all = d.1 in
+          let values : AreRootValues c.loop-candidate.cx.nodes c.args.values.now = record { kinds = root.kinds; roots = root.roots; values = trees ∙ root.values } in
+          let sure = all.sure (candidate_of c.args.cx.now.nodes x) (rw c.candidate-item.is (among_by (candidate_of c.args.cx.now.nodes) cs (get_or cs index x) (among_get cs index x at))) in
+          let ready = decides_later n c.args.depth c.requires.search i.grows so_far.1 (omega arith) can.deep can in
+          let next = next_so_far h mode n c.args.cx.now.nodes c.args.table.now x (drop (index + 1) cs) b rs new c.probe_candidate-answer.result m.kept m.dropped
+          (λ k f. p.decided (Since-later i.grows s) n k (values, record { fares = rw (i.same, content_of-extended i.grows.extends w.now, kept) f; sure = sure }) ready)
+          (subst (λ ys. AreSoFar h mode n c.args.cx.now.nodes c.args.table.now ys b rs) left so_far.0) in
+          (next.0, then_same so_far.1 next.1);
     }
 
 pub evaluate_candidates-probe_candidate-answer-requires : goal.evaluate_candidates-probe_candidate-answer-requires
@@ -249,6 +266,10 @@ probe_candidate-returns g t c =
           run_replies c.start_snapshot.new.self c.args.table.now c.run_candidate.new.table h c.args.table.now.mode c.args.candidate.now c.args.goal (trees_of c.args.cx.now.nodes c.args.values.now) _ (r.told s tells) o.mode o.entries c.terms_are_formed.ensures r.runs.goes.table r.labels
           (says_before c.in-Ok.certainty (content_of c.args.cx.now.nodes c.start_snapshot.new.self.entries) (content_of c.run_candidate.new.cx.nodes c.run_candidate.new.table.entries) (trees_of c.args.cx.now.nodes c.args.values.now) (verdict_at c.boxed_response.new.cx.nodes c.in_ok-response-2.response.value) (ap is_yes m.certainty) unsure (rw o.entries (plain_of c.in-Ok.certainty _ _ _ (rw (back, still, trees) at m.says) unsure)));
       refuted = search rules;
+      decided = λ s n b d can.
+          let settled = d.1 in
+          let x = r.decided s n b (record { fares = rw (o.mode, o.entries) settled.fares; sure = settled.sure }) can in
+          absurd (let kept = ap is_kept x.answer.1 in let none = sym c.keeps_constraints.ensures ∙ c.if-keeps_constraints.false in cc (kept, none));
     }
 
 pub probe_candidate-returns-then-keeps_constraints : goal.probe_candidate-returns-then-keeps_constraints
@@ -273,6 +294,10 @@ probe_candidate-returns-then-keeps_constraints g t c =
           run_replies c.start_snapshot.new.self c.args.table.now c.run_candidate.new.table h c.args.table.now.mode c.args.candidate.now c.args.goal (trees_of c.args.cx.now.nodes c.args.values.now) _ (r.told s tells) o.mode o.entries c.terms_are_formed.ensures r.runs.goes.table r.labels
           (says_found c.in-Ok.certainty (content_of c.args.cx.now.nodes c.start_snapshot.new.self.entries) (content_of c.run_candidate.new.cx.nodes c.run_candidate.new.table.entries) (trees_of c.args.cx.now.nodes c.args.values.now) (verdict_at c.boxed_response-response.new.cx.nodes c.in_ok-response.field-0.value) (ap is_yes m.certainty) (rw trees at m.says));
       refuted = search rules;
+      decided = λ s n b d can.
+          let settled = d.1 in
+          let x = r.decided s n b (record { fares = rw (o.mode, o.entries) settled.fares; sure = settled.sure }) can in
+          record { answer = (x.answer.0, m.certainty ∙ x.answer.1); search = x.search };
     }
 
 pub run_candidate-returns : goal.run_candidate-returns
@@ -323,15 +348,22 @@ try_candidate-returns g t c =
             known = rw c.deref-2.ensures.value later.known;
             equations = rw c.deref-2.ensures.value (Equates-later c.args.cx.now.nodes c.in_ok-values.values.items x.equations.items (Runs-trans k.runs steps).goes v.values.within v.equal);
             constraints = Constrains-later c.args.cx.now.nodes vs x.region_constraints.items steps.goes (AllIn-kept c.equate.new.cx.nodes c.record_constraints.new.cx.nodes vs within k.runs.goes.extends) (rw (c.deref-3.ensures.value, constraints) at k.held);
-            goals = all_proved (meaning (g.H.GoalHandler.handler s.base c.args.handler.now) s.variances) (mode_of mode) kind A (map (tree_at z) vs) (map (premise_of c.args.cx.now.nodes) x.goals.items) gs goals (all_posed gs n.added.posed) e.runs.goes c.terms_are_formed.ensures (proved_all _ gs none settled);
+            goals = all_proved (meaning (g.H.GoalHandler.handler s.base c.args.handler.now) s.variances) (mode_of mode) kind A (map (tree_at z) vs) (map (premise_of c.args.cx.now.nodes) x.goals.items) gs goals (all_posed gs n.added.posed) e.runs.goes c.terms_are_formed-2.ensures (proved_all _ gs none settled);
           } in
           rw (all.goes.extends.kept c.args.goal.param_env.node c.requires.posed.holds.env.within, all.goes.extends.kept c.args.goal.predicate.node c.requires.posed.holds.predicate.within)
-          (has_run h s.variances (mode_of mode) A here seen (map (tree_at z) vs) (tree_at c.args.cx.now.nodes c.args.goal.param_env.node) (tree_at c.args.cx.now.nodes c.args.goal.predicate.node) (term_table c.terms_are_formed.ensures e.runs.goes.table) offered run);
+          (has_run h s.variances (mode_of mode) A here seen (map (tree_at z) vs) (tree_at c.args.cx.now.nodes c.args.goal.param_env.node) (tree_at c.args.cx.now.nodes c.args.goal.predicate.node) (term_table c.terms_are_formed-2.ensures e.runs.goes.table) offered run);
       told = λ s tells.
           let h = g.H.GoalHandler.handler s.base c.args.handler.now in
           let since = Since-later (grown (ran there) n.grows) s in
           ran_to {t = c.args.table.now} {u = c.equate.new.table} {v = c.record_constraints.new.table} h mode c.args.goal x vs gs (rw c.deref-2.ensures.value v.equated) (rw (c.deref-3.ensures.value) at k.added) constraints c.requires.candidate.goals v.runs.goes.extends k.runs.goes.extends there.goes.extends n.grows.extends k.runs.goes.table within (rw c.deref-4.ensures.value at n.added.goals) c.try_evaluate_goals.new.cx.nodes c.try_evaluate_goals.new.table (rw upto.goes.mode at (c.in_ok-certainty.ensures.told since (tell_grown h c.args.depth c.requires.search (grown (ran c.in_ok-values.ensures.runs) (grown (ran c.in_ok-record_constraints.ensures.runs) c.in_ok-goals.ensures.grows)) tells)));
       refuted = search rules;
+      decided = λ s i b d can.
+          let h = g.H.GoalHandler.handler s.base c.args.handler.now in
+          let since = Since-later (grown (ran there) n.grows) s in
+          let up = grown (ran c.in_ok-values.ensures.runs) (grown (ran c.in_ok-record_constraints.ensures.runs) c.in_ok-goals.ensures.grows) in
+          let settled = its_decided {t = c.args.table.now} {u = c.equate.new.table} {v = c.record_constraints.new.table} h mode i b c.args.goal x vs gs (rw c.deref-2.ensures.value v.equated) (rw (c.deref-3.ensures.value) at k.added) constraints c.requires.candidate.goals v.runs.goes.extends k.runs.goes.extends there.goes.extends n.grows.extends k.runs.goes.table within (rw c.deref-4.ensures.value at n.added.goals) c.terms_are_formed.ensures v.runs.goes.table n.added.posed c.requires.posed c.requires.candidate d c.record_constraints.new.table refl in
+          let y = e.decided since i b (rw upto.goes.mode settled) (decides_grown c.requires.search up can) in
+          record { answer = (y.answer.0, c.and.ensures ∙ rw (sure_yes x.certainty d.sure, y.answer.1) refl); search = y.search };
     }
 
 pub try_candidate-returns-in_err-certainty : goal.try_candidate-returns-in_err-certainty
@@ -358,6 +390,13 @@ try_candidate-returns-in_err-certainty g t c =
           let since = Since-later (grown (ran there) n.grows) s in
           let refused : c.try_evaluate_goals.result ≡ Err EvalError.NoSolution = search rules in
           ran_refused {t = c.args.table.now} {u = c.equate.new.table} {v = c.record_constraints.new.table} h mode c.args.goal x vs gs (rw c.deref-2.ensures.value v.equated) (rw (c.deref-3.ensures.value) at k.added) constraints c.requires.candidate.goals v.runs.goes.extends k.runs.goes.extends there.goes.extends n.grows.extends k.runs.goes.table within (rw c.deref-4.ensures.value at n.added.goals) (rw upto.goes.mode at (stopped_refused c.record_constraints.new.table _ c.goal_kind-kind.result (kind_asked c.goal_kind-kind.result (meaning h s.variances) (c.goal_kind-kind.ensures.kind s.base s.variances) c.requires.asked) (c.try_evaluate_goals.ensures.refuted since (tell_grown h c.args.depth c.requires.search (grown (ran c.in_ok-values.ensures.runs) (grown (ran c.in_ok-record_constraints.ensures.runs) c.in_ok-goals.ensures.grows)) tells) refused)));
+      decided = λ s i b d can.
+          let h = g.H.GoalHandler.handler s.base c.args.handler.now in
+          let since = Since-later (grown (ran there) n.grows) s in
+          let up = grown (ran c.in_ok-values.ensures.runs) (grown (ran c.in_ok-record_constraints.ensures.runs) c.in_ok-goals.ensures.grows) in
+          let settled = its_decided {t = c.args.table.now} {u = c.equate.new.table} {v = c.record_constraints.new.table} h mode i b c.args.goal x vs gs (rw c.deref-2.ensures.value v.equated) (rw (c.deref-3.ensures.value) at k.added) constraints c.requires.candidate.goals v.runs.goes.extends k.runs.goes.extends there.goes.extends n.grows.extends k.runs.goes.table within (rw c.deref-4.ensures.value at n.added.goals) c.terms_are_formed.ensures v.runs.goes.table n.added.posed c.requires.posed c.requires.candidate d c.record_constraints.new.table refl in
+          let fails : is_err c.from_residual-in_err-certainty.result ≡ true = search rules in
+          decides_error c.try_evaluate_goals.result c.from_residual-in_err-certainty.result fails (λ no. (search rules)) (λ no. no) (c.try_evaluate_goals.ensures.decided since i b (rw upto.goes.mode settled) (decides_grown c.requires.search up can));
     }
 
 pub try_candidate-try_evaluate_goals-requires : goal.try_candidate-try_evaluate_goals-requires

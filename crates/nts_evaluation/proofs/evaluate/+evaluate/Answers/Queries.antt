@@ -1,66 +1,41 @@
 -- Longer answers for the functions that answer queries, in rounds.
-use Rattle.std.proofs.Common.{◌≡◌, inl, inr, Err, Ok, arith, rules, ◌+◌, ◌≤◌, map, length, take, get_or, refl, ap, sym, ◌∙◌, subst, length-append, [], ◌∷◌, true, false}
-use Rattle.std.specs.Prelude.{is_some, IfSome}
-use Rattle.std.proofs.lemmas.List.{take_all}
-use Rattle.nts_model.specs.Lists.{Among}
-use Rattle.nts_model.specs.Derivations.Handlers.{meaning}
-use Rattle.nts_model.proofs.Tables.Bringing.{only-trans, only-refl}
-use Rattle.nts_certainty.specs.declared.sources.GoalSource.{GoalSource}
-use Rattle.nts_store.specs.Growth.{tree_at, AllIn}
-use Rattle.nts_store.proofs.Growing.{Extends-trans, Extends-refl}
-use Rattle.nts_terms.specs.declared.handles.Goal.{Goal}
+use Rattle.std.proofs.Common.{◌≡◌, inl, arith, rules, ◌+◌, ◌≤◌, refl, ap, sym, ◌∙◌, subst, ◌∷◌, false}
+use Rattle.std.specs.Prelude.{IfSome}
+use Rattle.nts_store.specs.Growth.{tree_at}
+use Rattle.nts_store.proofs.Growing.{Extends-trans}
 use Rattle.nts_terms.specs.Modes.{mode_of}
-use Rattle.nts_terms.proofs.Moved.{KeepsRest-trans, KeepsRest-refl}
+use Rattle.nts_terms.proofs.Moved.{KeepsRest-trans}
 use Rattle.nts_unify.specs.Reading.{content_of}
-use Rattle.nts_unify.specs.Lawful.{content_of-extended}
 use Rattle.nts_table.specs.TableLaws.{IsTable-extended}
-use Rattle.nts_delegate.specs.Offered.{certainty_of, candidate_of, premise_of, path_kind_of, candidates_of}
+use Rattle.nts_delegate.specs.Offered.{path_kind_of}
 use Rattle.nts_delegate.proofs.Results.{IfOk-map, OnOk-map}
 use Rattle.nts_canonical.specs.Building.{kinds_of}
-use Rattle.nts_canonical.specs.Forms.{trees_of, form_of}
+use Rattle.nts_canonical.specs.Forms.{form_of}
 use Rattle.nts_response.specs.Forms.{response_at}
-use Rattle.nts_asking.specs.Meant.{Since, meaning_since, IsProvedNow, IsNestedSince}
-use Rattle.nts_trying.specs.Stepping.{AreLeft, AreSettled, bound_of}
-use Rattle.nts_theory.specs.Telling.Reaches.{asks_nothing}
-use Rattle.nts_asking.proofs.Asking.{IsAskedGoal-extended, kind_asked}
-use Rattle.nts_asking.proofs.AskedGoals.{trees_kept, ok_both, ok_two, args_there, applicable, evaluates, evaluates_at, was_asked, asked_stays, asked_labels, query_cut, response_refused, ok_three}
-use Rattle.nts_asking.proofs.AnsweredQueries.{first_entries, query_environment, query_predicate, args_later}
-use Rattle.nts_trying.proofs.Labels.{only_earlier, only_back, only_same, only_resolved, content_same}
-use Rattle.nts_asking.proofs.Evaluating.{Goes-trans, Goes-extends, Runs-trans, Runs-extends, Runs-refl, rolled_back, Since-later, offers-kept, IsPosed-later, AreValues-later, IsCandidate-extended, candidate_at, goes-back, HoldsGoal-extended}
-use Rattle.nts_trying.proofs.Stepping.{among_get, posed_later, posed_left, only_one, only_left, reach_more, reach_step, left_trans, settled_step, left_more, settled_proved, sure_more}
-use Rattle.nts_asking.proofs.Running.{term_table, unread, HasRun, has_run, both_sure, constraints-kept, offered_there, Equates-later, Constrains-later}
-use Rattle.nts_canonical.specs.declared.types.Canonical.{Canonical}
-use Rattle.nts_response.specs.declared.types.Response.{Response}
-use Rattle.nts_terms.specs.Handles.{HoldsGoal}
-use Rattle.nts_store.specs.Kept.{map-kept, AllIn-kept}
-use Rattle.nts_theory.specs.Telling.{IsPlainResponse}
-use Rattle.nts_theory.specs.Telling.Tells.{tells_nothing, says_nothing}
-use Rattle.nts_theory.specs.Telling.Fails.{is_unmet}
-use Rattle.nts_trying.proofs.Opened.{told_through, told_offered, refuted_through, nothing_through, labels_through, labels_entered, proved_through}
-use Rattle.nts_trying.proofs.Probed.{found_in, found_still, found_fits, found_derived, went_in, plain_of, doubtful, not_kept, says_found, says_before, run_replies}
-use Rattle.nts_trying.proofs.Outcomes.{found_earlier, founds_more, founds_with, outcomes_first, outcomes_more, found_merged, told_merged, failed_of}
-use Rattle.nts_trying.proofs.Ran.{breaks, added_is, added_only, ran_to, ran_refused, all_proved, all_posed, proved_all, ok_inside}
-use Rattle.nts_model.specs.Derivations.Rules.{goal_kind}
+use Rattle.nts_asking.specs.Meant.{Since, meaning_since, IsProvedNow}
+use Rattle.nts_asking.proofs.AskedGoals.{ok_both, ok_two, evaluates, asked_stays, asked_labels, response_refused, ok_three}
+use Rattle.nts_asking.proofs.Evaluating.{Runs-trans, Runs-extends, Since-later}
+use Rattle.nts_trying.proofs.Probed.{found_fits, found_derived}
 use Rattle.nts_model.specs.Derivations.Proofs.{passed}
 use Rattle.nts_theory.proofs.Derivations.Assuming.{covers_passed}
-use Rattle.nts_search.specs.Kinds.{goal_kind_of}
 use Rattle.nts_search.specs.Searching.{entry_at, entries_at}
-use Rattle.nts_search.proofs.Stacked.{entries_pushed, entries_popped}
-use Rattle.nts_asking.specs.Searching.{HeadsTell, IsAnswerTold, IsHeadAnswer, assumed_in}
-use Rattle.nts_asking.proofs.Searching.{Searches-refl, Searches-trans, search_later, search_grown, search_grows, search_covers, covers_grown, stays_more, served_more, tell_grown, heads_tell_later, search_counted, search_marked, search_unmarked, search_marked_again, round_counted, head_answer_later, answer_told_later, form_later, input_later, later_long}
+use Rattle.nts_search.proofs.Stacked.{entries_popped}
+use Rattle.nts_asking.specs.Searching.{IsAnswerTold, IsHeadAnswer, assumed_in}
+use Rattle.nts_asking.proofs.Searching.{Searches-refl, Searches-trans, search_later, search_grown, search_grows, covers_grown, stays_more, tell_grown, heads_tell_later, search_unmarked, round_counted, form_later}
 use Rattle.nts_search.specs.declared.stack.StackEntry.{StackEntry}
-use Rattle.nts_canonical.specs.declared.types.CanonicalInput.{CanonicalInput}
-use Rattle.nts_asking.specs.Answering.{IsAnswerTo, is_yes}
 use Rattle.nts_model.specs.Searching.Stacks.{IsDerivedFrom, IsProvedFrom, assumptions}
 use Rattle.nts_trying.specs.Found.{Found}
 use Rattle.nts_model.specs.Answers.Responses.{answer_sequent}
-use Rattle.nts_asking.proofs.Rounds.{search_noted, own_asked, own_form, entry_held, round_proved, round_told, grown, ran, search_then, entry_of, holds_answer, search_pushed, tell_pushed, search_same, search_popped, round_closes, last_fits, last_told, last_refuted, last_each, cycle_told, cycle_refuted, cycle_derived, first_fits, first_told, round_ends, ended_entry}
-use Rattle.nts_delegate.specs.Relevant.{LeavesOut}
-use Rattle.nts_trying.proofs.LeftOut.{all_outcomes, kept_offered}
+use Rattle.nts_asking.proofs.Rounds.{search_noted, own_asked, own_form, round_proved, round_told, grown, ran, search_then, entry_of, holds_answer, search_pushed, tell_pushed, search_popped, round_closes, last_fits, last_told, last_refuted, last_each, first_fits, first_told, round_ends, ended_entry}
 use Rattle.nts_asking.specs.declared.round.Round.{Round}
-use Rattle.nts_certainty.specs.declared.sources.GoalSource.TheVariants as source
-use Rattle.nts_store.specs.declared.fault.EvalError.TheVariants as EvalError
 use Rattle.nts_certainty.specs.declared.certainty.Certainty.TheVariants as certainty
+use Rattle.nts_table.specs.TableLaws.{IsTable-extended}
+use Rattle.nts_decisions.proofs.UnchangedAnswers.{own_granted}
+use Rattle.nts_evaluation.specs.Deciding.{CanDecide, IsRoundDecided}
+use Rattle.nts_evaluation.proofs.Deciding.{decides_grown, decides_later, same_search, then_same}
+use Rattle.nts_evaluation.proofs.DecidedTrials.{formed_before}
+use Rattle.nts_evaluation.proofs.DecidedQueries.{its_kinds, decided_there}
+use Rattle.nts_evaluation.proofs.DecidedRounds.{pushed_above, own_there, ended_decided, last_decided, applied_decided, as_query, originals_long, only_counted, round_query}
 use Rattle.nts_evaluation.proofs.evaluate.+evaluate.Goals as goal
 
 pub evaluate_goal-returns : goal.evaluate_goal-returns
@@ -91,6 +66,15 @@ evaluate_goal-returns g t c =
           (λ x sure same applied. evaluates c.requires.posed q.query q.grows.extends k.grows.extends c.apply_answer-evaluated.new.table c.in_ok-answer.answer.value applied (g.H.GoalHandler.handler s.base c.args.handler.now) c.args.table.now.mode k.fits (rw q.query.mode at told) x.certainty sure x.has_changed same)
           (rw c.deref-2.ensures at e.certainty) (rw c.deref-2.ensures at e.changed) (rw (c.deref.ensures.value, c.deref-2.ensures) at e.applied);
       refuted = λ s tells n. inl (response_refused c.requires.posed q.query q.grows.extends k.grows.extends c.in_ok-answer.answer.value k.fits (rw q.query.mode at (k.told (Since-later q.grows s) (tell_grown (g.H.GoalHandler.handler s.base c.args.handler.now) (c.args.depth + 1) c.requires.search q.grows tells))) (rw (c.deref.ensures.value, c.deref-2.ensures) at (c.apply_answer-evaluated.ensures.no n)));
+      decided = λ s n b d can.
+          let x = k.decided (Since-later q.grows s) n b (as_query c.args.goal c.in_ok-originals.input.value n b q.query d) (decides_grown c.requires.search q.grows can) in
+          let yes = x.answer in
+          let own = yes.1.1 in
+          let table = IsTable-extended (Extends-trans q.grows.extends k.grows.extends) c.requires.posed.table in
+          let now = table.now in
+          let proper = now.proper in
+          applied_decided b c.apply_answer-evaluated.result yes.0 (IfOk-map c.apply_answer-evaluated.result (λ y e. e ∙ yes.1.0) (rw c.deref-2.ensures at e.certainty)) (IfOk-map c.apply_answer-evaluated.result (λ y e. e.1 own.identity) (rw c.deref-2.ensures at e.changed))
+          (λ no. own_granted _ _ _ now.sound proper.solvable (own.own _ (originals_long _ c.args.goal c.in_ok-originals.input.value q.query)) (rw (c.deref.ensures.value, c.deref-2.ensures) at (c.apply_answer-evaluated.ensures.no no))) x.search;
     }
 
 pub evaluate_goal-search-requires : goal.evaluate_goal-search-requires
@@ -187,6 +171,19 @@ evaluate_round-returns g t c =
           (λ no. rw (x.first, x.environment, x.predicate, x.values, x.mode) at (rw (c.deref_mut.ensures.value, c.deref-2.ensures.value) at (c.compute_goal-response.ensures.refuted (Since-later k.grows s) before no))))
           c.end_round.ensures.answer;
       no = search rules;
+      decided = λ s n j d can.
+          let h = g.H.GoalHandler.handler s.base c.args.handler.now in
+          let law = g.met.H.GoalHandler.lawful s.base c.args.handler.now s.formed s.is_ready in
+          let formed = formed_before b z c.compute_goal-response.ensures.grows.extends c.terms_are_formed.ensures in
+          let there = decided_there h law mode d.0 j a b input table asked c.in_ok-table.values.items over x formed d.2 in
+          let up = decides_later d.0 c.args.depth c.requires.search k.grows (same_search _) (omega (arith, d.1)) (omega (arith, d.1, can.deep)) can in
+          let here = form_later a b input k.grows.extends over in
+          let above = pushed_above h law b d.0 j c.args.graph.now c.push_query.new.graph own c.in_ok-push_query.ensures.pushed.1 up.above (rw here d.2) in
+          let rest = c.push_query.ensures.rest in
+          let ready : CanDecide h c.query_table.new.cx c.push_query.new.graph d.0 c.args.depth = record { deep = up.deep; above = above; unmarked = rest.has_overflowed ∙ up.unmarked; steps = up.steps; rounds = up.rounds; tight = up.tight } in
+          let y = c.compute_goal-response.ensures.decided (Since-later k.grows s) d.0 j (rw (c.deref_mut.ensures.value, c.deref-2.ensures.value) (there.query, rw x.mode there.decided)) ready in
+          ended_decided j z ks c.args.graph.now c.push_query.new.graph c.compute_goal-response.new.graph c.end_round.new.graph own off.0 c.in_ok-push_query.ensures.pushed.1 c.push_query.ensures.rest refl off.1 c.compute_goal-response.result c.end_round.result off.2 c.end_round.ensures.answer
+          (IfOk-map c.compute_goal-response.result (λ r f. own_there _ _ ks (response_at z r.value) (its_kinds h law mode d.0 j a b input table asked c.in_ok-table.values.items over x formed d.2) (x.values) (f.says)) (rw (c.deref_mut.ensures.value, c.deref-2.ensures.value) at c.compute_goal-response.ensures.found)) y;
     }
 
 pub evaluate_rounds-evaluate_round-requires : goal.evaluate_rounds-evaluate_round-requires
@@ -222,6 +219,8 @@ evaluate_rounds-loop-round-init g t c =
       input = first.input;
       fits = first_fits c.first_round.new.cx.nodes c.args.input.value c.in_ok-asked.asked.value first;
       told = λ s tells. first_told (g.H.GoalHandler.handler s.base c.args.handler.now) (mode_of c.args.input.value.typing_mode) c.first_round.new.cx.nodes (form_of c.args.cx.now.nodes c.args.input.value) c.args.input.value c.in_ok-asked.asked.value refl first;
+      first = λ e. same_search _;
+      decided = λ s n b d can. refl;
     }
 
 pub evaluate_rounds-loop-round-preserved : goal.evaluate_rounds-loop-round-preserved
@@ -248,6 +247,12 @@ evaluate_rounds-loop-round-preserved g t c =
           let before = round_told h c.loop-round.cx.nodes c.args.input.value c.loop-round.asked.value.input (form_of c.args.cx.now.nodes c.args.input.value) (form_of c.loop-round.cx.nodes c.loop-round.asked.value.input) c.loop-round.asked.value.provisional (sym i.input) (sym form) (i.told s tells) in
           let told = round_told h z c.loop-round.asked.value.input c.args.input.value (form_of c.loop-round.cx.nodes c.loop-round.asked.value.input) (form_of c.args.cx.now.nodes c.args.input.value) c.in_ok-ended.ended.value.answer i.input form (e.told (Since-later i.grows s) later before) in
           subst (λ (y : Round). IsAnswerTold h mode z (form_of c.args.cx.now.nodes c.args.input.value) y.provisional) (sym next) told;
+      first = λ none. absurd (omega (arith, none));
+      decided = λ s n b d can.
+          let first = i.first (i.decided s n b d can) in
+          let same = then_same first (only_counted c.note_round.ensures) in
+          let ended = e.decided (Since-later i.grows s) n b (round_query c.args.cx.now.nodes c.loop-round.cx.nodes c.args.input.value c.loop-round.asked.value.input n b i.input form d) (decides_later n (c.args.depth + 1) c.requires.search i.grows same (omega arith) can.deep can) in
+          absurd (let last = c.round_is_last.ensures.1 (inl (rw c.deref.ensures ended.0)) in let more = c.if-round_is_last.false in cc (last, more));
     }
 
 pub evaluate_rounds-returns-then-round_is_last : goal.evaluate_rounds-returns-then-round_is_last
@@ -286,6 +291,12 @@ evaluate_rounds-returns-then-round_is_last g t c =
           let before = round_told h c.loop-round.cx.nodes c.args.input.value c.loop-round.asked.value.input (form_of c.args.cx.now.nodes c.args.input.value) (form_of c.loop-round.cx.nodes c.loop-round.asked.value.input) c.loop-round.asked.value.provisional (sym i.input) (sym form) (i.told s tells) in
           let told = round_told h z c.loop-round.asked.value.input c.args.input.value (form_of c.loop-round.cx.nodes c.loop-round.asked.value.input) (form_of c.args.cx.now.nodes c.args.input.value) c.in_ok-ended.ended.value.answer i.input form (e.told (Since-later i.grows s) later before) in
           inl (last_refuted c.in_ok-ended.ended.value.answer c.last_answer.result c.last_answer.ensures.some c.last_answer.ensures.none h mode z (form_of c.args.cx.now.nodes c.args.input.value) told no);
+      decided = λ s n b d can.
+          let first = i.first (i.decided s n b d can) in
+          let same = then_same first (only_counted c.note_round.ensures) in
+          let ended = e.decided (Since-later i.grows s) n b (round_query c.args.cx.now.nodes c.loop-round.cx.nodes c.args.input.value c.loop-round.asked.value.input n b i.input form d) (decides_later n (c.args.depth + 1) c.requires.search i.grows same (omega arith) can.deep can) in
+          last_decided b z (kinds_of c.args.input.value) c.in_ok-ended.ended.value.answer c.last_answer.result c.last_answer.ensures.some c.last_answer.ensures.none
+          (subst (λ w. IsRoundDecided b z (kinds_of w) c.in_ok-ended.ended.value.answer) i.input ended.1) (then_same same ended.2);
     }
 
 pub evaluate_rounds-round_is_last-requires-clause-answer : goal.evaluate_rounds-round_is_last-requires-clause-answer

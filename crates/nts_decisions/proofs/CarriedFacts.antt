@@ -25,14 +25,14 @@ use Rattle.nts_model.specs.Derivations.Rules.{Equation}
 use Rattle.nts_model.specs.Derivations.Handlers.{Candidate, equation_by, kind_of_sort, AreValuesOf}
 use Rattle.nts_model.specs.Refutation.Choosing.{left_of, right_of, AreNamedValues, IsCandidateMet}
 use Rattle.nts_model.specs.Answers.Responses.{read_in}
-use Rattle.nts_theory.specs.Decisions.Deciding.{blurred_leaf, blurred}
+use Rattle.nts_decisions.specs.Deciding.{blurred_leaf, blurred}
 use Rattle.nts_model.proofs.Terms.Substituting.{kind_of-replace, IsFormed-replace, IsClosed-replace, KeepsKinds}
 use Rattle.nts_model.proofs.Terms.Unpositioned.{or_false}
 use Rattle.nts_model.proofs.Canonical.Positioned.{get_or-map}
 use Rattle.nts_model.proofs.Canonical.Numbering.{AllLeaves}
 use Rattle.nts_model.proofs.Terms.Identified.{named_tree}
-use Rattle.nts_theory.proofs.Decisions.BlurredMeeting.{low_leaf, low_sort, kept_constant, named_leaf}
-use Rattle.nts_theory.proofs.Decisions.DecidingRenamed.{among_back, left_by, right_by}
+use Rattle.nts_decisions.proofs.BlurredMeeting.{low_leaf, low_sort, kept_constant, named_leaf}
+use Rattle.nts_decisions.proofs.DecidingRenamed.{among_back, left_by, right_by}
 
 -- the leaves of a solution's trees in the query: constants as the renaming says, if the root names them
 abbrev carried_leaf : (Leaf → Leaf) → Leaf → Tree

@@ -21,13 +21,14 @@ use Rattle.nts_model.specs.Derivations.Rules.{Equation}
 use Rattle.nts_model.specs.Derivations.Handlers.{Candidate, AreValuesOf}
 use Rattle.nts_model.specs.Answers.Responses.{read_in}
 use Rattle.nts_model.specs.Refutation.Choosing.{left_of, right_of}
-use Rattle.nts_theory.specs.Decisions.Deciding.{blurred, MeetsBlurred, FixesGoals}
+use Rattle.nts_decisions.specs.Deciding.{blurred, MeetsBlurred, FixesGoals}
 use Rattle.nts_model.proofs.Tables.Readings.{classes, inst-reading}
 use Rattle.nts_model.proofs.Tables.Open.{Knows-resolved}
 use Rattle.nts_model.proofs.Tables.Kept.{resolved-no_infer}
 use Rattle.nts_model.proofs.Terms.Unpositioned.{or_false}
 use Rattle.nts_model.proofs.Canonical.Positioned.{inst-filled}
-use Rattle.nts_theory.proofs.Decisions.BlurredWorlds.{name_blurred}
+use Rattle.nts_decisions.proofs.BlurredWorlds.{name_blurred}
+use Rattle.nts_decisions.specs.Queries.{HasNoVariables}
 
 -- roots of region variables make no difference
 rooted_label : (c : Content) (l : Label) (t u : Tree) → blurred u ≡ blurred t → blurred (node (rooted_variable c (variable_of l) l) u) ≡ blurred (node l t)
@@ -88,11 +89,6 @@ plain_inst c f (node l t) h = plain_label c f l t (inst (plain c f) t) h.0.0 (pl
 pub reading_blurred : (c : Content) (t : Tree) → IsSound c → Knows c t → blurred (inst (reading c) t) ≡ blurred (deeply_resolved c t)
 reading_blurred c t s h =
     ap blurred (inst-reading c t s h) ∙ plain_inst c (classes c) (resolved c t) (Knows-resolved c t s h) ∙ sym (deeply_resolved_blurred c t)
-
--- a term over positions without variables
-pub record HasNoVariables (t : Tree) : Type 0 where
-  pub infer : any_label is_infer t ≡ false
-  pub regions : any_label is_region_infer t ≡ false
 
 one_variable : (k : VariableKind) (n : ℕ) → is_infer (label.Leaf (leaf.Variable k n)) ≡ false → is_region_infer (label.Leaf (leaf.Variable k n)) ≡ false → ⊥
 one_variable kind.Region n e f = absurd (cc f)

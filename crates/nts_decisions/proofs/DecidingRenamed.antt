@@ -23,7 +23,7 @@ use Rattle.nts_model.specs.Derivations.Sequents.{Premise}
 use Rattle.nts_model.specs.Derivations.Rules.{Mode, Equation, related, alike, IsHandlers}
 use Rattle.nts_model.specs.Derivations.Handlers.{Handler, Candidate, equation_by, premise_by, AreValuesOf, kind_of_sort, renamed_candidate, IsAsked, IsLawfulHandler}
 use Rattle.nts_model.specs.Refutation.Choosing.{left_of, right_of}
-use Rattle.nts_theory.specs.Decisions.Deciding.{blurred_leaf, blurred_but_static, blurred, blurred_environment, blurred_premise, blurred_candidate, MeetsBlurred, FixesGoals, IsDecidable, IsPlainGoal, IsFormedCandidate, IsUniform, opened_next, IsDecided, by_candidates, OneHolds, none_left, then_fails, then_holds, CandidateIs, is_unmet, is_met, GoalsAre, all_yes, one_yes, one_no}
+use Rattle.nts_decisions.specs.Deciding.{blurred_leaf, blurred_but_static, blurred, blurred_environment, blurred_premise, blurred_candidate, MeetsBlurred, FixesGoals, IsDecidable, IsPlainGoal, IsFormedCandidate, IsUniform, opened_next, IsDecided, by_candidates, OneHolds, none_left, then_fails, then_holds, CandidateIs, is_unmet, is_met, GoalsAre, all_yes, one_yes, one_no}
 use Rattle.nts_model.proofs.Terms.Substituting.{replace-replace, replace-equal, replace-leaf, leaf_alone}
 use Rattle.nts_model.proofs.Terms.Composing.{IsFormed-instance, IsClosed-instance, Fits-instance, leaf_tree-inj as one_leaf}
 use Rattle.nts_theory.proofs.Derivations.ClosedStatements.{closed_statements_instance}
@@ -209,7 +209,6 @@ handlers_renamed f t h = absurd h
 
 decidable_clause : (f : Leaf → Tree) (l : Label) (c d : Tree) → IsDecidable (node l c) → IsDecidable (put f l d)
 decidable_clause f (label.Clause (clause.Trait i)) c d h = tt
-decidable_clause f (label.Clause (clause.HostEffect i)) c d h = tt
 decidable_clause f l c d h = absurd h
 
 decidable_renamed : (f : Leaf → Tree) (t : Tree) → IsDecidable t → IsDecidable (replace f t)

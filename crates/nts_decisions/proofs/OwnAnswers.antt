@@ -14,7 +14,7 @@ use Rattle.nts_model.specs.Canonical.Inputs.{placeholder, share}
 use Rattle.nts_model.specs.Answers.Responses.{Findings, response_of, value_row, constraint_row, hidden_row, goal_row, own_leaves, positioned, is_fixed, answer_kind, answer_kinds, IsIdentity, ends, next}
 use Rattle.nts_model.proofs.Terms.Listed.{tell, same-no, same-yes, differ, among-added, added-has, number-added}
 use Rattle.nts_model.proofs.Canonical.Numbering.{Extends, extends-self, extends-trans, extends-seen}
-use Rattle.nts_theory.proofs.Decisions.UnchangedAnswers.{AreOwn}
+use Rattle.nts_decisions.specs.Queries.{AreOwn}
 
 -- the placeholder of the root with this name
 pub data IsRootPlaceholder : ℕ → Leaf → Type 0 where

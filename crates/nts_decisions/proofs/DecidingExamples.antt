@@ -2,7 +2,6 @@
 use Rattle.std.proofs.Common.{◌≡◌, inl, inr, ℕ, zero, List, [], ◌∷◌, map, true, false, refl, sym, ap, subst}
 use Rattle.std.specs.Prelude.{Option, Some}
 use Rattle.nts_model.specs.declared.labels.ClauseHead.TheVariants as clause
-use Rattle.nts_model.specs.declared.labels.ListHead.TheVariants as list
 use Rattle.nts_model.specs.declared.labels.Label.{Label}
 use Rattle.nts_model.specs.declared.labels.Label.TheVariants as label
 use Rattle.nts_model.specs.Terms.Trees.{Tree, empty, more, node, label_of, IsInRow, IsFormed}
@@ -13,7 +12,7 @@ use Rattle.nts_model.specs.Derivations.Rules.{coherence, Equation, related, stat
 use Rattle.nts_model.specs.Terms.Substitutions.{filled}
 use Rattle.nts_model.specs.Derivations.Handlers.{Handler, never_leaks, Candidate, certain, never, IsAsked}
 use Rattle.nts_model.specs.Refutation.Choosing.{left_of, right_of}
-use Rattle.nts_theory.specs.Decisions.Deciding.{blurred, blurred_candidate, MeetsBlurred, IsPlainGoal, IsFormedCandidate, IsUniform, IsDecided, by_candidates, none_left, then_fails, then_holds, is_met, all_yes, one_no}
+use Rattle.nts_decisions.specs.Deciding.{blurred, blurred_candidate, MeetsBlurred, IsPlainGoal, IsFormedCandidate, IsUniform, IsDecided, by_candidates, none_left, then_fails, then_holds, is_met, all_yes, one_no}
 use Rattle.nts_theory.proofs.Examples.InputExamples.{no_clauses as nowhere}
 use Rattle.nts_theory.proofs.Examples.ProofExamples.{no_predicates}
 
@@ -21,7 +20,7 @@ use Rattle.nts_theory.proofs.Examples.ProofExamples.{no_predicates}
 abbrev trait_of_list : ℕ → Tree
 trait_of_list i = node (label.Clause (clause.Trait i)) (arguments (more (constructor 1 empty) empty))
 
-abbrev list_goal : ℕ → Tree
+abbrev pub list_goal : ℕ → Tree
 list_goal i = unbound (trait_of_list i)
 
 asked : (i : ℕ) → IsAsked nowhere (list_goal i)
@@ -37,7 +36,7 @@ asked i =
       statements = λ ps p e i. absurd (subst (IsInRow p) (no_predicates ps e) i);
     }
 
-plain : (i : ℕ) → IsPlainGoal nowhere (list_goal i)
+pub plain : (i : ℕ) → IsPlainGoal nowhere (list_goal i)
 unfolding asked
 plain i = record { asked = asked i; kind = tt; no_alias = refl; no_infer = refl; blurred_environment = refl; blurred = refl }
 
@@ -55,7 +54,7 @@ abbrev offered_by : Option Label → Tree → List Candidate
 offered_by (Some (label.Clause (clause.Trait zero))) g = by_goal ∷ fact g ∷ []
 offered_by l g = []
 
-abbrev two_rules : Handler
+abbrev pub two_rules : Handler
 two_rules = record { applies = λ mode a. ⊥; offers = λ mode e g. offered_by (label_of (statement_of (blurred g))) (blurred g); is_coinductive = λ i. false; leaks = never_leaks }
 
 uniform_one : IsUniform two_rules coherence nowhere (list_goal 1) []

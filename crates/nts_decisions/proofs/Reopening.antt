@@ -20,12 +20,12 @@ use Rattle.nts_model.specs.Derivations.Rules.{opened, opened_at, bound}
 use Rattle.nts_model.specs.Canonical.Numbered.{AreDistinct}
 use Rattle.nts_model.specs.Lists.{Among}
 use Rattle.nts_model.specs.Refutation.Opening.{binds, placeholder_in}
-use Rattle.nts_theory.specs.Decisions.Deciding.{blurred_leaf, blurred, level_or_root, top_level}
+use Rattle.nts_decisions.specs.Deciding.{blurred_leaf, blurred, level_or_root, top_level}
 use Rattle.nts_model.proofs.Canonical.Numbering.{AllLeaves, replace-agree}
 use Rattle.nts_model.proofs.Terms.Listed.{same-no, either as two_ways}
 use Rattle.nts_model.proofs.Terms.Renamings.{swapped, forward, backward, backward-forward, forward-backward, sorts-forward, map-forward, renaming-injective}
 use Rattle.nts_theory.proofs.Refutation.OpenedGoals.{rename_opened}
-use Rattle.nts_theory.proofs.Decisions.DecidingRenamed.{region_blurred, blurred_renamed, Reopens}
+use Rattle.nts_decisions.proofs.DecidingRenamed.{region_blurred, blurred_renamed, Reopens}
 
 -- leaves that a permutation of lists leaves alone
 other_swapped : (x y l : Leaf) → (l ≡ x → ⊥) → (l ≡ y → ⊥) → swapped x y l ≡ l

@@ -49,10 +49,9 @@ pub record MeetsBlurred (x : Candidate) (vs : List Tree) : Type 0 where
 abbrev pub FixesGoals : Candidate → Type 0
 FixesGoals x = (vs us : List Tree) (p : Premise) → MeetsBlurred x vs → MeetsBlurred x us → Among x.goals p → blurred (filled vs p.predicate) ≡ blurred (filled us p.predicate)
 
--- a goal of a handler, without aliases and without variables of types, numbers and consts
+-- a trait goal, without aliases and without variables of types, numbers and consts
 abbrev pub IsDecidable : Tree → Type 0
 IsDecidable (node (label.Clause (clause.Trait i)) ts) = Unit {0}
-IsDecidable (node (label.Clause (clause.HostEffect i)) ts) = Unit {0}
 IsDecidable t = ⊥
 
 pub record IsPlainGoal (e g : Tree) : Type 0 where

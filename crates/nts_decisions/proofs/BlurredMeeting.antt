@@ -30,13 +30,13 @@ use Rattle.nts_model.specs.Derivations.Rules.{Equation}
 use Rattle.nts_model.specs.Derivations.Handlers.{Candidate, kind_of_sort, AreValuesOf}
 use Rattle.nts_model.specs.Refutation.Choosing.{left_of, right_of, AreNamedValues, IsCandidateMet}
 use Rattle.nts_model.specs.Answers.Responses.{read_in}
-use Rattle.nts_theory.specs.Decisions.Deciding.{blurred_leaf, blurred, MeetsBlurred}
+use Rattle.nts_decisions.specs.Deciding.{blurred_leaf, blurred, MeetsBlurred}
 use Rattle.nts_model.proofs.Terms.Substituting.{kind_of-replace, IsFormed-replace, IsClosed-replace, KeepsKinds}
 use Rattle.nts_model.proofs.Terms.Unpositioned.{or_false}
 use Rattle.nts_model.proofs.Canonical.Positioned.{get_or-map}
 use Rattle.nts_model.proofs.Tables.Solvable.{reading-solves}
-use Rattle.nts_theory.proofs.Decisions.BlurredWorlds.{blurred_world, solves_blurred, region_is_blurred, blurred_kinds, blurred_leaf_formed, blurred_leaf_closed}
-use Rattle.nts_theory.proofs.Decisions.DecidedGoals.{IsOfConstants, read_blurred}
+use Rattle.nts_decisions.proofs.BlurredWorlds.{blurred_world, solves_blurred, region_is_blurred, blurred_kinds, blurred_leaf_formed, blurred_leaf_closed}
+use Rattle.nts_decisions.proofs.DecidedGoals.{IsOfConstants, read_blurred}
 
 -- what a world meets, values meet but for regions
 pub met_meets : (c : Content) (x : Candidate) → IsOfConstants x → (m : IsCandidateMet c x) → MeetsBlurred x m.values

@@ -1,6 +1,5 @@
 -- A response whose values are the originals themselves is granted in each solution: so applying it is never refused.
 use Rattle.std.proofs.Common.{◌≡◌, ℕ, zero, suc, List, [], ◌∷◌, map, get_or, slice_get, Some, refl, ap, ◌∙◌}
-use Rattle.nts_model.specs.declared.labels.Sort.{Sort}
 use Rattle.nts_model.specs.declared.labels.FreeRegion.TheVariants as region
 use Rattle.nts_model.specs.declared.labels.Leaf.TheVariants as leaf
 use Rattle.nts_model.specs.declared.labels.UintTy.TheVariants as unsigned
@@ -17,10 +16,10 @@ use Rattle.nts_model.specs.Tables.RegionClasses.{reading}
 use Rattle.nts_model.specs.Tables.Solvable.{IsSolvable}
 use Rattle.nts_model.specs.Tables.Worlds.{World, inst}
 use Rattle.nts_model.specs.Terms.Substitutions.{leaf_tree}
-use Rattle.nts_model.specs.Canonical.Numbered.{position}
 use Rattle.nts_model.specs.Canonical.Inputs.{PositionKind, type_variable, integer_variable, float_variable, const_variable, region_variable, placeholder}
 use Rattle.nts_model.specs.Answers.Responses.{Response, placeholder_at, IsImageOf, AreImagesOf, IsNamedBy, AreNamedBy, read_in, AreEqualIn, RefusesResponse}
 use Rattle.nts_model.proofs.Tables.Solvable.{reading-solves}
+use Rattle.nts_decisions.specs.Queries.{AreOwn}
 
 -- a tree for each kind of position, where an original is itself
 abbrev image_of : World → ℕ → List Tree → PositionKind → Tree
@@ -54,19 +53,6 @@ are_images w p os (k ∷ ks) = (is_image w p os k, are_images w p os ks)
 are_named : (w : World) (p : ℕ) (os : List Tree) (ks : List PositionKind) → AreNamedBy term_level p ks (map (image_of w p os) ks)
 are_named w p os [] = tt
 are_named w p os (k ∷ ks) = (is_named w p os k, are_named w p os ks)
-
--- the value is the original with this number: a position that stands for it
-pub record IsOwn (ks : List PositionKind) (n : ℕ) (v : Tree) : Type 0 where
-  pub sort : Sort
-  pub at : ℕ
-  pub is : v ≡ position sort at
-  pub kind : slice_get ks at ≡ Some (placeholder sort 0 n)
-
--- from n on, value by value
-abbrev pub AreOwn : List PositionKind → ℕ → List Tree → List Tree → Type 0
-AreOwn ks n [] [] = Unit {0}
-AreOwn ks n (v ∷ vs) (o ∷ os) = IsOwn ks n v × AreOwn ks (suc n) vs os
-AreOwn ks n vs os = ⊥
 
 image_at : (w : World) (p : ℕ) (os : List Tree) (ks : List PositionKind) (b : ℕ) (k : PositionKind) → slice_get ks b ≡ Some k → get_or (map (image_of w p os) ks) b empty ≡ image_of w p os k
 image_at w p os [] b k e = absurd (cc e)

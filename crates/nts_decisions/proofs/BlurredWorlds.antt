@@ -20,7 +20,7 @@ use Rattle.nts_model.specs.Terms.Fitting.{is_integer, is_float, HasLabel, Fits}
 use Rattle.nts_model.specs.Tables.Worlds.{World, inst, SolvesState, IsTrueOf, AreMet, IsValue, Solves}
 use Rattle.nts_model.specs.Tables.Equations.{AreUnrelated}
 use Rattle.nts_model.specs.Terms.Substitutions.{leaf_tree, put}
-use Rattle.nts_theory.specs.Decisions.Deciding.{blurred_leaf, blurred}
+use Rattle.nts_decisions.specs.Deciding.{blurred_leaf, blurred}
 use Rattle.nts_model.proofs.Terms.Substituting.{kind_of-replace, IsFormed-replace, IsClosed-replace, leaf_alone}
 use Rattle.nts_model.proofs.Terms.Identified.{named_tree}
 

@@ -14,10 +14,10 @@ use Rattle.nts_model.specs.Terms.Substitutions.{leaf_tree, put, replace}
 use Rattle.nts_model.specs.Derivations.Related.{pair, unbound}
 use Rattle.nts_model.specs.Derivations.Rules.{statement_of, opened, opened_at}
 use Rattle.nts_model.specs.Refutation.Opening.{binds, placeholder_in, opened_in}
-use Rattle.nts_theory.specs.Decisions.Deciding.{blurred_leaf, blurred, blurred_environment, top_level, opened_next}
+use Rattle.nts_decisions.specs.Deciding.{blurred_leaf, blurred, blurred_environment, top_level, opened_next}
 use Rattle.nts_model.proofs.Terms.Substituting.{replace-equal}
-use Rattle.nts_theory.proofs.Decisions.BlurredWorlds.{merged_leaf, merged_leaf_tree}
-use Rattle.nts_theory.proofs.Decisions.Reopening.{opened_if, binding, binding_back}
+use Rattle.nts_decisions.proofs.BlurredWorlds.{merged_leaf, merged_leaf_tree}
+use Rattle.nts_decisions.proofs.Reopening.{opened_if, binding, binding_back}
 use Rattle.nts_model.proofs.Terms.Listed.{either as two_ways}
 
 -- blurring before and after

@@ -16,15 +16,15 @@ use Rattle.nts_model.specs.Derivations.Related.{pair, unbound}
 use Rattle.nts_model.specs.Derivations.Rules.{Mode, statement_of, opened, opened_at, bound}
 use Rattle.nts_model.specs.Derivations.Handlers.{Handler}
 use Rattle.nts_model.specs.Refutation.Opening.{binds, placeholder_in}
-use Rattle.nts_theory.specs.Decisions.Deciding.{blurred_leaf, blurred, top_level, opened_next, IsDecided}
+use Rattle.nts_decisions.specs.Deciding.{blurred_leaf, blurred, top_level, opened_next, IsDecided}
 use Rattle.nts_model.proofs.Terms.Substituting.{no_children, leaf_alone, IsFormed-replace}
 use Rattle.nts_model.proofs.Terms.Unpositioned.{or_false}
-use Rattle.nts_theory.proofs.Decisions.Deciding.{decided_by}
-use Rattle.nts_theory.proofs.Decisions.BlurredWorlds.{merged_leaf, blurred_kinds, blurred_leaf_formed}
-use Rattle.nts_theory.proofs.Decisions.DecidingRenamed.{labels_renamed}
-use Rattle.nts_theory.proofs.Decisions.Reopening.{binding}
-use Rattle.nts_theory.proofs.Decisions.DecidedOpening.{as_leaves}
-use Rattle.nts_theory.proofs.Decisions.DecidedGoals.{later_blurred}
+use Rattle.nts_decisions.proofs.Deciding.{decided_by}
+use Rattle.nts_decisions.proofs.BlurredWorlds.{merged_leaf, blurred_kinds, blurred_leaf_formed}
+use Rattle.nts_decisions.proofs.DecidingRenamed.{labels_renamed}
+use Rattle.nts_decisions.proofs.Reopening.{binding}
+use Rattle.nts_decisions.proofs.DecidedOpening.{as_leaves}
+use Rattle.nts_decisions.proofs.DecidedGoals.{later_blurred}
 use Rattle.nts_model.proofs.Terms.Listed.{either as two_ways}
 
 infer_merged : (l : Leaf) → is_infer (label.Leaf (merged_leaf l)) ≡ is_infer (label.Leaf l)

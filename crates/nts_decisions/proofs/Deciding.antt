@@ -7,7 +7,7 @@ use Rattle.nts_model.specs.Derivations.Sequents.{Premise}
 use Rattle.nts_model.specs.Derivations.Rules.{Mode}
 use Rattle.nts_model.specs.Terms.Substitutions.{filled}
 use Rattle.nts_model.specs.Derivations.Handlers.{Handler, Candidate}
-use Rattle.nts_theory.specs.Decisions.Deciding.{blurred, IsPlainGoal, IsUniform, opened_next, IsDecided, by_candidates, OneHolds, none_left, then_fails, then_holds, CandidateIs, is_unmet, is_met, GoalsAre, all_yes, one_yes, one_no}
+use Rattle.nts_decisions.specs.Deciding.{blurred, IsPlainGoal, IsUniform, opened_next, IsDecided, by_candidates, OneHolds, none_left, then_fails, then_holds, CandidateIs, is_unmet, is_met, GoalsAre, all_yes, one_yes, one_no}
 
 pub record AreSame (n m : ℕ) (b c : Bool) : Type 0 where
   pub height : n ≡ m

@@ -7,11 +7,11 @@ use Rattle.nts_model.specs.Derivations.Sequents.{Premise}
 use Rattle.nts_model.specs.Derivations.Rules.{Mode}
 use Rattle.nts_model.specs.Derivations.Handlers.{Handler, Candidate, equation_by, premise_by, renamed_candidate, IsAsked, IsLawfulHandler}
 use Rattle.nts_model.specs.Canonical.Inputs.{Input, canonical_of, IsInput}
-use Rattle.nts_theory.specs.Decisions.Deciding.{blurred, blurred_environment, blurred_premise, blurred_candidate, IsUniform}
+use Rattle.nts_decisions.specs.Deciding.{blurred, blurred_environment, blurred_premise, blurred_candidate, IsUniform}
 use Rattle.nts_model.proofs.Canonical.Numbering.{first_none}
 use Rattle.nts_model.proofs.Canonical.CanonicalForms.{forms_tell_inputs}
-use Rattle.nts_theory.proofs.Decisions.DecidingRenamed.{among_back, uniform_renamed}
-use Rattle.nts_theory.proofs.Decisions.DecidedInputs.{off_regions, off_plain, environment_off, blurred_off}
+use Rattle.nts_decisions.proofs.DecidingRenamed.{among_back, uniform_renamed}
+use Rattle.nts_decisions.proofs.DecidedInputs.{off_regions, off_plain, environment_off, blurred_off}
 
 among_mapped : (f : Candidate → Candidate) (xs : List Candidate) (x : Candidate) → Among xs x → Among (map f xs) (f x)
 among_mapped f [] x i = absurd i

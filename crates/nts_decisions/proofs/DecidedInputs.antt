@@ -10,13 +10,13 @@ use Rattle.nts_model.specs.Terms.Substitutions.{leaf_tree, replace, of_variable 
 use Rattle.nts_model.specs.Derivations.Rules.{Mode}
 use Rattle.nts_model.specs.Derivations.Handlers.{Handler, IsLawfulHandler}
 use Rattle.nts_model.specs.Canonical.Inputs.{Input, canonical_of, is_static, label_or_leaf, static_as_label, IsInput, HaveKinds, made_of}
-use Rattle.nts_theory.specs.Decisions.Deciding.{blurred_leaf, blurred_but_static, blurred, blurred_environment, IsDecided, IsGoalDecided}
+use Rattle.nts_decisions.specs.Deciding.{blurred_leaf, blurred_but_static, blurred, blurred_environment, IsDecided, IsGoalDecided}
 use Rattle.nts_model.proofs.Terms.Substituting.{replace-replace, replace-equal}
 use Rattle.nts_model.proofs.Canonical.Numbering.{HasNoPositions, first_none, filled-replace}
 use Rattle.nts_model.proofs.Canonical.Positioned.{replace-filled}
 use Rattle.nts_model.proofs.Canonical.CanonicalForms.{forms_tell_inputs, making_gives_form}
-use Rattle.nts_theory.proofs.Decisions.DecidingRenamed.{is_region_leaf, region_blurred, other_blurred, under_renamed, decided_renamed}
-use Rattle.nts_theory.proofs.Decisions.Reopening.{reopens}
+use Rattle.nts_decisions.proofs.DecidingRenamed.{is_region_leaf, region_blurred, other_blurred, under_renamed, decided_renamed}
+use Rattle.nts_decisions.proofs.Reopening.{reopens}
 
 -- a renaming, but regions stay
 abbrev pub off_leaf : (Leaf → Leaf) → Leaf → Leaf

@@ -1,0 +1,11 @@
+-- The snapshot knows what the table knew, so what is decided there is decided in it.
+use Rattle.std.proofs.Common.{rules}
+use Rattle.nts_evaluation.proofs.Deciding.{determinate_after, decided_error}
+use Rattle.nts_evaluation.proofs.may_hold.evaluate_and_roll_back.Goals as goal
+
+pub returns-in_err-evaluated-clause-decided : goal.returns-in_err-evaluated-clause-decided
+returns-in_err-evaluated-clause-decided g c = λ s b d may.
+    decided_error b _ _ c.evaluate_root-evaluated.result c.from_residual-in_err-evaluated.result (search rules) (search rules) (c.evaluate_root-evaluated.ensures.decided s b (determinate_after c.start_snapshot.ensures.entries c.start_snapshot.ensures.mode d) may)
+
+pub returns-clause-decided : goal.returns-clause-decided
+returns-clause-decided g c = λ s b d may. c.in_ok-evaluated.ensures.decided s b (determinate_after c.start_snapshot.ensures.entries c.start_snapshot.ensures.mode d) may
