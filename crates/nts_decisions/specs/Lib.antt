@@ -1,3 +1,4 @@
 pub mod Deciding
+pub mod Facts
 pub mod Faring
 pub mod Queries
