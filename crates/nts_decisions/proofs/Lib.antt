@@ -11,6 +11,7 @@ pub mod DecidedQueries
 pub mod Deciding
 pub mod DecidingExamples
 pub mod DecidingRenamed
+pub mod FactsBack
 pub mod Faring
 pub mod OfferedFacts
 pub mod OpenedStatements
