@@ -1,5 +1,5 @@
 -- What a world of the query's table meets, values meet for the caller's goal, but for regions: those of the world, blurred and renamed back.
-use Rattle.std.proofs.Common.{◌≡◌, inl, inr, ℕ, List, [], ◌∷◌, map, Option, Some, None, refl, sym, ap, subst, ◌∙◌}
+use Rattle.std.proofs.Common.{◌≡◌, ℕ, List, [], ◌∷◌, map, Option, Some, refl, sym, ap, subst, ◌∙◌}
 use Rattle.nts_model.specs.declared.labels.Sort.{Sort}
 use Rattle.nts_model.specs.declared.labels.Sort.TheVariants as sort
 use Rattle.nts_model.specs.declared.labels.VariableKind.{VariableKind}
@@ -11,13 +11,13 @@ use Rattle.nts_model.specs.declared.labels.BoundVarIndexKind.TheVariants as inde
 use Rattle.nts_model.specs.declared.labels.Label.{Label}
 use Rattle.nts_model.specs.declared.labels.Label.TheVariants as label
 use Rattle.nts_model.specs.Terms.Trees.{Tree, empty, more, node}
-use Rattle.nts_model.specs.Terms.Regions.{of_variable, of_free}
+use Rattle.nts_model.specs.Terms.Regions.{of_variable}
 use Rattle.nts_model.specs.Tables.Contents.{Content, kind_at}
 use Rattle.nts_model.specs.Tables.Worlds.{World, inst, IsValue, Solves}
 use Rattle.nts_model.specs.Terms.Substitutions.{leaf_tree, put, replace, filled_under, position_of, value_or, of_variable as sort_of_variable, of_constant, leaf_sort, Renaming, rename, IsPlain}
 use Rattle.nts_model.specs.Lists.{Among}
 use Rattle.nts_model.specs.Derivations.Rules.{Equation}
-use Rattle.nts_model.specs.Derivations.Handlers.{Candidate, equation_by, kind_of_sort, IsValueOfSort, AreValuesOf, renamed_candidate}
+use Rattle.nts_model.specs.Derivations.Handlers.{Candidate, equation_by, kind_of_sort, AreValuesOf, renamed_candidate}
 use Rattle.nts_model.specs.Refutation.Choosing.{left_of, right_of, IsCandidateMet}
 use Rattle.nts_model.specs.Answers.Responses.{read_in}
 use Rattle.nts_decisions.specs.Deciding.{blurred_leaf, blurred, blurred_candidate}
@@ -234,6 +234,10 @@ module _ (q : Content) (w : World) (solves : Solves q w) (ρ : Renaming) (plain 
   constant_back : (l x : Leaf) (s : Sort) → leaf_sort x ≡ of_constant s → ρ.from x ≡ l → leaf_sort l ≡ of_constant s → pulled (inverse ρ) (world_leaf x) ≡ blurred (leaf_tree l)
   constant_back (leaf.TyConstant b) (leaf.TyConstant a) s e f g = ap leaf_tree f
   constant_back (leaf.ConstConstant b) (leaf.ConstConstant a) s e f g = ap leaf_tree f
+  constant_back (leaf.Variable k n) x s e f g = absurd (cc g)
+  constant_back (leaf.Region r) x s e f g = absurd (cc g)
+  constant_back l (leaf.Variable k n) s e f g = absurd (cc e)
+  constant_back l (leaf.Region r) s e f g = absurd (cc e)
   constant_back l x s e f g = absurd (cc (e, g))
 
   leaf_back : (l : Leaf) → HasKindIn q (ρ.to l) → IsPulled ρ.to (inverse ρ) world_leaf (valued valued_back) l
