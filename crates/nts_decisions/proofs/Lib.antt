@@ -12,6 +12,7 @@ pub mod Deciding
 pub mod DecidingExamples
 pub mod DecidingRenamed
 pub mod FactsBack
+pub mod FactsKept
 pub mod FactsThere
 pub mod Faring
 pub mod OfferedFacts
