@@ -13,6 +13,7 @@ pub mod DecidingExamples
 pub mod DecidingRenamed
 pub mod FactsBack
 pub mod FactsKept
+pub mod FactsOver
 pub mod FactsThere
 pub mod Faring
 pub mod OfferedFacts
