@@ -1,7 +1,7 @@
 -- What a candidate without goals makes of a variable of its query: if no more than a leaf, then a variable of the same kind. Another leaf, an
 -- integer variable or a constant, would be no leaf of the goal, nor of what its other variables came to be; so something else could
 -- stand in its place, and the candidate's equations would hold still.
-use Rattle.std.proofs.Common.{◌≡◌, ◌⊎◌, inl, inr, ℕ, ◌<◌, ◌≤◌, Bool, true, false, List, [], ◌∷◌, map, length, slice_get, zero, suc, Option, Some, None, cond, refl, sym, ap, subst, ◌∙◌, arith}
+use Rattle.std.proofs.Common.{◌≡◌, ◌⊎◌, inl, inr, ℕ, ◌<◌, ◌≤◌, true, List, [], ◌∷◌, map, length, slice_get, zero, suc, Option, Some, None, cond, refl, sym, ap, subst, ◌∙◌, arith}
 use Rattle.nts_model.specs.declared.labels.Sort.{Sort}
 use Rattle.nts_model.specs.declared.labels.Sort.TheVariants as sort
 use Rattle.nts_model.specs.declared.labels.Relation.{Relation}
@@ -15,7 +15,7 @@ use Rattle.nts_model.specs.declared.labels.BoundVarIndexKind.TheVariants as inde
 use Rattle.nts_model.specs.declared.labels.TyHead.TheVariants as ty
 use Rattle.nts_model.specs.declared.labels.Label.{Label}
 use Rattle.nts_model.specs.declared.labels.Label.TheVariants as label
-use Rattle.nts_model.specs.Terms.Trees.{Tree, empty, more, node, label_of, kind_of, kind_of_label, of_sort, sort_of_leaf, IsFormed, IsClosed}
+use Rattle.nts_model.specs.Terms.Trees.{Tree, empty, more, node, label_of, kind_of, of_sort, sort_of_leaf, IsFormed}
 use Rattle.nts_model.specs.Terms.Scoping.{IsWellBound}
 use Rattle.nts_model.specs.Terms.Regions.{RegionName, of_variable, of_free, region_tree, IsRegion}
 use Rattle.nts_model.specs.Terms.Fitting.{is_integer, is_float, HasLabel, Fits}
@@ -26,7 +26,7 @@ use Rattle.nts_model.specs.Tables.Levels.{term_level, NamesAll, IfNamesAll}
 use Rattle.nts_model.specs.Tables.Solvable.{IsSolvable}
 use Rattle.nts_model.specs.Tables.RegionClasses.{reading}
 use Rattle.nts_model.specs.Tables.Worlds.{World, inst, SolvesState, AreMet, IsValue, Solves, Agrees}
-use Rattle.nts_model.specs.Terms.Substitutions.{leaf_tree, put, replace, Occurs, IsConstant, filled, filled_under, position_of, value_or}
+use Rattle.nts_model.specs.Terms.Substitutions.{leaf_tree, put, replace, Occurs, filled}
 use Rattle.nts_model.specs.Lists.{Among}
 use Rattle.nts_model.specs.Derivations.Related.{Constraint}
 use Rattle.nts_model.specs.Derivations.Rules.{Equation}
@@ -40,7 +40,6 @@ use Rattle.nts_model.proofs.Terms.Substituting.{kind_of-replace, IsFormed-replac
 use Rattle.nts_model.proofs.Terms.Listed.{either, same-yes, same-no, same-true}
 use Rattle.nts_model.proofs.Terms.Identified.{named_tree}
 use Rattle.nts_model.proofs.Canonical.Positioned.{get_or-map, inst-filled}
-use Rattle.nts_model.proofs.Canonical.Numbering.{AllLeaves}
 use Rattle.nts_model.proofs.Tables.Solvable.{reading-solves}
 use Rattle.nts_model.proofs.Tables.Solving.{Solves-with_constraint}
 use Rattle.nts_model.proofs.Tables.Kept.{kind_of-deeply_resolved}
@@ -55,7 +54,6 @@ use Rattle.nts_theory.proofs.Refutation.Choosing.{AreOfTable, equations_known, f
 use Rattle.nts_decisions.specs.Deciding.{blurred_leaf, blurred}
 use Rattle.nts_decisions.proofs.BlurredWorlds.{merged_blurred, blurred_world, solves_blurred}
 use Rattle.nts_decisions.proofs.DecidedGoals.{reading_blurred}
-use Rattle.nts_decisions.proofs.DecidingRenamed.{other_blurred}
 use Rattle.nts_decisions.proofs.CarriedFacts.{KnowsNothing}
 use Rattle.nts_decisions.proofs.Faring.{added_back}
 
@@ -188,7 +186,7 @@ float_swapped l v (label.Leaf (leaf.Variable kind.Float i)) d n e = rw (swap_oth
 float_swapped l v m d n e = absurd (cc e)
 
 -- .. where a variable of numbers does not stand for the leaf
-abbrev IsApart : Leaf → VariableKind → Tree → Type 0
+abbrev pub IsApart : Leaf → VariableKind → Tree → Type 0
 IsApart l kind.Int t = label_of t ≡ Some (label.Leaf l) → ⊥
 IsApart l kind.Float t = label_of t ≡ Some (label.Leaf l) → ⊥
 IsApart l k t = Unit {0}

@@ -1,6 +1,6 @@
 -- A response that says nothing of its query's terms is over them: each position is a variable of the kind of the term with its number, or
 -- the placeholder that the term is.
-use Rattle.std.proofs.Common.{◌≡◌, ◌⊎◌, inl, inr, ℕ, zero, suc, ◌+◌, ◌<◌, ◌≤◌, Bool, true, false, List, [], ◌∷◌, ◌++◌, map, length, Some, refl, sym, ap, subst, ◌∙◌, arith}
+use Rattle.std.proofs.Common.{◌≡◌, ◌⊎◌, inl, inr, ℕ, suc, ◌<◌, ◌≤◌, true, false, List, [], ◌∷◌, ◌++◌, map, Some, refl, sym, ap, subst, ◌∙◌, arith}
 use Rattle.std.specs.List.{position_or_len}
 use Rattle.nts_model.specs.declared.labels.Sort.{Sort}
 use Rattle.nts_model.specs.declared.labels.VariableKind.{VariableKind}
@@ -10,7 +10,6 @@ use Rattle.nts_model.specs.declared.labels.Constant.TheVariants as constant
 use Rattle.nts_model.specs.declared.labels.Leaf.{Leaf}
 use Rattle.nts_model.specs.declared.labels.Leaf.TheVariants as leaf
 use Rattle.nts_model.specs.declared.labels.BoundVarIndexKind.TheVariants as index
-use Rattle.nts_model.specs.declared.labels.Label.{Label}
 use Rattle.nts_model.specs.declared.labels.Label.TheVariants as label
 use Rattle.nts_model.specs.Terms.Trees.{Tree, empty, more, node, label_of, any_label, is_canonical, sort_of_leaf}
 use Rattle.nts_model.specs.Tables.Contents.{Content}
@@ -21,7 +20,6 @@ use Rattle.nts_model.specs.Canonical.Numbered.{number, added, seen, position, nu
 use Rattle.nts_model.specs.Canonical.Inputs.{share}
 use Rattle.nts_model.specs.Answers.Responses.{Response, recorded_by, value_row, row_of, own_leaves, positioned, is_fixed, answer_kind, answer_kinds}
 use Rattle.nts_model.proofs.Terms.Listed.{either, same-no}
-use Rattle.nts_model.proofs.Terms.Unpositioned.{or_false}
 use Rattle.nts_theory.specs.Telling.{IsResponseOf, AreTermsOfKinds, IsTermOfKind}
 
 -- the values are the positions in order, from k on

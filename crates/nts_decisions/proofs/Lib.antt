@@ -14,6 +14,7 @@ pub mod DecidingRenamed
 pub mod FactsBack
 pub mod FactsKept
 pub mod FactsOver
+pub mod FactsSettled
 pub mod FactsThere
 pub mod Faring
 pub mod OfferedFacts
