@@ -1,9 +1,8 @@
 -- What is answered where one candidate without goals decides: a response that says nothing is over the terms of its query.
-use Rattle.std.proofs.Common.{◌≡◌, ◌⊎◌, inl, inr, ℕ, true, false, List, [], map, Some, refl, sym, ap, subst, ◌∙◌, arith}
+use Rattle.std.proofs.Common.{◌≡◌, ◌⊎◌, inl, inr, ℕ, suc, ◌+◌, ◌<◌, length, get_or, ◌∷◌, true, false, List, [], map, Some, refl, sym, ap, subst, ◌∙◌, arith}
 use Rattle.nts_model.specs.declared.labels.VariableKind.{VariableKind}
 use Rattle.nts_model.specs.declared.labels.VariableKind.TheVariants as kind
 use Rattle.nts_model.specs.declared.labels.FreeRegion.TheVariants as region
-use Rattle.nts_model.specs.declared.labels.Constant.TheVariants as constant
 use Rattle.nts_model.specs.declared.labels.Leaf.{Leaf}
 use Rattle.nts_model.specs.declared.labels.Leaf.TheVariants as leaf
 use Rattle.nts_model.specs.declared.labels.Label.TheVariants as label
@@ -13,7 +12,7 @@ use Rattle.nts_model.specs.Terms.Fitting.{is_integer, is_float, Fits}
 use Rattle.nts_model.specs.Tables.Contents.{Content, kind_at}
 use Rattle.nts_model.specs.Tables.Resolving.{Knows, IsSound, deeply_resolved, root_of}
 use Rattle.nts_model.specs.Tables.Solvable.{IsSolvable}
-use Rattle.nts_model.specs.Terms.Substitutions.{leaf_tree, Occurs, IsConstant}
+use Rattle.nts_model.specs.Terms.Substitutions.{leaf_tree, Occurs}
 use Rattle.nts_model.specs.Lists.{Among}
 use Rattle.nts_model.specs.Derivations.Related.{pair}
 use Rattle.nts_model.specs.Derivations.Proving.{HoldsTerms}
@@ -21,35 +20,24 @@ use Rattle.nts_model.specs.Derivations.Rules.{Equation, related, alike}
 use Rattle.nts_model.specs.Derivations.Handlers.{Candidate, IsFixed, IsOver, IsEquationOver, IsCandidateFor}
 use Rattle.nts_model.specs.Refutation.Choosing.{left_of, right_of}
 use Rattle.nts_model.specs.Answers.Responses.{Response}
-use Rattle.nts_model.specs.Answers.Applying.{IsProperContent}
 use Rattle.nts_model.proofs.Terms.Unpositioned.{known_no_positions}
 use Rattle.nts_model.proofs.Tables.Kept.{deeply_resolved-no_variables}
 use Rattle.nts_model.proofs.Tables.Open.{Knows-deeply_resolved}
 use Rattle.nts_model.proofs.Tables.ResolvedTerms.{Fits-deeply_resolved}
 use Rattle.nts_model.proofs.Tables.Alike.{region_name-deeply_resolved}
 use Rattle.nts_model.proofs.Tables.Slots.{KeepsKinds}
+use Rattle.nts_decisions.specs.FirstTables.{IsFirstLeaf, a_variable, a_type, a_const, a_region, IsFirstQuery}
+use Rattle.nts_model.specs.declared.labels.Sort.{Sort}
+use Rattle.nts_model.specs.Canonical.Numbered.{position}
+use Rattle.nts_model.specs.Derivations.Sequents.{Premise}
+use Rattle.nts_model.specs.Derivations.Rules.{Mode}
+use Rattle.nts_model.specs.Derivations.Handlers.{Handler}
+use Rattle.nts_theory.specs.Telling.{Queries, Reaches, asks_nothing, then_asks, goals_with}
 use Rattle.nts_theory.specs.Telling.{IsBegun, IsResponseOf, AreTermsOfKinds}
 use Rattle.nts_theory.proofs.Refutation.Freshening.{knows_leaf}
-use Rattle.nts_decisions.proofs.CarriedFacts.{KnowsNothing}
 use Rattle.nts_decisions.proofs.DecidingRenamed.{among_back}
 use Rattle.nts_decisions.proofs.FactsKept.{IsApart, IsOfTerms, IsNotConstant, IsGoalTerm, AreGoalTerms, stays_variable}
 use Rattle.nts_decisions.proofs.FactsOver.{ArePlacesFrom, IsKept, variable, of_type, of_const, of_region, identity_over}
-
--- a term of a query at first: a variable, or a placeholder of the root
-pub data IsFirstLeaf (c : Content) : Leaf → Type 0 where
-  a_variable : {k : VariableKind} {n : ℕ} → kind_at c n ≡ Some k → IsFirstLeaf c (leaf.Variable k n)
-  a_type : {n : ℕ} → IsFirstLeaf c (leaf.TyConstant (constant.Placeholder 0 n))
-  a_const : {n : ℕ} → IsFirstLeaf c (leaf.ConstConstant (constant.Placeholder 0 n))
-  a_region : {n : ℕ} → IsFirstLeaf c (leaf.Region (region.Placeholder 0 n))
-
--- a query's first table and terms, and its goal there, whose types' and consts' constants are among the terms
-pub record IsFirstQuery (c : Content) (xs : List Leaf) (e g : Tree) : Type 0 where
-  pub nothing : KnowsNothing c
-  pub proper : IsProperContent c
-  pub each : (y : Leaf) → Among xs y → IsFirstLeaf c y
-  pub all : (k : VariableKind) (n : ℕ) → kind_at c n ≡ Some k → Among xs (leaf.Variable k n)
-  pub knows : Knows c (pair e g)
-  pub constants : (y : Leaf) → Occurs y (pair e g) → IsConstant y → Among xs y
 
 fixed_known : (c : Content) (y : Leaf) → IsFixed y → Knows c (leaf_tree y)
 fixed_known c (leaf.Region region.Static) h = ((tt, tt, refl), tt, tt)
@@ -160,8 +148,8 @@ module _ (c : Content) (xs : List Leaf) (e g : Tree) (query : IsFirstQuery c xs 
   of_kind k n l (m, e) = subst (IsKept (leaf.Variable k n)) (sym e) variable
 
   kept_variable : (k : VariableKind) (n : ℕ) → kind_at c n ≡ Some k → (l : Leaf) → label_of (deeply_resolved met (leaf_tree (leaf.Variable k n))) ≡ Some (label.Leaf l) → IsAlone (leaf.Variable k n) l → IsKept (leaf.Variable k n) l
-  kept_variable kind.Ty n at l is alone = of_kind kind.Ty n l (stays_variable c query.nothing query.proper x chosen met begun keeps sound solvable kind.Ty n at tt l is (goal_terms kind.Ty n tt l alone) (apart_types n l alone))
-  kept_variable kind.Const n at l is alone = of_kind kind.Const n l (stays_variable c query.nothing query.proper x chosen met begun keeps sound solvable kind.Const n at tt l is (goal_terms kind.Const n tt l alone) (apart_consts n l alone))
+  kept_variable kind.Ty n at l is alone = of_kind kind.Ty n l (stays_variable c (record { unset = query.unset; none = query.none }) query.proper x chosen met begun keeps sound solvable kind.Ty n at tt l is (goal_terms kind.Ty n tt l alone) (apart_types n l alone))
+  kept_variable kind.Const n at l is alone = of_kind kind.Const n l (stays_variable c (record { unset = query.unset; none = query.none }) query.proper x chosen met begun keeps sound solvable kind.Const n at tt l is (goal_terms kind.Const n tt l alone) (apart_consts n l alone))
   kept_variable kind.Int n at l is alone =
       of_kind kind.Int n l (integer_leaf l (integer_of (deeply_resolved met (leaf_tree (leaf.Variable kind.Int n))) l (Fits-deeply_resolved met kind.Int n sound holds (keeps.kinds n kind.Int at)) is))
   kept_variable kind.Float n at l is alone =
@@ -190,3 +178,23 @@ module _ (c : Content) (xs : List Leaf) (e g : Tree) (query : IsFirstQuery c xs 
       identity_over met xs r says places none
       (λ t i. (let o = among_back (λ y. deeply_resolved met (leaf_tree y)) xs t i in no_positions t o.of o.found o.same))
       (λ y i l is alone. kept_first y (query.each y i) l is alone)
+
+-- values that are the positions of their own numbers
+places_from : (k : ℕ) (ts : List Tree) → ((i : ℕ) → i < length ts → (s : Sort) × (get_or ts i empty ≡ position s (k + i))) → ArePlacesFrom k ts
+places_from k [] h = tt
+places_from k (t ∷ ts) h =
+    let first = h 0 (omega arith) in
+    let rest : (i : ℕ) → i < length ts → (s : Sort) × (get_or ts i empty ≡ position s (suc k + i)) =
+    λ i l. (let r = h (suc i) (omega (arith, l)) in (r.0, r.1 ∙ ap (position r.0) (let e : k + suc i ≡ suc k + i = omega arith in e))) in
+    ((first.0, first.1 ∙ ap (position first.0) (let e : k + 0 ≡ k = omega arith in e)), places_from (suc k) ts rest)
+
+pub are_places : (ts : List Tree) → ((i : ℕ) → i < length ts → (s : Sort) × (get_or ts i empty ≡ position s i)) → ArePlacesFrom 0 ts
+are_places ts h = places_from 0 ts (λ i l. (let r = h i l in (r.0, r.1 ∙ ap (position r.0) (let e : i ≡ 0 + i = omega arith in e))))
+
+-- where there are no goals, none is asked
+no_goal_asked : (vs : List Tree) (ps : List Premise) → ps ≡ [] → (p : Premise) → Among (goals_with vs ps) p → ⊥
+no_goal_asked vs ps e p i = rw e at i
+
+pub reached_nothing : (Q : Queries) (h : Handler) (mode : Mode) (vs : List Tree) (ps : List Premise) (c d : Content) → ps ≡ [] → Reaches Q h mode (goals_with vs ps) c d → d ≡ c
+reached_nothing Q h mode vs ps c d e asks_nothing = refl
+reached_nothing Q h mode vs ps c d e (then_asks m p r i can asked) = absurd (no_goal_asked vs ps e p i)

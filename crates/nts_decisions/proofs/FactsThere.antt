@@ -27,6 +27,7 @@ use Rattle.nts_theory.proofs.Refutation.Freshening.{knows_leaf}
 use Rattle.nts_decisions.specs.Deciding.{blurred_leaf, blurred_but_static, blurred, blurred_environment, blurred_candidate, IsUniform}
 use Rattle.nts_decisions.specs.Faring.{none_asked, AreDecidedHere, no_world, by_goals, OneFares, no_more, next_fails, next_holds}
 use Rattle.nts_decisions.specs.Facts.{CanBeMet, NoneCanBeMet, IsOpenGoal, IsOnlyMet, here, later}
+use Rattle.nts_decisions.specs.FirstTables.{IsSettledFact}
 use Rattle.nts_decisions.proofs.BlurredWorlds.{blurred_kinds, blurred_leaf_formed}
 use Rattle.nts_decisions.proofs.AskedGoals.{by_leaves, asked_raw}
 use Rattle.nts_decisions.proofs.DecidingRenamed.{labels_renamed, uniform_renamed}
@@ -168,6 +169,10 @@ static_formed (leaf.ConstConstant a) = (tt, tt)
 abbrev pub moved : Renaming → Candidate → Candidate
 moved ρ x = renamed_candidate (off_regions ρ) (blurred_candidate x)
 
+twice_moved : (ρ : Renaming) (xs : List Candidate) → map (renamed_candidate (off_regions ρ)) (map blurred_candidate xs) ≡ map (moved ρ) xs
+twice_moved ρ [] = refl
+twice_moved ρ (x ∷ xs) = ap (λ z. moved ρ x ∷ z) (twice_moved ρ xs)
+
 -- lists of which each is the other's renamed, but for regions
 first_same : (k : Candidate → Candidate) (x y : Candidate) (xs ys : List Candidate) → map blurred_candidate (y ∷ ys) ≡ map k (x ∷ xs) → blurred_candidate y ≡ k x
 first_same k x y xs ys e = cc e
@@ -261,8 +266,32 @@ module _ (i j : Input) (p : IsInput i) (r : IsInput j) (ρ : Renaming) (m : Rena
 
       -- so one of them holds, and no other one is met
       pub only_there : IsOnlyMet c (h.offers mode i.environment i.predicate) → OneFares h mode 0 q (h.offers mode j.environment j.predicate) true
-      only_there n = one_fares (h.offers mode i.environment i.predicate) (h.offers mode j.environment j.predicate) (λ x k. k) (λ y k. k) (offers_there ∙ twice (h.offers mode i.environment i.predicate)) n
-        where
-          twice : (xs : List Candidate) → map (renamed_candidate (off_regions ρ)) (map blurred_candidate xs) ≡ map (moved ρ) xs
-          twice [] = refl
-          twice (x ∷ xs) = ap (λ z. moved ρ x ∷ z) (twice xs)
+      only_there n = one_fares (h.offers mode i.environment i.predicate) (h.offers mode j.environment j.predicate) (λ x k. k) (λ y k. k) (offers_there ∙ twice_moved ρ (h.offers mode i.environment i.predicate)) n
+
+      -- .. which has no goals
+      none_met : (xs ys : List Candidate) → ((y : Candidate) → Among ys y → Among (h.offers mode j.environment j.predicate) y) → map blurred_candidate ys ≡ map (moved ρ) xs → NoneCanBeMet xs → (y : Candidate) → Among ys y → IsCandidateMet q y → ⊥
+      none_met [] [] within e n y k met = k
+      none_met [] (z ∷ ys) within e n y k met = absurd (cc e)
+      none_met (x ∷ xs) [] within e n y k met = absurd (cc e)
+      none_met (x ∷ xs) (z ∷ ys) within e n y (inl same) met = not_met_there x z (within z (inl refl)) (first_same (moved ρ) x z xs ys e) n.0 (subst (IsCandidateMet q) same met)
+      none_met (x ∷ xs) (z ∷ ys) within e n y (inr k) met = none_met xs ys (λ w i. within w (inr i)) (rest_same (moved ρ) x z xs ys e) n.1 y k met
+
+      met_has_no_goals : (xs ys : List Candidate) → ((y : Candidate) → Among ys y → Among (h.offers mode j.environment j.predicate) y) → map blurred_candidate ys ≡ map (moved ρ) xs → IsOnlyMet c xs → (y : Candidate) → Among ys y → IsCandidateMet q y → y.goals ≡ []
+      met_has_no_goals [] ys within e n y k met = elim n [ ]
+      met_has_no_goals (x ∷ xs) [] within e n y k met = absurd (cc e)
+      met_has_no_goals (x ∷ xs) (z ∷ ys) within e (here none is n) y (inl same) met = no_goals_there (off_regions ρ) x y (ap blurred_candidate same ∙ first_same (moved ρ) x z xs ys e) none
+      met_has_no_goals (x ∷ xs) (z ∷ ys) within e (here none is n) y (inr k) met = absurd (none_met xs ys (λ w i. within w (inr i)) (rest_same (moved ρ) x z xs ys e) n y k met)
+      met_has_no_goals (x ∷ xs) (z ∷ ys) within e (later none n) y (inl same) met = absurd (not_met_there x z (within z (inl refl)) (first_same (moved ρ) x z xs ys e) none (subst (IsCandidateMet q) same met))
+      met_has_no_goals (x ∷ xs) (z ∷ ys) within e (later none n) y (inr k) met = met_has_no_goals xs ys (λ w i. within w (inr i)) (rest_same (moved ρ) x z xs ys e) n y k met
+
+      -- so the query settles it
+      pub settled_there : IsOnlyMet c (h.offers mode i.environment i.predicate) → IsSettledFact h mode q j.environment j.predicate
+      settled_there n =
+          record {
+            asked = asked_there;
+            trait_goal = trait_there o.trait_goal;
+            binds_nothing = binds_nothing_there;
+            fares = only_there n;
+            sure = sure_there;
+            no_goals = λ y k met. met_has_no_goals (h.offers mode i.environment i.predicate) (h.offers mode j.environment j.predicate) (λ w z. z) (offers_there ∙ twice_moved ρ (h.offers mode i.environment i.predicate)) n y k met;
+          }
