@@ -23,6 +23,7 @@ use Rattle.nts_certainty.specs.declared.certainty.Certainty.TheVariants as certa
 use Rattle.nts_store.specs.declared.fault.EvalError.{EvalError}
 use Rattle.nts_store.specs.declared.fault.EvalError.TheVariants as error
 use Rattle.nts_store.specs.Growth.{tree_at}
+use Rattle.nts_store.proofs.Growing.{Extends-refl}
 use Rattle.nts_terms.specs.declared.handles.GenericArg.{GenericArg}
 use Rattle.nts_terms.specs.declared.modes.TypingMode.{TypingMode}
 use Rattle.nts_terms.specs.Modes.{mode_of}
@@ -45,7 +46,7 @@ use Rattle.nts_trying.specs.Found.{IsOverTerms, StandsForThem, IsMerged, kept_af
 use Rattle.nts_trying.specs.Found.{Found}
 use Rattle.nts_asking.specs.Answering.{told_in, IfAnswered}
 use Rattle.nts_terms.specs.declared.handles.Goal.{Goal}
-use Rattle.nts_evaluation.specs.Deciding.{IsAsBefore, Decides, IsYes, AreRootValues}
+use Rattle.nts_evaluation.specs.Deciding.{IsAsBefore, Decides, IsYes, AreRootValues, IsOverIfSilent}
 use Rattle.nts_evaluation.proofs.Deciding.{decides_no}
 
 -- positions that are placeholders stand for themselves
@@ -76,32 +77,44 @@ pub sure_yes : (c : Certainty) → certainty_of c ≡ certain → c ≡ certaint
 sure_yes certainty.Yes e = refl
 sure_yes (certainty.Maybe m) e = absurd (cc e)
 
--- the responses of the first candidates: none holds yet; or one did, and no other one will
-pub data AreSoFar (h : Handler) (mode : TypingMode) (n : ℕ) (a : List Tree) (t : Table) (rest : List CandidateData) (k : Bool) : List (Canonical Response) → Type 0 where
-  none_held : OneFares h (mode_of mode) n (content_of a t.entries) (candidates_of a rest) k → AreSoFar h mode n a t rest k []
-  one_held : (r : Canonical Response) → r.value.certainty ≡ certainty.Yes → k ≡ true → OneFares h (mode_of mode) n (content_of a t.entries) (candidates_of a rest) false → AreSoFar h mode n a t rest k (r ∷ [])
+-- the responses of the first candidates: none holds yet; or one did, of which Q is so, and no other one will
+pub data AreSoFar (Q : Canonical Response → Type 0) (h : Handler) (mode : TypingMode) (n : ℕ) (a : List Tree) (t : Table) (rest : List CandidateData) (k : Bool) : List (Canonical Response) → Type 0 where
+  none_held : OneFares h (mode_of mode) n (content_of a t.entries) (candidates_of a rest) k → AreSoFar Q h mode n a t rest k []
+  one_held : (r : Canonical Response) → r.value.certainty ≡ certainty.Yes → Q r → k ≡ true → OneFares h (mode_of mode) n (content_of a t.entries) (candidates_of a rest) false → AreSoFar Q h mode n a t rest k (r ∷ [])
+
+pub so_far_with : {Q P : Canonical Response → Type 0} {h : Handler} {mode : TypingMode} {n : ℕ} {a : List Tree} {t : Table} {rest : List CandidateData} {k : Bool} {rs : List (Canonical Response)} → ((r : Canonical Response) → Q r → P r) → AreSoFar Q h mode n a t rest k rs → AreSoFar P h mode n a t rest k rs
+so_far_with f (none_held left) = none_held left
+so_far_with f (one_held r y q e left) = one_held r y (f r q) e left
+
+-- nothing more is asked of it
+abbrev pub Anything : Canonical Response → Type 0
+Anything r = Unit {0}
+
+pub anything : (r : Result (Box (Canonical Response)) EvalError) → IfAnswered r Anything
+anything (Ok z) = tt
+anything (Err e) = tt
 
 abbrev AnswersCandidate : Bool → Result (Box (Canonical Response)) EvalError → SearchGraph → SearchGraph → Type 0
 AnswersCandidate b r g g2 = Decides b r (λ x. IsYes x.value.value.certainty) g g2
 
-module _ (h : Handler) (mode : TypingMode) (n : ℕ) (a : List Tree) (t : Table) (x : CandidateData) (rest : List CandidateData) {g g2 : SearchGraph} where
+module _ (Q : Canonical Response → Type 0) (h : Handler) (mode : TypingMode) (n : ℕ) (a : List Tree) (t : Table) (x : CandidateData) (rest : List CandidateData) {g g2 : SearchGraph} where
   failed : (rs new : List (Canonical Response)) (r : Result (Box (Canonical Response)) EvalError) → new ≡ kept_after rs r → OnErr r (r ≡ Err error.NoSolution) → AnswersCandidate false r g g2 → (new ≡ rs) × IsAsBefore g g2
   failed rs new (Ok z) e o d = (let y = d.answer in absurd (cc y.0))
   failed rs new (Err error.NoSolution) e o d = (e, d.search)
   failed rs new (Err error.Memory) e o d = absurd (cc o)
   failed rs new (Err error.Full) e o d = absurd (cc o)
 
-  held : (k : Bool) (new : List (Canonical Response)) (r : Result (Box (Canonical Response)) EvalError) → new ≡ kept_after [] r → OnErr r (r ≡ Err error.NoSolution) → AnswersCandidate true r g g2 → k ≡ true → OneFares h (mode_of mode) n (content_of a t.entries) (candidates_of a rest) false → AreSoFar h mode n a t rest k new × IsAsBefore g g2
-  held k new (Ok z) e o d q left = (let y = d.answer in (subst (AreSoFar h mode n a t rest k) (sym e) (one_held z.value y.1 q left), d.search))
-  held k new (Err error.NoSolution) e o d q left = (let y : true ≡ false = d.answer in absurd (cc y))
-  held k new (Err error.Memory) e o d q left = absurd (cc o)
-  held k new (Err error.Full) e o d q left = absurd (cc o)
+  held : (k : Bool) (new : List (Canonical Response)) (r : Result (Box (Canonical Response)) EvalError) → new ≡ kept_after [] r → OnErr r (r ≡ Err error.NoSolution) → AnswersCandidate true r g g2 → IfAnswered r Q → k ≡ true → OneFares h (mode_of mode) n (content_of a t.entries) (candidates_of a rest) false → AreSoFar Q h mode n a t rest k new × IsAsBefore g g2
+  held k new (Ok z) e o d p q left = (let y = d.answer in (subst (AreSoFar Q h mode n a t rest k) (sym e) (one_held z.value y.1 p q left), d.search))
+  held k new (Err error.NoSolution) e o d p q left = (let y : true ≡ false = d.answer in absurd (cc y))
+  held k new (Err error.Memory) e o d p q left = absurd (cc o)
+  held k new (Err error.Full) e o d p q left = absurd (cc o)
 
-  pub next_so_far : (k : Bool) (rs new : List (Canonical Response)) (r : Result (Box (Canonical Response)) EvalError) → new ≡ kept_after rs r → OnErr r (r ≡ Err error.NoSolution) → ((b : Bool) → Fares h (mode_of mode) n (content_of a t.entries) (candidate_of a x) b → AnswersCandidate b r g g2) → AreSoFar h mode n a t (x ∷ rest) k rs
-      → AreSoFar h mode n a t rest k new × IsAsBefore g g2
-  next_so_far k rs new r e o d (none_held (next_fails f left)) = (let y = failed [] new r e o (d false f) in (subst (AreSoFar h mode n a t rest k) (sym y.0) (none_held left), y.1))
-  next_so_far k rs new r e o d (none_held (next_holds f left)) = held k new r e o (d true f) refl left
-  next_so_far k rs new r e o d (one_held z y q (next_fails f left)) = (let w = failed (z ∷ []) new r e o (d false f) in (subst (AreSoFar h mode n a t rest k) (sym w.0) (one_held z y q left), w.1))
+  pub next_so_far : (k : Bool) (rs new : List (Canonical Response)) (r : Result (Box (Canonical Response)) EvalError) → new ≡ kept_after rs r → OnErr r (r ≡ Err error.NoSolution) → ((b : Bool) → Fares h (mode_of mode) n (content_of a t.entries) (candidate_of a x) b → AnswersCandidate b r g g2) → (Fares h (mode_of mode) n (content_of a t.entries) (candidate_of a x) true → IfAnswered r Q)
+      → AreSoFar Q h mode n a t (x ∷ rest) k rs → AreSoFar Q h mode n a t rest k new × IsAsBefore g g2
+  next_so_far k rs new r e o d p (none_held (next_fails f left)) = (let y = failed [] new r e o (d false f) in (subst (AreSoFar Q h mode n a t rest k) (sym y.0) (none_held left), y.1))
+  next_so_far k rs new r e o d p (none_held (next_holds f left)) = held k new r e o (d true f) (p f) refl left
+  next_so_far k rs new r e o d p (one_held z y s q (next_fails f left)) = (let w = failed (z ∷ []) new r e o (d false f) in (subst (AreSoFar Q h mode n a t rest k) (sym w.0) (one_held z y s q left), w.1))
 
 -- one response stands for itself
 over_back : (ts : List Tree) (qs : List GenericArg) (ks : List CanonicalVarKind) → AreTermsOfKinds (map kind_of_var ks) (trees_of ts qs) → (length qs ≡ length ks) × ((i : ℕ) (q : GenericArg) (k : CanonicalVarKind) → i < length qs → IsTermOfKind (kind_of_var (get_or ks i k)) (tree_at ts (get_or qs i q).node))
@@ -125,10 +138,10 @@ at_first : {X : Type 0} (P : X → Type 0) (x d : X) (i : ℕ) → i < length (x
 at_first P x d zero l p = p
 at_first P x d (suc i) l p = absurd (omega (arith, l))
 
-module _ (ts : List Tree) (qs : List GenericArg) (r : Canonical Response) (over : FoundNothing r.value.external_constraints → IsOverTerms ts qs r) where
+module _ (ts : List Tree) (qs : List GenericArg) (r : Canonical Response) (over : AppliesAlways ts r → IsOverTerms ts qs r) where
   single_stands : ((s : Canonical Response) → StandsForThem ts qs (r ∷ []) s → ⊥) → ⊥
   single_stands none =
-      let never : AppliesAlways ts r → ⊥ = λ a. none r (record { why = info.AlwaysApplicable 0; merges = (record { below = omega arith; is = λ d. a; first = λ j d l p. absurd (omega (arith, l)) }, refl); taken = over a.2 }) in
+      let never : AppliesAlways ts r → ⊥ = λ a. none r (record { why = info.AlwaysApplicable 0; merges = (record { below = omega arith; is = λ d. a; first = λ j d l p. absurd (omega (arith, l)) }, refl); taken = over a }) in
       none r (record { why = info.EqualResponse; merges = (λ i d l p. never (at_first (AppliesAlways ts) r d i l p), record { some = omega arith; each = λ i d l. one_itself d i l }, refl); taken = tt })
     where
       one_itself : (d : Canonical Response) (i : ℕ) → i < length (r ∷ []) → AreOneResponse ts (get_or (r ∷ []) 0 d) (get_or (r ∷ []) i d)
@@ -161,12 +174,28 @@ over_itself : {P : List Tree → Table → Type 0} {a z : List Tree} {t : Table}
 over_itself {z = z} qs roots trees x f nothing =
     own_over z z qs x (told_in x.value.certainty (content_of f.store (let v = f.after in v.entries))) (value_leaves 0 roots.kinds) (trees ∙ roots.values) (root_leaves 0 0 roots.kinds roots.roots) (subst (λ ts. IsResponseOf (told_in x.value.certainty (content_of f.store (let v = f.after in v.entries))) ts (response_at z x)) (sym trees) f.says) nothing
 
-pub all_merged : (h : Handler) (mode : TypingMode) (n : ℕ) (a : List Tree) (t : Table) (xs : List CandidateData) (i : ℕ) (k : Bool) {P : List Tree → Table → Type 0} (z e : List Tree) (w : Table) {g : SearchGraph} (goal : Goal) (qs : List GenericArg) {rs : List (Canonical Response)} → length xs ≤ i
-    → AreRootValues a qs → trees_of z qs ≡ trees_of a qs → All (Found P a z t goal qs) rs → (r : Result (Box (Canonical Response)) EvalError) → AreSoFar h mode n a t (drop i xs) k rs → IfAnswered r (IsMerged z e w qs rs) → (r ≡ Err error.NoSolution) ↔ (rs ≡ []) → AnswersCandidate k r g g
-all_merged h mode n a t xs i k z e w goal qs long roots trees found r (none_held f) merged never = rw (never.1 refl) (decides_no k (none_left h mode n a t xs i k long f) (record { stack = refl; mark = refl }))
-all_merged h mode n a t xs i k z e w goal qs long roots trees found (Ok m) (one_held x y q left) merged never =
-    (let same : m.value ≡ x = merged_single z qs x (over_itself qs roots trees x (found 0 x (omega arith))) e w m.value merged in
+-- .. so the query is answered as it is decided, if the response that holds is over the terms once it says nothing
+merged_over : (Q : Canonical Response → Type 0) (h : Handler) (mode : TypingMode) (n : ℕ) (a : List Tree) (t : Table) (xs : List CandidateData) (i : ℕ) (k : Bool) (z e : List Tree) (w : Table) {g : SearchGraph} (qs : List GenericArg) {rs : List (Canonical Response)} → length xs ≤ i
+    → ((x : Canonical Response) → rs ≡ x ∷ [] → Q x → AppliesAlways z x → IsOverTerms z qs x) → (r : Result (Box (Canonical Response)) EvalError) → AreSoFar Q h mode n a t (drop i xs) k rs → IfAnswered r (IsMerged z e w qs rs) → (r ≡ Err error.NoSolution) ↔ (rs ≡ []) → AnswersCandidate k r g g
+merged_over Q h mode n a t xs i k z e w qs long over r (none_held f) merged never = rw (never.1 refl) (decides_no k (none_left h mode n a t xs i k long f) (record { stack = refl; mark = refl }))
+merged_over Q h mode n a t xs i k z e w qs long over (Ok m) (one_held x y p q left) merged never =
+    (let same : m.value ≡ x = merged_single z qs x (over x refl p) e w m.value merged in
     record { answer = (q, ap (λ (v : Canonical Response). v.value.certainty) same ∙ y); search = record { stack = refl; mark = refl } })
-all_merged h mode n a t xs i k z e w goal qs long roots trees found (Err error.NoSolution) (one_held x y q left) merged never = (let none = never.0 refl in absurd (cc none))
-all_merged h mode n a t xs i k z e w goal qs long roots trees found (Err error.Memory) (one_held x y q left) merged never = record { answer = tt; search = tt }
-all_merged h mode n a t xs i k z e w goal qs long roots trees found (Err error.Full) (one_held x y q left) merged never = record { answer = tt; search = tt }
+merged_over Q h mode n a t xs i k z e w qs long over (Err error.NoSolution) (one_held x y p q left) merged never = (let none = never.0 refl in absurd (cc none))
+merged_over Q h mode n a t xs i k z e w qs long over (Err error.Memory) (one_held x y p q left) merged never = record { answer = tt; search = tt }
+merged_over Q h mode n a t xs i k z e w qs long over (Err error.Full) (one_held x y p q left) merged never = record { answer = tt; search = tt }
+
+only_found : (P : Canonical Response → Type 0) {rs : List (Canonical Response)} → All P rs → (x : Canonical Response) → rs ≡ x ∷ [] → P x
+only_found P {rs} all x e = (let f : All P (x ∷ []) = subst (All P) e all in f 0 x (omega arith))
+
+pub all_merged : (h : Handler) (mode : TypingMode) (n : ℕ) (a : List Tree) (t : Table) (xs : List CandidateData) (i : ℕ) (k : Bool) {P : List Tree → Table → Type 0} (z e : List Tree) (w : Table) {g : SearchGraph} (goal : Goal) (qs : List GenericArg) {rs : List (Canonical Response)} → length xs ≤ i
+    → AreRootValues a qs → trees_of z qs ≡ trees_of a qs → All (Found P a z t goal qs) rs → (r : Result (Box (Canonical Response)) EvalError) → AreSoFar Anything h mode n a t (drop i xs) k rs → IfAnswered r (IsMerged z e w qs rs) → (r ≡ Err error.NoSolution) ↔ (rs ≡ []) → AnswersCandidate k r g g
+all_merged h mode n a t xs i k {P} z e w goal qs long roots trees found r so_far merged never =
+    merged_over Anything h mode n a t xs i k z e w qs long (λ x is p applies. over_itself qs roots trees x (only_found (Found P a z t goal qs) found x is) applies.2) r so_far merged never
+
+-- .. where one candidate without goals decides
+pub facts_merged : (h : Handler) (mode : TypingMode) (a : List Tree) (t : Table) (xs : List CandidateData) (i : ℕ) (z e : List Tree) (w : Table) {g : SearchGraph} (qs : List GenericArg) {rs : List (Canonical Response)} → length xs ≤ i
+    → trees_of z qs ≡ trees_of a qs → (r : Result (Box (Canonical Response)) EvalError) → AreSoFar (IsOverIfSilent z (trees_of a qs)) h mode 0 a t (drop i xs) true rs → IfAnswered r (IsMerged z e w qs rs) → (r ≡ Err error.NoSolution) ↔ (rs ≡ []) → AnswersCandidate true r g g
+facts_merged h mode a t xs i z e w qs long trees r so_far merged never =
+    merged_over (IsOverIfSilent z (trees_of a qs)) h mode 0 a t xs i true z e w qs long
+    (λ x is over applies. (let o = over_back z qs x.var_kinds.items (subst (AreTermsOfKinds (map kind_of_var x.var_kinds.items)) (sym trees) (over z (Extends-refl z) applies)) in record { many = o.0; each = o.1 })) r so_far merged never

@@ -32,7 +32,8 @@ pub query_failed : {R : Rules} {a b : Cx} {g h : SearchGraph} {input : Canonical
 query_failed r fails other grows searches = record { grows = grows; searches = searches; counted = λ none limit answered. absurd (never_answered r fails other answered); fits = IfOk-from_err r _ fails; proved = λ s. IfOk-from_err r _ fails; told = λ s tells. IfOk-from_err r _ fails; refuted = λ s tells n. absurd (other n); decided = λ s n b d can. decides_fault r fails other }
 
 pub goal_failed : {R : Rules} {a b : Cx} {g h : SearchGraph} {t : Table} {goal : Goal} {values : List GenericArg} {depth : ℕ} (r : Result (Box (Canonical Response)) EvalError) → is_err r ≡ true → r ≢ Err error.NoSolution → Grows a b → Searches a b g h → AnswersGoal R a b g h t goal values depth r
-goal_failed r fails other grows searches = record { grows = grows; searches = searches; found = IfOk-from_err r _ fails; told = λ s tells. IfOk-from_err r _ fails; refuted = λ s tells n. absurd (other n); decided = λ s n b d can. decides_fault r fails other }
+goal_failed r fails other grows searches = record { grows = grows; searches = searches; found = IfOk-from_err r _ fails; told = λ s tells. IfOk-from_err r _ fails; refuted = λ s tells n. absurd (other n); decided = λ s n b d can. decides_fault r fails other; facts = λ s tells f can. decides_fault r fails other }
 
-pub try_failed : {Offered : Handler → Type 0} {Told : Handler → Canonical Response → Type 0} {Failed : Handler → Type 0} {Settled : Handler → ℕ → Bool → Type 0} {R : Rules} {a b : Cx} {g h : SearchGraph} {t u : Table} {goal : Goal} {values : List GenericArg} {depth : ℕ} (r : Result (Box (Canonical Response)) EvalError) → is_err r ≡ true → r ≢ Err error.NoSolution → u ≡ t → Grows a b → Searches a b g h → AnswersBy Offered Told Failed Settled R a b g h t u goal values depth r
-try_failed r fails other same grows searches = record { same = same; grows = grows; searches = searches; found = IfOk-from_err r _ fails; told = λ s tells. IfOk-from_err r _ fails; refuted = λ s tells n. absurd (other n); decided = λ s n b d can. decides_fault r fails other }
+pub try_failed : {Offered : Handler → Type 0} {Told : Handler → Canonical Response → Type 0} {Failed : Handler → Type 0} {Settled : Handler → ℕ → Bool → Type 0} {Facts : Handler → Type 0} {R : Rules} {a b : Cx} {g h : SearchGraph} {t u : Table} {goal : Goal} {values : List GenericArg} {depth : ℕ} (r : Result (Box (Canonical Response)) EvalError) → is_err r ≡ true → r ≢ Err error.NoSolution → ((m : Handler) → Facts m) → u ≡ t → Grows a b → Searches a b g h
+    → AnswersBy Offered Told Failed Settled Facts R a b g h t u goal values depth r
+try_failed {R = R} r fails other all same grows searches = record { same = same; grows = grows; searches = searches; found = IfOk-from_err r _ fails; told = λ s tells. IfOk-from_err r _ fails; refuted = λ s tells n. absurd (other n); decided = λ s n b d can. decides_fault r fails other; facts = λ s tells. all (R.handler s.base) }

@@ -1,4 +1,5 @@
 mod Failing
+mod FactTrials
 mod Coherence
 mod Leaking
 mod AnswerExamples

@@ -1,15 +1,18 @@
 -- What the calls of an evaluation promise of goals that are decided: each is answered as it is decided.
-use Rattle.std.specs.Prelude.{◌≡◌, ℕ, ◌<◌, ◌≤◌, Bool, true, false, List, length, All, Option, Some, None, Result, Ok, Err}
+use Rattle.std.specs.Prelude.{◌≡◌, ℕ, ◌<◌, ◌≤◌, Bool, true, false, List, [], map, length, All, Option, Some, None, Result, Ok, Err}
 use Rattle.nts_model.specs.Terms.Trees.{Tree, empty}
 use Rattle.nts_model.specs.Lists.{Among}
 use Rattle.nts_model.specs.Derivations.Related.{pair}
 use Rattle.nts_model.specs.Derivations.Rules.{Mode}
-use Rattle.nts_model.specs.Derivations.Handlers.{Handler, Candidate, certain, HasNoLeaks}
+use Rattle.nts_model.specs.Derivations.Handlers.{Handler, Candidate, certain, IsCandidateFor, HasNoLeaks}
+use Rattle.nts_model.specs.Refutation.Choosing.{IsCandidateMet}
+use Rattle.nts_theory.specs.Telling.{AreTermsOfKinds}
 use Rattle.nts_model.specs.Tables.Resolving.{deeply_resolved}
 use Rattle.nts_model.specs.Canonical.Inputs.{Input, IsInput, canonical_of, CanonicalInput as Form, PositionKind}
 use Rattle.nts_model.specs.Answers.Responses.{Response as Answer, IsIdentity}
 use Rattle.nts_decisions.specs.Deciding.{IsGoalDecided}
 use Rattle.nts_decisions.specs.Faring.{AreDecidedHere, Fares, OneFares}
+use Rattle.nts_decisions.specs.FirstTables.{IsFirstQuery, IsSettledFact}
 use Rattle.nts_decisions.specs.Queries.{AreRootKinds, AreConstants, AreOwn}
 use Rattle.nts_certainty.specs.declared.certainty.Certainty.{Certainty}
 use Rattle.nts_certainty.specs.declared.certainty.Certainty.TheVariants as certainty
@@ -17,7 +20,7 @@ use Rattle.nts_certainty.specs.declared.sources.HasChanged.TheVariants as change
 use Rattle.nts_certainty.specs.declared.sources.GoalSource.{GoalSource}
 use Rattle.nts_store.specs.declared.fault.EvalError.{EvalError}
 use Rattle.nts_store.specs.declared.fault.EvalError.TheVariants as error
-use Rattle.nts_store.specs.Growth.{tree_at}
+use Rattle.nts_store.specs.Growth.{tree_at, Extends}
 use Rattle.nts_terms.specs.declared.cx.Cx.{Cx}
 use Rattle.nts_terms.specs.declared.handles.Goal.{Goal}
 use Rattle.nts_terms.specs.declared.handles.GenericArg.{GenericArg}
@@ -28,7 +31,9 @@ use Rattle.nts_table.specs.Tables.{Table}
 use Rattle.nts_delegate.specs.declared.delegate.CandidateData.{CandidateData}
 use Rattle.nts_delegate.specs.Offered.{candidate_of, candidates_of}
 use Rattle.nts_canonical.specs.declared.types.Canonical.{Canonical}
-use Rattle.nts_canonical.specs.Forms.{form_of, trees_of}
+use Rattle.nts_canonical.specs.Forms.{form_of, trees_of, kind_of_var}
+use Rattle.nts_canonical.specs.Kinds.{value_leaves}
+use Rattle.nts_merging.specs.Merging.{AppliesAlways}
 use Rattle.nts_response.specs.declared.types.Response.{Response}
 use Rattle.nts_response.specs.Forms.{response_at}
 use Rattle.nts_search.specs.declared.stack.SearchGraph.{SearchGraph}
@@ -142,3 +147,27 @@ pub record IsSettled (h : Handler) (mode : TypingMode) (n : ℕ) (ts : List Tree
 -- goals of a table, each decided lower than n as the table knows it
 abbrev pub GoalsSettled : Handler → TypingMode → ℕ → List Tree → Table → List (GoalSource × Goal) → Bool → Type 0
 GoalsSettled h mode n ts t gs b = AreDecidedHere h (mode_of mode) n (content_of ts t.entries) (goals_at ts gs) b
+
+-- the first table of a query, its goal there, and the terms that stand for its positions
+pub record IsQueryAtFirst (ts : List Tree) (t : Table) (g : Goal) (qs : List GenericArg) : Type 0 where
+  pub kinds : List PositionKind
+  pub values : trees_of ts qs ≡ first_values kinds
+  pub first : IsFirstQuery (content_of ts t.entries) (value_leaves 0 kinds) (tree_at ts g.param_env.node) (tree_at ts g.predicate.node)
+
+-- .. where one candidate without goals decides the goal
+pub record IsFactHere (h : Handler) (mode : TypingMode) (ts : List Tree) (t : Table) (g : Goal) (qs : List GenericArg) : Type 0 where
+  pub query : IsQueryAtFirst ts t g qs
+  pub settled : IsSettledFact h (mode_of mode) (content_of ts t.entries) (tree_at ts g.param_env.node) (tree_at ts g.predicate.node)
+
+-- a candidate for the goal that has no goals
+pub record IsPlainCandidate (ts : List Tree) (g : Goal) (x : Candidate) : Type 0 where
+  pub offered : IsCandidateFor (tree_at ts g.param_env.node) (tree_at ts g.predicate.node) x
+  pub no_goals : x.goals ≡ []
+
+-- what is met of these has no goals
+abbrev pub ArePlainCandidates : List Tree → Table → Goal → List CandidateData → Type 0
+ArePlainCandidates ts t g xs = (x : Candidate) → Among (candidates_of ts xs) x → IsCandidateMet (content_of ts t.entries) x → IsPlainCandidate ts g x
+
+-- a response of the store that says nothing, in any later store, is over these terms
+abbrev pub IsOverIfSilent : List Tree → List Tree → Canonical Response → Type 0
+IsOverIfSilent b qs r = (ts : List Tree) → Extends b ts → AppliesAlways ts r → AreTermsOfKinds (map kind_of_var r.var_kinds.items) qs

@@ -1,6 +1,6 @@
 -- What the calls of an evaluation promise: one record for each family of calls.
 use Rattle.std.specs.Global.{Box}
-use Rattle.std.specs.Prelude.{◌≡◌, ◌⊎◌, ℕ, ◌<◌, ◌≤◌, List, Result, Err, ◌≢◌, [], ◌∷◌, ◌+◌, Bool, false, Ok, IfOk, IfSome, OnOk, OnErr, IsTrue}
+use Rattle.std.specs.Prelude.{◌≡◌, ◌⊎◌, ℕ, ◌<◌, ◌≤◌, List, Result, Err, ◌≢◌, [], ◌∷◌, ◌+◌, Bool, true, false, Ok, IfOk, IfSome, OnOk, OnErr, IsTrue}
 use Rattle.nts_model.specs.Terms.Trees.{Tree}
 use Rattle.nts_model.specs.Derivations.Handlers.{Handler}
 use Rattle.nts_model.specs.Derivations.Proofs.{Assumed, passed}
@@ -13,11 +13,11 @@ use Rattle.nts_terms.specs.Modes.{mode_of}
 use Rattle.nts_terms.specs.Rest.{Grows}
 use Rattle.nts_canonical.specs.declared.types.Canonical.{Canonical}
 use Rattle.nts_canonical.specs.declared.types.CanonicalInput.{CanonicalInput}
-use Rattle.nts_canonical.specs.Forms.{form_of}
+use Rattle.nts_canonical.specs.Forms.{form_of, trees_of}
 use Rattle.nts_canonical.specs.Building.{kinds_of}
 use Rattle.nts_response.specs.declared.types.Response.{Response}
 use Rattle.nts_response.specs.Forms.{response_at}
-use Rattle.nts_delegate.specs.Offered.{path_kind_of}
+use Rattle.nts_delegate.specs.Offered.{path_kind_of, candidate_of}
 use Rattle.nts_search.specs.declared.stack.SearchGraph.{SearchGraph}
 use Rattle.nts_asking.specs.Meant.{Since, Rules, Always, meaning_since, IsQueryTold, IsQueryRefuted, AreOffered, IsOffered, IsServedSince, IsProvedNow, IsProvedFromSince, IsNestedSince, EvaluatesGoal, IsRefusedIn, EvaluatesUnder, IsRefusedUnder, IsTold, IsRefuted, HaveOutcomes, CandidatesTell, RepliesWith, FailsIn, HasRunTo, ReachesBy}
 use Rattle.nts_asking.specs.Searching.{Searches, HeadsTell, IsCut, assumed_in, IsHeadAnswer, IsAnswerTold, IsGoalCut}
@@ -38,7 +38,7 @@ use Rattle.nts_trying.specs.declared.steps.Step.{Step}
 use Rattle.nts_asking.specs.declared.round.Round.{Round}
 use Rattle.nts_asking.specs.declared.round.Ended.{Ended}
 use Rattle.nts_trying.specs.Found.{Found}
-use Rattle.nts_evaluation.specs.Deciding.{IsQueryDecided, CanDecide, IsBelow, IsAsBefore, Decides, IsYes, IsYesUnchanged, IsOwnYes, IsRoundDecided, IsRootQuery, AreRootValues, CandidatesSettled, IsSettled, GoalsSettled}
+use Rattle.nts_evaluation.specs.Deciding.{IsQueryDecided, CanDecide, IsBelow, IsAsBefore, Decides, IsYes, IsYesUnchanged, IsOwnYes, IsRoundDecided, IsRootQuery, AreRootValues, CandidatesSettled, IsSettled, GoalsSettled, IsQueryAtFirst, IsFactHere, IsPlainCandidate, ArePlainCandidates, IsOverIfSilent}
 use Rattle.nts_decisions.specs.Deciding.{IsGoalDecided}
 use Rattle.nts_trying.specs.Stopping.{StopsIn}
 use Rattle.nts_trying.specs.Stepping.{ArePosed, AreLeft, AreSettled, terms_of, bound_of}
@@ -135,10 +135,12 @@ pub record AnswersGoal (R : Rules) (a b : Cx) (g h : SearchGraph) (t : Table) (g
   pub told : WhereTold R a g (λ m. IfAnswered r (IsTold m t.mode a.nodes t goal values b.nodes))
   pub refuted : WhereTold R a g (λ m. r ≡ Err error.NoSolution → IsRefuted m t.mode a.nodes t goal values)
   pub decided : AnswersDecided R a g h depth (λ m n b. IsRootQuery a.nodes t goal values × IsGoalDecided m (mode_of t.mode) n (tree_at a.nodes goal.param_env.node) (tree_at a.nodes goal.predicate.node) b) r (λ x. IsYes x.value.value.certainty)
+  -- one candidate without goals decides it
+  pub facts : WhereTold R a g (λ m. IsFactHere m t.mode a.nodes t goal values → CanDecide m a g 0 depth → Decides true r (λ x. IsYes x.value.value.certainty) g h)
 
--- .. by candidates, of which what is offered is said where they are offered: `Offered`; what is told and refuted of them; and how
--- they fare where the goal is decided
-pub record AnswersBy (Offered : Handler → Type 0) (Told : Handler → Canonical Response → Type 0) (Failed : Handler → Type 0) (Settled : Handler → ℕ → Bool → Type 0) (R : Rules) (a b : Cx) (g h : SearchGraph) (t u : Table) (goal : Goal)
+-- .. by candidates, of which what is offered is said where they are offered: `Offered`; what is told and refuted of them; how
+-- they fare where the goal is decided; and what is so where one of them decides it, which has no goals
+pub record AnswersBy (Offered : Handler → Type 0) (Told : Handler → Canonical Response → Type 0) (Failed : Handler → Type 0) (Settled : Handler → ℕ → Bool → Type 0) (Facts : Handler → Type 0) (R : Rules) (a b : Cx) (g h : SearchGraph) (t u : Table) (goal : Goal)
     (values : List GenericArg) (depth : ℕ) (r : Result (Box (Canonical Response)) EvalError) : Type 0 where
   pub same : u ≡ t
   pub grows : Grows a b
@@ -146,15 +148,18 @@ pub record AnswersBy (Offered : Handler → Type 0) (Told : Handler → Canonica
   pub found : IfAnswered r (Found (λ c v. Always R a (λ s. Offered (R.handler s.base) → IsServedSince R.handler s t.mode (assumed_in b.nodes h) c v goal)) a.nodes b.nodes t goal values)
   pub told : WhereTold R a g (λ m. IfAnswered r (Told m))
   pub refuted : WhereTold R a g (λ m. r ≡ Err error.NoSolution → Failed m)
-  pub decided : AnswersDecided R a g h depth (λ m n b. AreRootValues a.nodes values × Settled m n b) r (λ x. IsYes x.value.value.certainty)
+  pub decided : AnswersDecided R a g h depth Settled r (λ x. IsYes x.value.value.certainty)
+  pub facts : WhereTold R a g Facts
 
 abbrev pub TriesEach : Rules → Cx → Cx → SearchGraph → SearchGraph → Table → Table → Goal → List GenericArg → List CandidateData → ℕ → Result (Box (Canonical Response)) EvalError → Type 0
 TriesEach R a b g h t u goal values xs depth r =
-    AnswersBy (λ m. AreOffered m t.mode a.nodes goal xs) (λ m. CandidatesTell m t.mode a.nodes t goal values xs b.nodes) (λ m. HaveOutcomes m t.mode a.nodes t goal values xs []) (λ m n k. CandidatesSettled m t.mode n a.nodes t xs k) R a b g h t u goal values depth r
+    AnswersBy (λ m. AreOffered m t.mode a.nodes goal xs) (λ m. CandidatesTell m t.mode a.nodes t goal values xs b.nodes) (λ m. HaveOutcomes m t.mode a.nodes t goal values xs []) (λ m n k. AreRootValues a.nodes values × CandidatesSettled m t.mode n a.nodes t xs k)
+    (λ m. IsQueryAtFirst a.nodes t goal values → CandidatesSettled m t.mode 0 a.nodes t xs true → ArePlainCandidates a.nodes t goal xs → CanDecide m a g 0 depth → Decides true r (λ x. IsYes x.value.value.certainty) g h) R a b g h t u goal values depth r
 
 abbrev pub TriesOne : Rules → Cx → Cx → SearchGraph → SearchGraph → Table → Table → Goal → List GenericArg → CandidateData → ℕ → Result (Box (Canonical Response)) EvalError → Type 0
 TriesOne R a b g h t u goal values x depth r =
-    AnswersBy (λ m. IsOffered m t.mode a.nodes goal x) (λ m. RepliesWith m t.mode a.nodes t goal values x b.nodes) (λ m. FailsIn m t.mode a.nodes t x) (λ m n k. IsSettled m t.mode n a.nodes t x k) R a b g h t u goal values depth r
+    AnswersBy (λ m. IsOffered m t.mode a.nodes goal x) (λ m. RepliesWith m t.mode a.nodes t goal values x b.nodes) (λ m. FailsIn m t.mode a.nodes t x) (λ m n k. IsSettled m t.mode n a.nodes t x k)
+    (λ m. IsQueryAtFirst a.nodes t goal values → IsPlainCandidate a.nodes goal (candidate_of a.nodes x) → IfAnswered r (IsOverIfSilent b.nodes (trees_of a.nodes values))) R a b g h t u goal values depth r
 
 -- a candidate is run, and what it did stays in the table
 pub record RunsOne (R : Rules) (a b : Cx) (g h : SearchGraph) (t u : Table) (goal : Goal) (x : CandidateData) (depth : ℕ) (r : Result Certainty EvalError) : Type 0 where

@@ -66,7 +66,8 @@ use Rattle.std.proofs.lemmas.Result.{IfOk-from_err}
 use Rattle.nts_evaluation.proofs.Failing.{query_failed, goal_failed, try_failed}
 use Rattle.nts_evaluation.proofs.evaluate.+evaluate.Goals.{search-then-graph, search-else-graph}
 use Rattle.nts_evaluation.proofs.Deciding.{decides_fault, decides_error, decides_refused, decides_then, decides_grown, decides_later, same_search, then_same}
-use Rattle.nts_evaluation.proofs.DecidedCandidates.{all_merged}
+use Rattle.nts_evaluation.proofs.DecidedCandidates.{all_merged, facts_merged}
+use Rattle.nts_evaluation.proofs.FactTrials.{fact_asked}
 use Rattle.nts_evaluation.proofs.DecidedTrials.{refused_no}
 use Rattle.nts_evaluation.proofs.DecidedGoals.{is_opened, is_asked_here}
 use Rattle.nts_evaluation.proofs.DecidedRounds.{stands_high, as_query, marked_again}
@@ -111,6 +112,7 @@ compute_goal-returns-in-Unopened g t c =
       refuted = search rules;
       decided = λ s n b d can.
           absurd (is_opened (g.H.GoalHandler.handler s.base c.args.handler.now) (g.met.H.GoalHandler.lawful s.base c.args.handler.now s.formed s.is_ready) (mode_of c.args.table.now.mode) n b c.args.goal c.args.values.now d.0 d.1 c.requires.posed c.terms_are_formed.ensures o.grows.extends (o.unopened (ap is_some c.in-Unopened.ensures)));
+      facts = λ s tells f can. absurd (let shut = o.unopened (ap is_some c.in-Unopened.ensures) in let settled = f.settled in let some = shut.binds_some in let none = settled.binds_nothing in cc (some, none));
     }
 
 pub compute_goal-returns-in_err-candidates : goal.compute_goal-returns-in_err-candidates
@@ -144,6 +146,9 @@ compute_goal-returns-in-Unanswered g t c =
       decided = λ s n b d can.
           absurd (c.in-Unanswered.ensures.1
           (is_asked_here (g.H.GoalHandler.handler s.base c.args.handler.now) (g.met.H.GoalHandler.lawful s.base c.args.handler.now s.formed s.is_ready) (mode_of c.args.table.now.mode) n b c.args.goal c.args.values.now d.0 d.1 c.requires.posed c.terms_are_formed.ensures o.grows.extends _ (rw c.in-Unanswered.ensures.0 at o.opened) (rw c.in-Unanswered.ensures.0 at o.posed)));
+      facts = λ s tells f can.
+          let settled = f.settled in
+          absurd (c.in-Unanswered.ensures.1 (fact_asked (g.H.GoalHandler.handler s.base c.args.handler.now) (mode_of c.args.table.now.mode) c.args.cx.now.nodes c.enter_forall.new.cx.nodes c.args.table.now c.enter_forall.new.table c.args.goal _ (rw c.in-Unanswered.ensures.0 at o.opened) settled c.requires.posed (rw c.in-Unanswered.ensures.0 at o.posed) o.grows.extends));
     }
 
 pub evaluate_added-evaluate_goal-requires : goal.evaluate_added-evaluate_goal-requires
@@ -257,11 +262,17 @@ evaluate_candidates-returns g t c =
           let so_far = i.decided s n b d can in
           decides_then so_far.1
           (all_merged (g.H.GoalHandler.handler s.base c.args.handler.now) c.args.table.now.mode n c.args.cx.now.nodes c.args.table.now c.args.candidates.now c.loop-candidate.candidate-index b c.loop-candidate.cx.nodes c.merge_responses.new.cx.nodes c.loop-candidate.table c.args.goal c.args.values.now (omega (arith, c.loop-candidate-test.false)) d.0 trees i.found c.merge_responses.result so_far.0 k.merged k.no);
+      facts = λ s tells q settled plain can.
+          let trees = trees_kept c.args.cx.now.nodes c.loop-candidate.cx.nodes c.args.table.now.entries c.args.values.now i.grows.extends c.requires.values in
+          let so_far = i.facts s tells q settled plain can in
+          decides_then so_far.1
+          (facts_merged (g.H.GoalHandler.handler s.base c.args.handler.now) c.args.table.now.mode c.args.cx.now.nodes c.args.table.now c.args.candidates.now c.loop-candidate.candidate-index c.loop-candidate.cx.nodes c.merge_responses.new.cx.nodes c.loop-candidate.table c.args.values.now (omega (arith, c.loop-candidate-test.false)) trees c.merge_responses.result so_far.0 k.merged k.no);
     }
 
 pub evaluate_candidates-returns-in_err-keep_response : goal.evaluate_candidates-returns-in_err-keep_response
 evaluate_candidates-returns-in_err-keep_response g t c =
-    try_failed c.from_residual.result (search rules) (search rules) (search rules) (search rules) (Searches-trans c.loop-candidate.invariant.searches c.probe_candidate-answer.ensures.searches)
+    let fails : is_err c.from_residual.result ≡ true = search rules in
+    try_failed c.from_residual.result fails (search rules) (λ m q settled plain can. decides_fault c.from_residual.result fails (search rules)) (search rules) (search rules) (Searches-trans c.loop-candidate.invariant.searches c.probe_candidate-answer.ensures.searches)
 
 pub evaluate_goal-apply_answer-evaluated-requires-clause-fits : goal.evaluate_goal-apply_answer-evaluated-requires-clause-fits
 evaluate_goal-apply_answer-evaluated-requires-clause-fits g t c =
@@ -565,15 +576,18 @@ probe_candidate-returns = candidates.probe_candidate-returns
 
 pub probe_candidate-returns-in_err-response-2 : goal.probe_candidate-returns-in_err-response-2
 probe_candidate-returns-in_err-response-2 g t c =
-    try_failed c.from_residual-in_err-response-2.result (search rules) (search rules) (rolled_back c.in_ok-snapshot.ensures.saved c.in-Ok.ensures.runs.goes c.rollback_to-2.ensures.saved c.in_ok-snapshot.ensures.mode c.rollback_to-2.ensures.mode) (search rules) (search_grown c.args.depth c.requires.search c.in-Ok.ensures.searches c.boxed_response.ensures.grows)
+    let fails : is_err c.from_residual-in_err-response-2.result ≡ true = search rules in
+    try_failed c.from_residual-in_err-response-2.result fails (search rules) (λ m q plain. IfOk-from_err c.from_residual-in_err-response-2.result _ fails) (rolled_back c.in_ok-snapshot.ensures.saved c.in-Ok.ensures.runs.goes c.rollback_to-2.ensures.saved c.in_ok-snapshot.ensures.mode c.rollback_to-2.ensures.mode) (search rules) (search_grown c.args.depth c.requires.search c.in-Ok.ensures.searches c.boxed_response.ensures.grows)
 
 pub probe_candidate-returns-in_err-response : goal.probe_candidate-returns-in_err-response
 probe_candidate-returns-in_err-response g t c =
-    try_failed c.from_residual-in_err-response.result (search rules) (search rules) (rolled_back c.in_ok-snapshot.ensures.saved c.in-Ok.ensures.runs.goes c.rollback_to-then-keeps_constraints.ensures.saved c.in_ok-snapshot.ensures.mode c.rollback_to-then-keeps_constraints.ensures.mode) (search rules) (search_grown c.args.depth c.requires.search c.in-Ok.ensures.searches c.boxed_response-response.ensures.grows)
+    let fails : is_err c.from_residual-in_err-response.result ≡ true = search rules in
+    try_failed c.from_residual-in_err-response.result fails (search rules) (λ m q plain. IfOk-from_err c.from_residual-in_err-response.result _ fails) (rolled_back c.in_ok-snapshot.ensures.saved c.in-Ok.ensures.runs.goes c.rollback_to-then-keeps_constraints.ensures.saved c.in_ok-snapshot.ensures.mode c.rollback_to-then-keeps_constraints.ensures.mode) (search rules) (search_grown c.args.depth c.requires.search c.in-Ok.ensures.searches c.boxed_response-response.ensures.grows)
 
 pub probe_candidate-returns-in_err-snapshot : goal.probe_candidate-returns-in_err-snapshot
 probe_candidate-returns-in_err-snapshot g t c =
-    try_failed c.from_residual.result (search rules) (search rules) (search rules) (search rules) (Searches-refl c.args.depth c.requires.search (record { extends = Extends-refl _; rest = KeepsRest-refl _ }))
+    let fails : is_err c.from_residual.result ≡ true = search rules in
+    try_failed c.from_residual.result fails (search rules) (λ m q plain. IfOk-from_err c.from_residual.result _ fails) (search rules) (search rules) (Searches-refl c.args.depth c.requires.search (record { extends = Extends-refl _; rest = KeepsRest-refl _ }))
 
 pub probe_candidate-returns-then-keeps_constraints : goal.probe_candidate-returns-then-keeps_constraints
 probe_candidate-returns-then-keeps_constraints = candidates.probe_candidate-returns-then-keeps_constraints

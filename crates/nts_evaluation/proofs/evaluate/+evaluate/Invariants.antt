@@ -1,4 +1,4 @@
-use Rattle.std.proofs.Common.{ℕ, Bool, ◌<◌, ◌≡◌, ◌+◌, ◌*◌, ◌≤◌, take, drop, map, []}
+use Rattle.std.proofs.Common.{ℕ, Bool, ◌<◌, ◌≡◌, ◌+◌, ◌*◌, ◌≤◌, take, drop, map, [], true}
 use Rattle.std.specs.Prelude.{All}
 use Rattle.nts_model.specs.Tables.Passing.{BringsOnly}
 use Rattle.nts_unify.specs.Reading.{content_of}
@@ -8,14 +8,14 @@ use Rattle.nts_asking.specs.Meant.{AreOffered, IsServedSince, IsNestedSince, Hav
 use Rattle.nts_asking.specs.Searching.{Searches, IsHeadAnswer, IsAnswerTold, assumed_in}
 use Rattle.nts_search.specs.Kinds.{goal_kind_of}
 use Rattle.nts_canonical.specs.Building.{kinds_of}
-use Rattle.nts_canonical.specs.Forms.{form_of}
+use Rattle.nts_canonical.specs.Forms.{form_of, trees_of}
 use Rattle.nts_terms.specs.Modes.{mode_of}
 use Rattle.nts_trying.specs.Found.{Found}
 use Rattle.nts_trying.specs.Stepping.{ArePosed, AreLeft, AreSettled, terms_of, bound_of}
 use Rattle.nts_asking.specs.Evaluation.{Runs}
 use Rattle.nts_evaluation.specs.Promises.{WhereTold}
-use Rattle.nts_evaluation.specs.Deciding.{IsQueryDecided, IsBelow, CanDecide, IsAsBefore, AreRootValues, CandidatesSettled, GoalsSettled}
-use Rattle.nts_evaluation.proofs.DecidedCandidates.{AreSoFar}
+use Rattle.nts_evaluation.specs.Deciding.{IsQueryDecided, IsBelow, CanDecide, IsAsBefore, AreRootValues, CandidatesSettled, GoalsSettled, IsQueryAtFirst, ArePlainCandidates, IsOverIfSilent}
+use Rattle.nts_evaluation.proofs.DecidedCandidates.{AreSoFar, Anything}
 use Rattle.nts_evaluation.proofs.DecidedSteps.{IsStepSoFar}
 use Rattle.nts_asking.specs.Meant.{rules_of, Always}
 use Rattle.nts_evaluation.proofs.evaluate.+evaluate.Given as goal
@@ -81,7 +81,10 @@ invariant-evaluate_candidates-loop-candidate g l = record {
   told : WhereTold (rules_of g.H.GoalHandler.ready g.H.GoalHandler.handler l.handler) l.fn.cx l.fn.graph (λ m. HaveOutcomes m l.fn.table.mode l.fn.cx.nodes l.fn.table l.goal l.values (take l.candidate-index l.candidates) (map (verdict_at l.cx.nodes) l.responses.items));
   decided : Always (rules_of g.H.GoalHandler.ready g.H.GoalHandler.handler l.handler) l.fn.cx (λ s. (n : ℕ) (b : Bool) → AreRootValues l.fn.cx.nodes l.values × CandidatesSettled (g.H.GoalHandler.handler s.base l.handler) l.fn.table.mode n l.fn.cx.nodes l.fn.table l.candidates b
       → CanDecide (g.H.GoalHandler.handler s.base l.handler) l.fn.cx l.fn.graph n l.depth
-      → AreSoFar (g.H.GoalHandler.handler s.base l.handler) l.fn.table.mode n l.fn.cx.nodes l.fn.table (drop l.candidate-index l.candidates) b l.responses.items × IsAsBefore l.fn.graph l.graph);
+      → AreSoFar Anything (g.H.GoalHandler.handler s.base l.handler) l.fn.table.mode n l.fn.cx.nodes l.fn.table (drop l.candidate-index l.candidates) b l.responses.items × IsAsBefore l.fn.graph l.graph);
+  facts : WhereTold (rules_of g.H.GoalHandler.ready g.H.GoalHandler.handler l.handler) l.fn.cx l.fn.graph (λ m. IsQueryAtFirst l.fn.cx.nodes l.fn.table l.goal l.values → CandidatesSettled m l.fn.table.mode 0 l.fn.cx.nodes l.fn.table l.candidates true → ArePlainCandidates l.fn.cx.nodes l.fn.table l.goal l.candidates
+      → CanDecide m l.fn.cx l.fn.graph 0 l.depth
+      → AreSoFar (IsOverIfSilent l.cx.nodes (trees_of l.fn.cx.nodes l.values)) m l.fn.table.mode 0 l.fn.cx.nodes l.fn.table (drop l.candidate-index l.candidates) true l.responses.items × IsAsBefore l.fn.graph l.graph);
 }
 
 -- the goals that are left, after the first steps

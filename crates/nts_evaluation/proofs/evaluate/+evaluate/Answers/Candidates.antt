@@ -46,7 +46,13 @@ use Rattle.nts_trying.proofs.Stepping.{among_get}
 use Rattle.nts_decisions.proofs.Faring.{among_by}
 use Rattle.nts_evaluation.specs.Deciding.{AreRootValues}
 use Rattle.nts_evaluation.proofs.Deciding.{decides_error, decides_grown, decides_later, same_search, then_same}
-use Rattle.nts_evaluation.proofs.DecidedCandidates.{AreSoFar, none_held, next_so_far, sure_yes}
+use Rattle.nts_evaluation.proofs.DecidedCandidates.{AreSoFar, none_held, so_far_with, Anything, anything, next_so_far, sure_yes}
+use Rattle.nts_evaluation.proofs.FactTrials.{query_later, plain_later, over_after, facts_kept, fact_opened, held_met}
+use Rattle.nts_evaluation.specs.Deciding.{CandidatesSettled, IsOverIfSilent}
+use Rattle.nts_model.specs.Lists.{Among}
+use Rattle.nts_asking.specs.Answering.{IfAnswered, told_in}
+use Rattle.nts_response.specs.Forms.{response_at}
+use Rattle.nts_theory.specs.Telling.{IsResponseOf}
 use Rattle.nts_evaluation.proofs.DecidedTrials.{its_decided}
 use Rattle.nts_evaluation.proofs.DecidedGoals.{opened_decided, kept_settled}
 use Rattle.nts_evaluation.proofs.evaluate.+evaluate.Goals as goal
@@ -150,6 +156,20 @@ compute_goal-returns g t c =
           let root = d.0 in
           let values : AreRootValues c.relevant_candidates.new.cx.nodes c.args.values.now = record { kinds = root.kinds; roots = root.roots; values = trees_kept c.args.cx.now.nodes c.relevant_candidates.new.cx.nodes c.args.table.now.entries c.args.values.now up c.requires.values ∙ root.values } in
           c.evaluate_candidates-response.ensures.decided (Since-later (grown o.grows e.grows) s) n b (values, rw (o.goes.mode, c.deref.ensures.value) settled) (decides_grown c.requires.search (grown o.grows e.grows) can);
+      facts = λ s tells f can.
+          let h = g.H.GoalHandler.handler s.base c.args.handler.now in
+          let law = g.met.H.GoalHandler.lawful s.base c.args.handler.now s.formed s.is_ready in
+          let same = g.met.H.GoalHandler.handler_kept s.base c.relevant_candidates.new.cx.nodes c.args.handler.now s.is_ready (Extends-trans s.extends up) in
+          let offered = subst (λ os. LeavesOut os (candidates_of c.relevant_candidates.new.cx.nodes c.in_ok-candidates.candidates.items)) (ap (λ m. (g.H.GoalHandler.handler c.relevant_candidates.new.cx.nodes c.args.handler.now).offers (mode_of m) (tree_at c.relevant_candidates.new.cx.nodes c.in-Candidates.opened.param_env.node) (tree_at c.relevant_candidates.new.cx.nodes c.in-Candidates.opened.predicate.node)) c.typing_mode.ensures ∙ same.offers _ _ _) e.offered in
+          let settled = f.settled in
+          let there = fact_opened c.args.cx.now.nodes c.enter_forall.new.cx.nodes c.args.table.now c.enter_forall.new.table c.args.goal c.in-Candidates.opened opened settled.binds_nothing c.requires.posed o.grows.extends in
+          let environment = e.grows.extends.kept c.in-Candidates.opened.param_env.node posed.holds.env.within ∙ there.environment in
+          let predicate = e.grows.extends.kept c.in-Candidates.opened.predicate.node posed.holds.predicate.within ∙ there.predicate in
+          let table = here ∙ there.table in
+          let values = trees_kept c.args.cx.now.nodes c.relevant_candidates.new.cx.nodes c.args.table.now.entries c.args.values.now up c.requires.values in
+          let query = query_later c.args.cx.now.nodes c.relevant_candidates.new.cx.nodes c.args.table.now c.enter_forall.new.table c.args.goal c.in-Candidates.opened c.args.values.now table environment predicate values f.query in
+          let kept = facts_kept h law c.args.table.now.mode c.relevant_candidates.new.cx.nodes c.enter_forall.new.table c.in-Candidates.opened c.in_ok-candidates.candidates.items (rw (table, environment, predicate) settled) (rw o.goes.mode at offered) in
+          c.evaluate_candidates-response.ensures.facts (Since-later (grown o.grows e.grows) s) (tell_grown h c.args.depth c.requires.search (grown o.grows e.grows) tells) query (rw c.deref.ensures.value (subst (λ m. CandidatesSettled h m 0 c.relevant_candidates.new.cx.nodes c.enter_forall.new.table c.in_ok-candidates.candidates.items true) (sym o.goes.mode) kept.0)) (rw c.deref.ensures.value kept.1) (decides_grown c.requires.search (grown o.grows e.grows) can);
     }
 
 pub evaluate_candidates-loop-candidate-init : goal.evaluate_candidates-loop-candidate-init
@@ -159,7 +179,8 @@ evaluate_candidates-loop-candidate-init g t c = record {
   searches = Searches-refl c.args.depth c.requires.search (record { extends = Extends-refl _; rest = KeepsRest-refl _ });
   found = λ k d l. absurd (omega (arith, l, ap (length {A = Canonical Response}) c.new-responses.ensures.items));
   told = λ s tells. outcomes_first c.args.cx.now.nodes c.args.cx.now.nodes c.args.table.now c.args.goal (g.H.GoalHandler.handler s.base c.args.handler.now) c.args.table.now.mode c.args.values.now c.args.candidates.now c.new-responses.result.items c.new-responses.ensures.items;
-  decided = λ s n b d can. (let fares = d.1 in (subst (AreSoFar (g.H.GoalHandler.handler s.base c.args.handler.now) c.args.table.now.mode n c.args.cx.now.nodes c.args.table.now c.args.candidates.now b) (sym c.new-responses.ensures.items) (none_held fares.fares), same_search _));
+  decided = λ s n b d can. (let fares = d.1 in (subst (AreSoFar Anything (g.H.GoalHandler.handler s.base c.args.handler.now) c.args.table.now.mode n c.args.cx.now.nodes c.args.table.now c.args.candidates.now b) (sym c.new-responses.ensures.items) (none_held fares.fares), same_search _));
+  facts = λ s tells q settled plain can. (subst (AreSoFar (IsOverIfSilent c.args.cx.now.nodes (trees_of c.args.cx.now.nodes c.args.values.now)) (g.H.GoalHandler.handler s.base c.args.handler.now) c.args.table.now.mode 0 c.args.cx.now.nodes c.args.table.now c.args.candidates.now true) (sym c.new-responses.ensures.items) (none_held settled.fares), same_search _);
 }
 
 pub evaluate_candidates-loop-candidate-preserved : goal.evaluate_candidates-loop-candidate-preserved
@@ -198,15 +219,32 @@ evaluate_candidates-loop-candidate-preserved g t c =
           let left = drop_more cs index x at ∙ ap (λ z. z ∷ drop (index + 1) cs) (sym c.candidate-item.is) in
           let candidate : IsCandidate c.args.cx.now.nodes c.args.goal x = rw c.candidate-item.is (candidate_at c.args.cx.now.nodes c.args.goal cs index x c.requires.candidates at) in
           let kept = candidate-kept {a = c.args.cx.now.nodes} {b = c.loop-candidate.cx.nodes} {g = c.args.goal} {d = x} i.grows.extends candidate in
-          let trees = trees_kept c.args.cx.now.nodes c.loop-candidate.cx.nodes c.args.table.now.entries c.args.values.now i.grows.extends c.requires.values in
-          let root = d.0 in
           let all = d.1 in
-          let values : AreRootValues c.loop-candidate.cx.nodes c.args.values.now = record { kinds = root.kinds; roots = root.roots; values = trees ∙ root.values } in
           let sure = all.sure (candidate_of c.args.cx.now.nodes x) (rw c.candidate-item.is (among_by (candidate_of c.args.cx.now.nodes) cs (get_or cs index x) (among_get cs index x at))) in
           let ready = decides_later n c.args.depth c.requires.search i.grows so_far.1 (omega arith) can.deep can in
-          let next = next_so_far h mode n c.args.cx.now.nodes c.args.table.now x (drop (index + 1) cs) b rs new c.probe_candidate-answer.result m.kept m.dropped
-          (λ k f. p.decided (Since-later i.grows s) n k (values, record { fares = rw (i.same, content_of-extended i.grows.extends w.now, kept) f; sure = sure }) ready)
-          (subst (λ ys. AreSoFar h mode n c.args.cx.now.nodes c.args.table.now ys b rs) left so_far.0) in
+          let next = next_so_far Anything h mode n c.args.cx.now.nodes c.args.table.now x (drop (index + 1) cs) b rs new c.probe_candidate-answer.result m.kept m.dropped
+          (λ k f. p.decided (Since-later i.grows s) n k (record { fares = rw (i.same, content_of-extended i.grows.extends w.now, kept) f; sure = sure }) ready) (λ f. anything c.probe_candidate-answer.result)
+          (subst (λ ys. AreSoFar Anything h mode n c.args.cx.now.nodes c.args.table.now ys b rs) left so_far.0) in
+          (next.0, then_same so_far.1 next.1);
+      facts = λ s tells q all plain can.
+          let h = g.H.GoalHandler.handler s.base c.args.handler.now in
+          let so_far = i.facts s tells q all plain can in
+          let index = c.loop-candidate.candidate-index in
+          let left = drop_more cs index x at ∙ ap (λ z. z ∷ drop (index + 1) cs) (sym c.candidate-item.is) in
+          let candidate : IsCandidate c.args.cx.now.nodes c.args.goal x = rw c.candidate-item.is (candidate_at c.args.cx.now.nodes c.args.goal cs index x c.requires.candidates at) in
+          let kept = candidate-kept {a = c.args.cx.now.nodes} {b = c.loop-candidate.cx.nodes} {g = c.args.goal} {d = x} i.grows.extends candidate in
+          let trees = trees_kept c.args.cx.now.nodes c.loop-candidate.cx.nodes c.args.table.now.entries c.args.values.now i.grows.extends c.requires.values in
+          let among : Among (candidates_of c.args.cx.now.nodes cs) (candidate_of c.args.cx.now.nodes x) = rw c.candidate-item.is (among_by (candidate_of c.args.cx.now.nodes) cs (get_or cs index x) (among_get cs index x at)) in
+          let sure = all.sure (candidate_of c.args.cx.now.nodes x) among in
+          let ready = decides_later 0 c.args.depth c.requires.search i.grows so_far.1 (omega arith) can.deep can in
+          let content = content_of-extended i.grows.extends w.now in
+          let env = i.grows.extends.kept c.args.goal.param_env.node holds.env.within in
+          let predicate = i.grows.extends.kept c.args.goal.predicate.node holds.predicate.within in
+          let query = query_later c.args.cx.now.nodes c.loop-candidate.cx.nodes c.args.table.now c.args.table.now c.args.goal c.args.goal c.args.values.now content env predicate trees q in
+          let next = next_so_far (IsOverIfSilent c.probe_candidate-answer.new.cx.nodes (trees_of c.args.cx.now.nodes c.args.values.now)) h mode 0 c.args.cx.now.nodes c.args.table.now x (drop (index + 1) cs) true rs new c.probe_candidate-answer.result m.kept m.dropped
+          (λ k f. p.decided (Since-later i.grows s) 0 k (record { fares = rw (i.same, content, kept) f; sure = sure }) ready)
+          (λ f. subst (λ z. IfAnswered c.probe_candidate-answer.result (IsOverIfSilent c.probe_candidate-answer.new.cx.nodes z)) trees (p.facts (Since-later i.grows s) (later s tells) (rw i.same query) (plain_later c.args.cx.now.nodes c.loop-candidate.cx.nodes c.args.goal (candidate_of c.args.cx.now.nodes x) (candidate_of c.loop-candidate.cx.nodes x) env predicate kept (plain (candidate_of c.args.cx.now.nodes x) among (held_met f)))))
+          (so_far_with (λ r o ts up. o ts (Extends-trans p.grows.extends up)) (subst (λ ys. AreSoFar (IsOverIfSilent c.loop-candidate.cx.nodes (trees_of c.args.cx.now.nodes c.args.values.now)) h mode 0 c.args.cx.now.nodes c.args.table.now ys true rs) left so_far.0)) in
           (next.0, then_same so_far.1 next.1);
     }
 
@@ -267,9 +305,9 @@ probe_candidate-returns g t c =
           (says_before c.in-Ok.certainty (content_of c.args.cx.now.nodes c.start_snapshot.new.self.entries) (content_of c.run_candidate.new.cx.nodes c.run_candidate.new.table.entries) (trees_of c.args.cx.now.nodes c.args.values.now) (verdict_at c.boxed_response.new.cx.nodes c.in_ok-response-2.response.value) (ap is_yes m.certainty) unsure (rw o.entries (plain_of c.in-Ok.certainty _ _ _ (rw (back, still, trees) at m.says) unsure)));
       refuted = search rules;
       decided = λ s n b d can.
-          let settled = d.1 in
-          let x = r.decided s n b (record { fares = rw (o.mode, o.entries) settled.fares; sure = settled.sure }) can in
+          let x = r.decided s n b (record { fares = rw (o.mode, o.entries) d.fares; sure = d.sure }) can in
           absurd (let kept = ap is_kept x.answer.1 in let none = sym c.keeps_constraints.ensures ∙ c.if-keeps_constraints.false in cc (kept, none));
+      facts = λ s tells q plain ts up silent. absurd (unsure (sym m.certainty ∙ silent.0));
     }
 
 pub probe_candidate-returns-then-keeps_constraints : goal.probe_candidate-returns-then-keeps_constraints
@@ -295,9 +333,12 @@ probe_candidate-returns-then-keeps_constraints g t c =
           (says_found c.in-Ok.certainty (content_of c.args.cx.now.nodes c.start_snapshot.new.self.entries) (content_of c.run_candidate.new.cx.nodes c.run_candidate.new.table.entries) (trees_of c.args.cx.now.nodes c.args.values.now) (verdict_at c.boxed_response-response.new.cx.nodes c.in_ok-response.field-0.value) (ap is_yes m.certainty) (rw trees at m.says));
       refuted = search rules;
       decided = λ s n b d can.
-          let settled = d.1 in
-          let x = r.decided s n b (record { fares = rw (o.mode, o.entries) settled.fares; sure = settled.sure }) can in
+          let x = r.decided s n b (record { fares = rw (o.mode, o.entries) d.fares; sure = d.sure }) can in
           record { answer = (x.answer.0, m.certainty ∙ x.answer.1); search = x.search };
+      facts = λ s tells q plain ts up silent.
+          let h = g.H.GoalHandler.handler s.base c.args.handler.now in
+          over_after h c.start_snapshot.new.self c.args.table.now c.run_candidate.new.table c.boxed_response-response.new.cx.nodes c.args.candidate.now c.args.goal c.args.values.now c.in_ok-response.field-0.value (r.told s tells) o.entries r.runs.goes.continues c.terms_are_formed.ensures r.runs.goes.table q plain
+          (rw trees at (subst (λ z. IsResponseOf (told_in z (content_of c.run_candidate.new.cx.nodes c.run_candidate.new.table.entries)) (trees_of c.run_candidate.new.cx.nodes c.args.values.now) (response_at c.boxed_response-response.new.cx.nodes c.in_ok-response.field-0.value)) (sym m.certainty ∙ silent.0) m.says)) m.holds ts up silent;
     }
 
 pub run_candidate-returns : goal.run_candidate-returns
