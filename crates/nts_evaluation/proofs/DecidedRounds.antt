@@ -43,7 +43,7 @@ use Rattle.nts_unify.proofs.SavedLemmas.{push_inj}
 use Rattle.nts_asking.specs.Rounds.{IsTakenOff, EndsWith, IsBoxed}
 use Rattle.nts_asking.specs.declared.round.Ended.{Ended}
 use Rattle.nts_asking.specs.declared.response.Evaluated.{Evaluated}
-use Rattle.nts_evaluation.specs.Deciding.{IsQueryDecided, IsAbove, IsBelow, IsAsBefore, IfNoFault, Decides, IsYes, IsYesUnchanged, IsOwnAnswer, IsOwnYes, IsRoundDecided}
+use Rattle.nts_evaluation.specs.Deciding.{IsQueryDecided, IsAbove, IsBelow, IsAsBefore, IfNoFault, Decides, IsYes, IsYesUnchanged, IsOwnAnswer, IsOwnYes, IsRoundDecided, IsRoundYes}
 use Rattle.nts_evaluation.proofs.Deciding.{decides_no, decides_fault}
 use Rattle.nts_evaluation.proofs.DecidedCandidates.{root_leaves, leaves_long}
 
@@ -101,6 +101,15 @@ module _ (k : Bool) (ts : List Tree) (ks : List PositionKind) (g g2 g3 g4 : Sear
   ended_decided (Err error.Memory) (Ok w) entry ends own_answer d = absurd ends
   ended_decided (Err error.Full) (Ok w) entry ends own_answer d = absurd ends
   ended_decided response (Err e) entry ends own_answer d = tt
+
+  -- .. with a certain answer
+  pub ended_fact : (response : Result (Box (Canonical Response)) EvalError) (r : Result (Box Ended) EvalError) → IfOk r (λ z. z.value.entry ≡ x) → IfOk r (λ z. EndsWith response z.value.answer) → Decides true response (λ z. IsYes z.value.value.certainty) g2 g3
+      → IfOk r (λ z. (z.value.entry.is_read ≡ false) × IsRoundYes z.value.answer × IsAsBefore g g4)
+  ended_fact (Ok z) (Ok w) entry ends d = (let y = d.answer in let s = d.search in (ap (λ (v : StackEntry). v.is_read) (entry ∙ (same_entry s).1) ∙ unread, subst IsRoundYes (sym ends) y.1, back s))
+  ended_fact (Err error.NoSolution) (Ok w) entry ends d = (let y : true ≡ false = d.answer in absurd (cc y))
+  ended_fact (Err error.Memory) (Ok w) entry ends d = absurd ends
+  ended_fact (Err error.Full) (Ok w) entry ends d = absurd ends
+  ended_fact response (Err e) entry ends d = tt
 
 -- the last round's answer is the query's
 pub last_decided : {g h : SearchGraph} (b : Bool) (ts : List Tree) (ks : List PositionKind) (o : Option (Canonical Response)) (r : Result (Box (Canonical Response)) EvalError) → ((x : Canonical Response) → o ≡ Some x → IsBoxed x r) → (o ≡ None → r ≡ Err error.NoSolution) → IsRoundDecided b ts ks o → IsAsBefore g h

@@ -29,7 +29,7 @@ never_answered (Err error.Memory) fails other h = h
 never_answered (Err error.Full) fails other h = h
 
 pub query_failed : {R : Rules} {a b : Cx} {g h : SearchGraph} {input : CanonicalInput} {step : PathKind} {depth : ℕ} (r : Result (Box (Canonical Response)) EvalError) → is_err r ≡ true → r ≢ Err error.NoSolution → Grows a b → Searches a b g h → AnswersQuery R a b g h input step depth r
-query_failed r fails other grows searches = record { grows = grows; searches = searches; counted = λ none limit answered. absurd (never_answered r fails other answered); fits = IfOk-from_err r _ fails; proved = λ s. IfOk-from_err r _ fails; told = λ s tells. IfOk-from_err r _ fails; refuted = λ s tells n. absurd (other n); decided = λ s n b d can. decides_fault r fails other }
+query_failed r fails other grows searches = record { grows = grows; searches = searches; counted = λ none limit answered. absurd (never_answered r fails other answered); fits = IfOk-from_err r _ fails; proved = λ s. IfOk-from_err r _ fails; told = λ s tells. IfOk-from_err r _ fails; refuted = λ s tells n. absurd (other n); decided = λ s n b d can. decides_fault r fails other; facts = λ s tells f none can. decides_fault r fails other }
 
 pub goal_failed : {R : Rules} {a b : Cx} {g h : SearchGraph} {t : Table} {goal : Goal} {values : List GenericArg} {depth : ℕ} (r : Result (Box (Canonical Response)) EvalError) → is_err r ≡ true → r ≢ Err error.NoSolution → Grows a b → Searches a b g h → AnswersGoal R a b g h t goal values depth r
 goal_failed r fails other grows searches = record { grows = grows; searches = searches; found = IfOk-from_err r _ fails; told = λ s tells. IfOk-from_err r _ fails; refuted = λ s tells n. absurd (other n); decided = λ s n b d can. decides_fault r fails other; facts = λ s tells f can. decides_fault r fails other }

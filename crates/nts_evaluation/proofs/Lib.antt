@@ -1,4 +1,5 @@
 mod Failing
+mod FactQueries
 mod FactTrials
 mod Coherence
 mod Leaking

@@ -37,7 +37,7 @@ use Rattle.nts_merging.specs.Merging.{AppliesAlways}
 use Rattle.nts_response.specs.declared.types.Response.{Response}
 use Rattle.nts_response.specs.Forms.{response_at}
 use Rattle.nts_search.specs.declared.stack.SearchGraph.{SearchGraph}
-use Rattle.nts_asking.specs.Asking.{first_table, first_values}
+use Rattle.nts_asking.specs.Asking.{first_table, first_values, asked_environment, asked_predicate}
 use Rattle.nts_asking.specs.Evaluation.{goals_at}
 use Rattle.nts_asking.specs.declared.response.Evaluated.{Evaluated}
 
@@ -171,3 +171,12 @@ ArePlainCandidates ts t g xs = (x : Candidate) → Among (candidates_of ts xs) x
 -- a response of the store that says nothing, in any later store, is over these terms
 abbrev pub IsOverIfSilent : List Tree → List Tree → Canonical Response → Type 0
 IsOverIfSilent b qs r = (ts : List Tree) → Extends b ts → AppliesAlways ts r → AreTermsOfKinds (map kind_of_var r.var_kinds.items) qs
+
+-- .. of the goal of a canonical input, in the first table of its query
+abbrev pub IsFactForm : Handler → Mode → Form → Type 0
+IsFactForm h mode f = IsSettledFact h mode (first_table f.kinds) (asked_environment f) (asked_predicate f)
+
+-- a round ends with a certain answer
+abbrev pub IsRoundYes : Option (Canonical Response) → Type 0
+IsRoundYes None = ⊥
+IsRoundYes (Some r) = IsYes r.value.certainty

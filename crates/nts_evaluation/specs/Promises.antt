@@ -13,7 +13,8 @@ use Rattle.nts_terms.specs.Modes.{mode_of}
 use Rattle.nts_terms.specs.Rest.{Grows}
 use Rattle.nts_canonical.specs.declared.types.Canonical.{Canonical}
 use Rattle.nts_canonical.specs.declared.types.CanonicalInput.{CanonicalInput}
-use Rattle.nts_canonical.specs.Forms.{form_of, trees_of}
+use Rattle.nts_canonical.specs.Forms.{form_of, input_of, trees_of}
+use Rattle.nts_model.specs.Canonical.Inputs.{canonical_of}
 use Rattle.nts_canonical.specs.Building.{kinds_of}
 use Rattle.nts_response.specs.declared.types.Response.{Response}
 use Rattle.nts_response.specs.Forms.{response_at}
@@ -38,7 +39,7 @@ use Rattle.nts_trying.specs.declared.steps.Step.{Step}
 use Rattle.nts_asking.specs.declared.round.Round.{Round}
 use Rattle.nts_asking.specs.declared.round.Ended.{Ended}
 use Rattle.nts_trying.specs.Found.{Found}
-use Rattle.nts_evaluation.specs.Deciding.{IsQueryDecided, CanDecide, IsBelow, IsAsBefore, Decides, IsYes, IsYesUnchanged, IsOwnYes, IsRoundDecided, IsRootQuery, AreRootValues, CandidatesSettled, IsSettled, GoalsSettled, IsQueryAtFirst, IsFactHere, IsPlainCandidate, ArePlainCandidates, IsOverIfSilent}
+use Rattle.nts_evaluation.specs.Deciding.{IsQueryDecided, CanDecide, IsBelow, IsAsBefore, Decides, IsYes, IsYesUnchanged, IsOwnYes, IsRoundDecided, IsRootQuery, AreRootValues, CandidatesSettled, IsSettled, GoalsSettled, IsQueryAtFirst, IsFactHere, IsPlainCandidate, ArePlainCandidates, IsOverIfSilent, IsFactForm, IsRoundYes}
 use Rattle.nts_decisions.specs.Deciding.{IsGoalDecided}
 use Rattle.nts_trying.specs.Stopping.{StopsIn}
 use Rattle.nts_trying.specs.Stepping.{ArePosed, AreLeft, AreSettled, terms_of, bound_of}
@@ -84,6 +85,8 @@ pub record AnswersQuery (R : Rules) (a b : Cx) (g h : SearchGraph) (input : Cano
   pub refuted : WhereTold R a g (λ m. r ≡ Err error.NoSolution → IsQueryRefuted m (mode_of input.typing_mode) a.nodes input ⊎ IsCut a.nodes g (form_of a.nodes input) input.typing_mode step)
   -- what is decided is answered so, and the positions are their own values
   pub decided : AnswersDecided R a g h (depth + 1) (λ m n b. IsBelow n (λ k. IsQueryDecided m (mode_of input.typing_mode) k (form_of a.nodes input) b)) r (λ x. IsOwnYes b.nodes (kinds_of input) x.value)
+  -- where one candidate without goals decides its goal, and it does not stand on the stack, it is answered yes
+  pub facts : WhereTold R a g (λ m. IsFactForm m (mode_of input.typing_mode) (form_of a.nodes input) → HasNoInput a.nodes g input → CanDecide m a g 0 (depth + 1) → Decides true r (λ x. IsYes x.value.value.certainty) g h)
 
 -- what a table came to stand for has only labels of these trees
 abbrev pub BringsOnlyOf : List Tree → Cx → Table → Cx → Table → Type 0
@@ -99,6 +102,8 @@ pub record AsksGoal (R : Rules) (a b : Cx) (g h : SearchGraph) (t u : Table) (go
   pub told : WhereTold R a g (λ m. IfOk r (λ e. EvaluatesGoal m t.mode a.nodes t b.nodes u goal e.certainty e.has_changed))
   pub refuted : WhereTold R a g (λ m. r ≡ Err error.NoSolution → IsRefusedIn m t.mode a.nodes t goal ⊎ IsGoalCut a.nodes g (content_of a.nodes t.entries) t.mode (tree_at a.nodes goal.param_env.node) (tree_at a.nodes goal.predicate.node) step)
   pub decided : AnswersDecided R a g h (depth + 1) (λ m n b. IsBelow n (λ k. IsGoalDecided m (mode_of t.mode) k (tree_at a.nodes goal.param_env.node) (tree_at a.nodes goal.predicate.node) b)) r IsYesUnchanged
+  -- at the root: where one candidate without goals decides the goal of its query, and it is not refused, it is answered yes
+  pub facts : WhereTold R a g (λ m. IsFactForm m (mode_of t.mode) (canonical_of (input_of a.nodes t.entries goal [])) → (IsRefusedIn m t.mode a.nodes t goal → ⊥) → g.stack.items ≡ [] → CanDecide m a g 0 (depth + 1) → Decides true r (λ e. IsYes e.certainty) g h)
 
 -- .. as the table knows it; or not at all, where no depth is left for it: then the overflow is marked
 pub record AsksAdded (R : Rules) (a b : Cx) (g h : SearchGraph) (t u : Table) (goal : Goal) (step : PathKind) (depth : AvailableDepth) (r : Result Evaluated EvalError) : Type 0 where
@@ -126,6 +131,8 @@ pub record EndsRound (R : Rules) (a b : Cx) (g h : SearchGraph) (asked : Round) 
   -- a decided goal reads no provisional answer
   pub decided : Always R a (λ s. (n : ℕ) (k : Bool) → IsBelow n (λ m. IsQueryDecided (R.handler s.base) (mode_of asked.input.typing_mode) m (form_of a.nodes asked.input) k) → CanDecide (R.handler s.base) a g n (depth + 1)
       → IfOk r (λ z. (z.value.entry.is_read ≡ false) × IsRoundDecided k b.nodes (kinds_of asked.input) z.value.answer × IsAsBefore g h))
+  pub facts : WhereTold R a g (λ m. IsAnswerTold m (mode_of asked.input.typing_mode) a.nodes (form_of a.nodes asked.input) asked.provisional → IsFactForm m (mode_of asked.input.typing_mode) (form_of a.nodes asked.input) → CanDecide m a g 0 (depth + 1)
+      → IfOk r (λ z. (z.value.entry.is_read ≡ false) × IsRoundYes z.value.answer × IsAsBefore g h))
 
 -- a goal of a query's table is answered for the terms that stand for its positions
 pub record AnswersGoal (R : Rules) (a b : Cx) (g h : SearchGraph) (t : Table) (goal : Goal) (values : List GenericArg) (depth : ℕ) (r : Result (Box (Canonical Response)) EvalError) : Type 0 where

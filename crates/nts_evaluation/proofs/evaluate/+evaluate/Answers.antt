@@ -67,6 +67,8 @@ use Rattle.nts_evaluation.proofs.Failing.{query_failed, goal_failed, try_failed}
 use Rattle.nts_evaluation.proofs.evaluate.+evaluate.Goals.{search-then-graph, search-else-graph}
 use Rattle.nts_evaluation.proofs.Deciding.{decides_fault, decides_error, decides_refused, decides_then, decides_grown, decides_later, same_search, then_same}
 use Rattle.nts_evaluation.proofs.DecidedCandidates.{all_merged, facts_merged}
+use Rattle.nts_asking.proofs.Searching.{nothing_stands}
+use Rattle.nts_evaluation.proofs.FactQueries.{fact_query}
 use Rattle.nts_evaluation.proofs.FactTrials.{fact_asked}
 use Rattle.nts_evaluation.proofs.DecidedTrials.{refused_no}
 use Rattle.nts_evaluation.proofs.DecidedGoals.{is_opened, is_asked_here}
@@ -309,6 +311,9 @@ evaluate_goal-returns-in_err-answer g t c =
       decided = λ s n b d can.
           decides_error c.search.result c.from_residual-in_err-answer.result fails (λ no. (search rules)) (λ no. no)
           (c.search.ensures.decided (Since-later q.grows s) n b (as_query c.args.goal c.in_ok-originals.input.value n b q.query d) (decides_grown c.requires.search q.grows can));
+      facts = λ s tells f never empty can.
+          decides_error c.search.result c.from_residual-in_err-answer.result fails (λ no. (search rules)) (λ no. no)
+          (c.search.ensures.facts (Since-later q.grows s) (tell_grown (g.H.GoalHandler.handler s.base c.args.handler.now) (c.args.depth + 1) c.requires.search q.grows tells) (fact_query c.args.goal c.in_ok-originals.input.value q.query f) (nothing_stands _ c.args.graph.now c.in_ok-originals.input.value empty) (decides_grown c.requires.search q.grows can));
     }
 
 pub evaluate_goal-returns-in_err-originals : goal.evaluate_goal-returns-in_err-originals
@@ -323,6 +328,7 @@ evaluate_goal-returns-in_err-originals g t c =
       told = λ s tells. IfOk-from_err c.from_residual.result _ fails;
       refuted = search rules;
       decided = λ s n b d can. decides_fault c.from_residual.result fails (search rules);
+      facts = λ s tells f never empty can. decides_fault c.from_residual.result fails (search rules);
     }
 
 pub evaluate_goal-search-requires : goal.evaluate_goal-search-requires
@@ -353,6 +359,7 @@ evaluate_round-returns-in_err-push_query g t c =
       proved = λ s. IfOk-from_err c.from_residual-in_err-push_query.result _ fails;
       told = λ s tells told. IfOk-from_err c.from_residual-in_err-push_query.result _ fails;
       decided = λ s n b d can. IfOk-from_err c.from_residual-in_err-push_query.result _ fails;
+      facts = λ s tells told f can. IfOk-from_err c.from_residual-in_err-push_query.result _ fails;
       no = search rules;
     }
 
@@ -367,6 +374,7 @@ evaluate_round-returns-in_err-table g t c =
       proved = λ s. IfOk-from_err c.from_residual.result _ fails;
       told = λ s tells told. IfOk-from_err c.from_residual.result _ fails;
       decided = λ s n b d can. IfOk-from_err c.from_residual.result _ fails;
+      facts = λ s tells told f can. IfOk-from_err c.from_residual.result _ fails;
       no = search rules;
     }
 
@@ -395,6 +403,11 @@ evaluate_rounds-returns g t c =
       decided = λ s n b d can.
           let i = c.loop-round.invariant in
           let first = i.decided s n b d can in
+          let grown_first = c.in_ok-asked.ensures.grows.rest.rounds in
+          absurd (omega (arith, first, can.rounds, grown_first, c.loop-round-test.false, c.round_limit-round-end.ensures));
+      facts = λ s tells f none can.
+          let i = c.loop-round.invariant in
+          let first = i.facts s tells f can in
           let grown_first = c.in_ok-asked.ensures.grows.rest.rounds in
           absurd (omega (arith, first, can.rounds, grown_first, c.loop-round-test.false, c.round_limit-round-end.ensures));
     }
@@ -718,6 +731,12 @@ search-returns g t c =
             answer = x.answer;
             search = marked_again _ _ _ _ c.evaluate_rounds-answer.result x.search refl refl refl (λ m. elim c.if-graph.branch [ search-then-graph w ↦ absurd (let yes = w.if-graph.true in cc (m, yes)) | search-else-graph w ↦ w.graph-is ]);
           };
+      facts = λ s tells f none can.
+          let x = e.facts s tells f none (record { deep = can.deep; above = can.above; unmarked = refl; steps = can.steps; rounds = can.rounds; tight = can.tight }) in
+          record {
+            answer = x.answer;
+            search = marked_again _ _ _ _ c.evaluate_rounds-answer.result x.search refl refl refl (λ m. elim c.if-graph.branch [ search-then-graph w ↦ absurd (let yes = w.if-graph.true in cc (m, yes)) | search-else-graph w ↦ w.graph-is ]);
+          };
     }
 
 pub search-returns-in-Some : goal.search-returns-in-Some
@@ -731,6 +750,7 @@ search-returns-in-Some g t c =
       told = λ s tells. IfOk-map c.answer_cycle.result (λ r x. cycle_told (g.H.GoalHandler.handler s.base c.args.handler.now) c.in-Some.head (c.args.depth + 1) c.args.input.value c.requires.search c.answer_cycle.ensures.grows (rw c.deref.ensures at c.in-Some.ensures.found) tells r.value x) (rw c.deref-in-Some.ensures at c.answer_cycle.ensures.some);
       refuted = λ s tells no. cycle_refuted (g.H.GoalHandler.handler s.base c.args.handler.now) c.in-Some.head (c.args.depth + 1) c.args.input.value c.requires.search c.answer_cycle.ensures.grows (rw c.deref.ensures at c.in-Some.ensures.found) tells (rw c.deref-in-Some.ensures at (c.answer_cycle.ensures.none no));
       decided = λ s n b d can. absurd (stands_high (g.H.GoalHandler.handler s.base c.args.handler.now) c.args.cx.now.nodes n b c.args.graph.now c.args.input.value c.in-Some.head can.above (rw c.deref.ensures at c.in-Some.ensures.found) d);
+      facts = λ s tells f none can. absurd (input_stands c.args.cx.now.nodes c.args.graph.now c.args.input.value c.in-Some.head none (rw c.deref.ensures at c.in-Some.ensures.found));
     }
 
 pub try_evaluate_goals-evaluate_step-requires : goal.try_evaluate_goals-evaluate_step-requires

@@ -14,7 +14,7 @@ use Rattle.nts_trying.specs.Found.{Found}
 use Rattle.nts_trying.specs.Stepping.{ArePosed, AreLeft, AreSettled, terms_of, bound_of}
 use Rattle.nts_asking.specs.Evaluation.{Runs}
 use Rattle.nts_evaluation.specs.Promises.{WhereTold}
-use Rattle.nts_evaluation.specs.Deciding.{IsQueryDecided, IsBelow, CanDecide, IsAsBefore, AreRootValues, CandidatesSettled, GoalsSettled, IsQueryAtFirst, ArePlainCandidates, IsOverIfSilent}
+use Rattle.nts_evaluation.specs.Deciding.{IsQueryDecided, IsBelow, CanDecide, IsAsBefore, AreRootValues, CandidatesSettled, GoalsSettled, IsQueryAtFirst, ArePlainCandidates, IsOverIfSilent, IsFactForm}
 use Rattle.nts_evaluation.proofs.DecidedCandidates.{AreSoFar, Anything}
 use Rattle.nts_evaluation.proofs.DecidedSteps.{IsStepSoFar}
 use Rattle.nts_asking.specs.Meant.{rules_of, Always}
@@ -69,6 +69,7 @@ invariant-evaluate_rounds-loop-round g l = record {
   first : l.round ≡ 0 → IsAsBefore l.fn.graph l.graph;
   decided : Always (rules_of g.H.GoalHandler.ready g.H.GoalHandler.handler l.handler) l.fn.cx (λ s. (n : ℕ) (b : Bool) → IsBelow n (λ m. IsQueryDecided (g.H.GoalHandler.handler s.base l.handler) (mode_of l.fn.input.value.typing_mode) m (form_of l.fn.cx.nodes l.fn.input.value) b)
       → CanDecide (g.H.GoalHandler.handler s.base l.handler) l.fn.cx l.fn.graph n (l.fn.depth + 1) → l.round ≡ 0);
+  facts : WhereTold (rules_of g.H.GoalHandler.ready g.H.GoalHandler.handler l.handler) l.fn.cx l.fn.graph (λ m. IsFactForm m (mode_of l.fn.input.value.typing_mode) (form_of l.fn.cx.nodes l.fn.input.value) → CanDecide m l.fn.cx l.fn.graph 0 (l.fn.depth + 1) → l.round ≡ 0);
 }
 
 -- the first candidates have these responses, and the table is as before

@@ -1,5 +1,5 @@
 -- Longer answers for the functions that answer queries, in rounds.
-use Rattle.std.proofs.Common.{◌≡◌, inl, arith, rules, ◌+◌, ◌≤◌, refl, ap, sym, ◌∙◌, subst, ◌∷◌, false}
+use Rattle.std.proofs.Common.{◌≡◌, inl, arith, rules, ◌+◌, ◌≤◌, refl, ap, sym, ◌∙◌, subst, ◌∷◌, false, true}
 use Rattle.std.specs.Prelude.{IfSome}
 use Rattle.nts_store.specs.Growth.{tree_at}
 use Rattle.nts_store.proofs.Growing.{Extends-trans}
@@ -35,7 +35,9 @@ use Rattle.nts_evaluation.specs.Deciding.{CanDecide, IsRoundDecided}
 use Rattle.nts_evaluation.proofs.Deciding.{decides_grown, decides_later, same_search, then_same}
 use Rattle.nts_evaluation.proofs.DecidedTrials.{formed_before}
 use Rattle.nts_evaluation.proofs.DecidedQueries.{its_kinds, decided_there}
-use Rattle.nts_evaluation.proofs.DecidedRounds.{pushed_above, own_there, ended_decided, last_decided, applied_decided, as_query, originals_long, only_counted, round_query}
+use Rattle.nts_evaluation.proofs.DecidedRounds.{pushed_above, own_there, ended_decided, ended_fact, last_decided, applied_decided, as_query, originals_long, only_counted, round_query}
+use Rattle.nts_asking.proofs.Searching.{nothing_stands}
+use Rattle.nts_evaluation.proofs.FactQueries.{fact_begun, nothing_above, round_fact, fact_query, last_fact, applied_fact}
 use Rattle.nts_evaluation.proofs.evaluate.+evaluate.Goals as goal
 
 pub evaluate_goal-returns : goal.evaluate_goal-returns
@@ -75,6 +77,13 @@ evaluate_goal-returns g t c =
           let proper = now.proper in
           applied_decided b c.apply_answer-evaluated.result yes.0 (IfOk-map c.apply_answer-evaluated.result (λ y e. e ∙ yes.1.0) (rw c.deref-2.ensures at e.certainty)) (IfOk-map c.apply_answer-evaluated.result (λ y e. e.1 own.identity) (rw c.deref-2.ensures at e.changed))
           (λ no. own_granted _ _ _ now.sound proper.solvable (own.own _ (originals_long _ c.args.goal c.in_ok-originals.input.value q.query)) (rw (c.deref.ensures.value, c.deref-2.ensures) at (c.apply_answer-evaluated.ensures.no no))) x.search;
+      facts = λ s tells f never empty can.
+          let h = g.H.GoalHandler.handler s.base c.args.handler.now in
+          let later = tell_grown h (c.args.depth + 1) c.requires.search q.grows tells in
+          let x = k.facts (Since-later q.grows s) later (fact_query c.args.goal c.in_ok-originals.input.value q.query f) (nothing_stands _ c.args.graph.now c.in_ok-originals.input.value empty) (decides_grown c.requires.search q.grows can) in
+          let yes = x.answer in
+          applied_fact c.apply_answer-evaluated.result (IfOk-map c.apply_answer-evaluated.result (λ y e. e ∙ yes.1) (rw c.deref-2.ensures at e.certainty))
+          (λ n. never (response_refused c.requires.posed q.query q.grows.extends k.grows.extends c.in_ok-answer.answer.value k.fits (rw q.query.mode at (k.told (Since-later q.grows s) later)) (rw (c.deref.ensures.value, c.deref-2.ensures) at (c.apply_answer-evaluated.ensures.no n)))) x.search;
     }
 
 pub evaluate_goal-search-requires : goal.evaluate_goal-search-requires
@@ -184,6 +193,15 @@ evaluate_round-returns g t c =
           let y = c.compute_goal-response.ensures.decided (Since-later k.grows s) d.0 j (rw (c.deref_mut.ensures.value, c.deref-2.ensures.value) (there.query, rw x.mode there.decided)) ready in
           ended_decided j z ks c.args.graph.now c.push_query.new.graph c.compute_goal-response.new.graph c.end_round.new.graph own off.0 c.in_ok-push_query.ensures.pushed.1 c.push_query.ensures.rest refl off.1 c.compute_goal-response.result c.end_round.result off.2 c.end_round.ensures.answer
           (IfOk-map c.compute_goal-response.result (λ r f. own_there _ _ ks (response_at z r.value) (its_kinds h law mode d.0 j a b input table asked c.in_ok-table.values.items over x formed d.2) (x.values) (f.says)) (rw (c.deref_mut.ensures.value, c.deref-2.ensures.value) at c.compute_goal-response.ensures.found)) y;
+      facts = λ s tells told f can.
+          let h = g.H.GoalHandler.handler s.base c.args.handler.now in
+          let before = (tell_pushed c.push_query.new.graph (g.H.GoalHandler.handler s.base c.args.handler.now) (c.args.depth + 1) c.args.asked.value.input c.args.step c.args.asked.value.provisional c.requires.search k.grows c.requires.input c.requires.provisional c.in_ok-push_query.ensures.pushed tells told) in
+          let rest = c.push_query.ensures.rest in
+          let up = decides_grown c.requires.search k.grows can in
+          let ready : CanDecide h c.query_table.new.cx c.push_query.new.graph 0 c.args.depth = record { deep = omega arith; above = nothing_above h b c.push_query.new.graph; unmarked = rest.has_overflowed ∙ up.unmarked; steps = up.steps; rounds = up.rounds; tight = up.tight } in
+          let fact = fact_begun h a b input table asked c.in_ok-table.values.items over x f in
+          let y = c.compute_goal-response.ensures.facts (Since-later k.grows s) before (rw (c.deref_mut.ensures.value, c.deref-2.ensures.value) fact) ready in
+          ended_fact true z ks c.args.graph.now c.push_query.new.graph c.compute_goal-response.new.graph c.end_round.new.graph own off.0 c.in_ok-push_query.ensures.pushed.1 c.push_query.ensures.rest refl off.1 c.compute_goal-response.result c.end_round.result off.2 c.end_round.ensures.answer y;
     }
 
 pub evaluate_rounds-evaluate_round-requires : goal.evaluate_rounds-evaluate_round-requires
@@ -221,6 +239,7 @@ evaluate_rounds-loop-round-init g t c =
       told = λ s tells. first_told (g.H.GoalHandler.handler s.base c.args.handler.now) (mode_of c.args.input.value.typing_mode) c.first_round.new.cx.nodes (form_of c.args.cx.now.nodes c.args.input.value) c.args.input.value c.in_ok-asked.asked.value refl first;
       first = λ e. same_search _;
       decided = λ s n b d can. refl;
+      facts = λ s tells f can. refl;
     }
 
 pub evaluate_rounds-loop-round-preserved : goal.evaluate_rounds-loop-round-preserved
@@ -252,6 +271,14 @@ evaluate_rounds-loop-round-preserved g t c =
           let first = i.first (i.decided s n b d can) in
           let same = then_same first (only_counted c.note_round.ensures) in
           let ended = e.decided (Since-later i.grows s) n b (round_query c.args.cx.now.nodes c.loop-round.cx.nodes c.args.input.value c.loop-round.asked.value.input n b i.input form d) (decides_later n (c.args.depth + 1) c.requires.search i.grows same (omega arith) can.deep can) in
+          absurd (let last = c.round_is_last.ensures.1 (inl (rw c.deref.ensures ended.0)) in let more = c.if-round_is_last.false in cc (last, more));
+      facts = λ s tells f can.
+          let h = g.H.GoalHandler.handler s.base c.args.handler.now in
+          let first = i.first (i.facts s tells f can) in
+          let same = then_same first (only_counted c.note_round.ensures) in
+          let later = heads_tell_later h (c.args.depth + 1) c.requires.search i.grows.extends noted tells in
+          let before = round_told h c.loop-round.cx.nodes c.args.input.value c.loop-round.asked.value.input (form_of c.args.cx.now.nodes c.args.input.value) (form_of c.loop-round.cx.nodes c.loop-round.asked.value.input) c.loop-round.asked.value.provisional (sym i.input) (sym form) (i.told s tells) in
+          let ended = e.facts (Since-later i.grows s) later before (round_fact h c.args.cx.now.nodes c.loop-round.cx.nodes c.args.input.value c.loop-round.asked.value.input i.input form f) (decides_later 0 (c.args.depth + 1) c.requires.search i.grows same (omega arith) can.deep can) in
           absurd (let last = c.round_is_last.ensures.1 (inl (rw c.deref.ensures ended.0)) in let more = c.if-round_is_last.false in cc (last, more));
     }
 
@@ -297,6 +324,14 @@ evaluate_rounds-returns-then-round_is_last g t c =
           let ended = e.decided (Since-later i.grows s) n b (round_query c.args.cx.now.nodes c.loop-round.cx.nodes c.args.input.value c.loop-round.asked.value.input n b i.input form d) (decides_later n (c.args.depth + 1) c.requires.search i.grows same (omega arith) can.deep can) in
           last_decided b z (kinds_of c.args.input.value) c.in_ok-ended.ended.value.answer c.last_answer.result c.last_answer.ensures.some c.last_answer.ensures.none
           (subst (λ w. IsRoundDecided b z (kinds_of w) c.in_ok-ended.ended.value.answer) i.input ended.1) (then_same same ended.2);
+      facts = λ s tells f none can.
+          let h = g.H.GoalHandler.handler s.base c.args.handler.now in
+          let first = i.first (i.facts s tells f can) in
+          let same = then_same first (only_counted c.note_round.ensures) in
+          let later = heads_tell_later h (c.args.depth + 1) c.requires.search i.grows.extends noted tells in
+          let before = round_told h c.loop-round.cx.nodes c.args.input.value c.loop-round.asked.value.input (form_of c.args.cx.now.nodes c.args.input.value) (form_of c.loop-round.cx.nodes c.loop-round.asked.value.input) c.loop-round.asked.value.provisional (sym i.input) (sym form) (i.told s tells) in
+          let ended = e.facts (Since-later i.grows s) later before (round_fact h c.args.cx.now.nodes c.loop-round.cx.nodes c.args.input.value c.loop-round.asked.value.input i.input form f) (decides_later 0 (c.args.depth + 1) c.requires.search i.grows same (omega arith) can.deep can) in
+          last_fact c.in_ok-ended.ended.value.answer c.last_answer.result c.last_answer.ensures.some ended.1 (then_same same ended.2);
     }
 
 pub evaluate_rounds-round_is_last-requires-clause-answer : goal.evaluate_rounds-round_is_last-requires-clause-answer
