@@ -11,8 +11,11 @@ pub mod DecidedQueries
 pub mod Deciding
 pub mod DecidingExamples
 pub mod DecidingRenamed
+pub mod FactWorlds
 pub mod Faring
+pub mod GrantedFacts
 pub mod OfferedFacts
+pub mod OneRegion
 pub mod OpenedStatements
 pub mod OwnAnswers
 pub mod OwnResponses
