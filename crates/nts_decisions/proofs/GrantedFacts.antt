@@ -84,7 +84,7 @@ fixed_blurred w (leaf.TyConstant a) i = absurd i
 fixed_blurred w (leaf.ConstConstant a) i = absurd i
 
 -- values with one region in a term over positions
-blurred_filled : (own : List Tree) (t : Tree) → map blurred own ≡ own → blurred (filled own t) ≡ filled_under blurred_leaf own t
+pub blurred_filled : (own : List Tree) (t : Tree) → map blurred own ≡ own → blurred (filled own t) ≡ filled_under blurred_leaf own t
 blurred_filled own t e = replace-filled blurred_leaf own t ∙ ap (λ z. filled_under blurred_leaf z t) e
 
 -- the leaves of a response are of its table

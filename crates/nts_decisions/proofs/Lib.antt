@@ -14,6 +14,7 @@ pub mod DecidingRenamed
 pub mod FactWorlds
 pub mod Faring
 pub mod GrantedFacts
+pub mod MergedAnswers
 pub mod OfferedFacts
 pub mod OneRegion
 pub mod OpenedStatements
