@@ -1,4 +1,5 @@
 pub mod AskedGoals
+pub mod BegunFacts
 pub mod BlurredMeeting
 pub mod BlurredWorlds
 pub mod CarriedFacts
