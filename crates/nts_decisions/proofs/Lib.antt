@@ -16,6 +16,7 @@ pub mod FactWorlds
 pub mod Faring
 pub mod GrantedFacts
 pub mod MergedAnswers
+pub mod MetFacts
 pub mod OfferedFacts
 pub mod OneRegion
 pub mod OpenedStatements
