@@ -60,7 +60,7 @@ use Rattle.nts_theory.proofs.Refutation.Offering.{MeetsNamed}
 use Rattle.nts_theory.proofs.Refutation.Trying.{KnowsEquations, equated_back, equated_never_fails, equated_world}
 use Rattle.nts_theory.proofs.Refutation.Trying.{MeetsCandidate, KnowsCandidate, Reaches, reaches_self, reaches_trans, true_there}
 use Rattle.nts_theory.proofs.Responses.Applying.{new_knows}
-use Rattle.nts_theory.specs.Telling.{FailsToAdd, IsBegun}
+use Rattle.nts_theory.specs.Telling.{FailsToAdd, IsBegun, BreaksOff}
 use Rattle.std.proofs.Common.{ℕ, ◌≡◌, inl, inr, List, [], ◌∷◌, length, refl, sym, ap, subst, ◌∙◌, arith, Some, slice_get, true}
 use Rattle.std.proofs.Common.{◌≡◌, inl, inr, ℕ, zero, suc, List, [], ◌∷◌, ◌++◌, map, get_or, length, refl, sym, ap, ◌∙◌, subst}
 use Rattle.std.specs.Prelude.{◌⊎◌}
@@ -254,3 +254,13 @@ module _ (q : Content) (w : World) (s : Solves q w) (e g : Tree) (known : Knows 
       same : (zs : List Tree) (v : GoesOn met chosen) → ((t : Tree) → Among zs t → Knows q t) → map (λ t. merged (inst v.world t)) zs ≡ map (λ t. merged (inst w t)) zs
       same [] v h = refl
       same (z ∷ zs) v h = cc (ap merged (inst-agrees q (blurred_world w) v.world z v.agrees (h z (inl refl)) ∙ sym (inst_blurred w z)) ∙ merged_same (merged (inst w z)) (merged_one (inst w z)), same zs v (λ t i. h t (inr i)))
+
+  -- .. and no equality of its constraints fails
+  adds_never_fail : (xs : List Constraint) (d : Content) (chosen : List Tree) → ((x : Constraint) → Among xs x → Among y.constraints x) → GoesOn d chosen → FailsToAdd chosen xs d → ⊥
+  adds_never_fail [] d chosen h v a = a
+  adds_never_fail (x ∷ xs) d chosen h v (inl (is, u)) = u.none v.world v.solves (one_equal x d chosen v (h x (inl refl)) is)
+  adds_never_fail (x ∷ xs) d chosen h v (inr (b, first, rest)) =
+      adds_never_fail xs b chosen (λ z i. h z (inr i)) (added_by x.relation (constraint_by (filled chosen) x) d b chosen refl v first (λ is. one_equal x d chosen v (h x (inl refl)) is)) rest
+
+  pub never_breaks : BreaksOff q y → ⊥
+  never_breaks b = adds_never_fail y.constraints b.equal b.values (λ z i. i) (equated_there b.values b.made b.equal b.freshens b.equates) b.fails

@@ -27,3 +27,4 @@ pub mod Reopening
 pub mod RootedInputs
 pub mod UnchangedAnswers
 pub mod UndecidedExamples
+pub mod UnrefusedFacts

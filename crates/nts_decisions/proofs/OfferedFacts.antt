@@ -26,7 +26,7 @@ pub record IsRenamedOffer (h : Handler) (mode : Mode) (e g : Tree) (x : Candidat
   pub offered : Among (h.offers mode e g) candidate
   pub same : blurred_candidate candidate ≡ renamed_candidate renaming (blurred_candidate x)
 
-none_left : (ps : List Premise) → map blurred_premise ps ≡ [] → ps ≡ []
+pub none_left : (ps : List Premise) → map blurred_premise ps ≡ [] → ps ≡ []
 none_left [] e = refl
 none_left (p ∷ ps) e = absurd (cc e)
 
