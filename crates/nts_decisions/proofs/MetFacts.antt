@@ -29,6 +29,7 @@ use Rattle.nts_model.specs.Tables.Worlds.{World, Solves, inst}
 use Rattle.nts_model.proofs.Terms.Substituting.{KeepsKinds}
 use Rattle.nts_model.specs.Terms.Regions.{of_variable}
 use Rattle.nts_model.specs.Derivations.Rules.{related, alike}
+use Rattle.nts_decisions.proofs.OfferedFacts.{no_goals_there}
 use Rattle.nts_decisions.specs.Facts.{IsAskedAs, IsOpenGoal}
 use Rattle.nts_decisions.proofs.FactWorlds.{MergedWorld, low, proper, original_known, moving, moving_carries, image, image_one, asked_trees, entered_merged}
 use Rattle.nts_model.specs.Answers.Responses.{read_in}
@@ -241,6 +242,9 @@ module _ (h : Handler) (law : IsLawfulHandler h) (mode : Mode) (c : Content) (w 
       (among_mapped (renamed_candidate ρ') (map blurred_candidate (h.offers mode i.environment i.predicate)) (blurred_candidate x) (among_mapped blurred_candidate (h.offers mode i.environment i.predicate) x a)) in
       let k = among_back blurred_candidate (h.offers mode j.environment j.predicate) (renamed_candidate ρ' (blurred_candidate x)) found in
       record { candidate = k.of; offered = k.found; same = sym k.same }
+
+  pub asks_nothing_there : (x : Candidate) (o : IsOfferedThere x) → x.goals ≡ [] → (let y = o.candidate in y.goals ≡ [])
+  asks_nothing_there x o none = no_goals_there ρ' x o.candidate o.same none
 
   -- what values meet the fact there
   module _ (x y : Candidate) (same : blurred_candidate y ≡ renamed_candidate ρ' (blurred_candidate x)) (here : IsCandidateFor i.environment i.predicate x) (over : IsCandidateFor j.environment j.predicate y)
