@@ -13,6 +13,11 @@ pub mod Deciding
 pub mod DecidingExamples
 pub mod DecidingRenamed
 pub mod FactWorlds
+pub mod FactsBack
+pub mod FactsKept
+pub mod FactsOver
+pub mod FactsSettled
+pub mod FactsThere
 pub mod Faring
 pub mod GrantedFacts
 pub mod MergedAnswers

@@ -1,4 +1,5 @@
 pub mod Deciding
 pub mod Facts
 pub mod Faring
+pub mod FirstTables
 pub mod Queries
