@@ -6,7 +6,7 @@ use Rattle.nts_model.specs.Lists.{Among}
 use Rattle.nts_model.specs.Derivations.Sequents.{Premise}
 use Rattle.nts_model.specs.Derivations.Rules.{Mode, Equation}
 use Rattle.nts_model.specs.Derivations.Handlers.{Handler, Candidate, equation_by, premise_by, renamed_candidate, IsAsked, IsLawfulHandler, IsCandidateFor, AreValuesOf, IsOver, IsFixed, IsEquationOver, IsValueOfSort, kind_of_sort}
-use Rattle.nts_model.specs.Canonical.Inputs.{Input, canonical_of, IsInput, is_static, HaveKinds, static_as_label, made_of, Renames, after_predicate, originals, OccursIn, after_environment, label_or_leaf}
+use Rattle.nts_model.specs.Canonical.Inputs.{Input, canonical_of, IsInput, is_static, HaveKinds, static_as_label, made_of, Renames, after_predicate, originals, OccursIn, after_environment, label_or_leaf, AreAlikeInputs}
 use Rattle.nts_decisions.specs.Deciding.{blurred, blurred_environment, blurred_premise, blurred_candidate, IsUniform, blurred_but_static, blurred_leaf}
 use Rattle.nts_model.proofs.Canonical.Numbering.{first_none, AllLeaves, rest_none, numbered-replace, replace-tells, extends-trans, extends-seen, filled-replace}
 use Rattle.nts_model.proofs.Canonical.CanonicalForms.{forms_tell_inputs, making_gives_form, originals_are_leaves, distinct-originals}
@@ -30,6 +30,7 @@ use Rattle.nts_model.proofs.Terms.Substituting.{KeepsKinds}
 use Rattle.nts_model.specs.Terms.Regions.{of_variable}
 use Rattle.nts_model.specs.Derivations.Rules.{related, alike}
 use Rattle.nts_decisions.proofs.OfferedFacts.{no_goals_there}
+use Rattle.nts_decisions.proofs.FactsThere.{offers_there}
 use Rattle.nts_decisions.specs.Facts.{IsAskedAs, IsOpenGoal}
 use Rattle.nts_decisions.proofs.FactWorlds.{MergedWorld, low, proper, original_known, moving, moving_carries, image, image_one, asked_trees, entered_merged}
 use Rattle.nts_model.specs.Answers.Responses.{read_in}
@@ -74,28 +75,6 @@ leaf_at P l (node m c) f h o = by_label m (leaf_at P l c f.1) f h o
     by_label (label.List x) below f h (inl e) = absurd (cc e)
     by_label (label.List x) below f h (inr o) = below h o
 
-but_static_kinds : KeepsKinds blurred_but_static
-but_static_kinds (leaf.Region region.Static) = refl
-but_static_kinds (leaf.Region region.Erased) = refl
-but_static_kinds (leaf.Region region.Error) = refl
-but_static_kinds (leaf.Region (region.EarlyParam n)) = refl
-but_static_kinds (leaf.Region (region.LateParam n)) = refl
-but_static_kinds (leaf.Region (region.Placeholder v n)) = refl
-but_static_kinds (leaf.Variable k n) = blurred_kinds (leaf.Variable k n)
-but_static_kinds (leaf.TyConstant a) = refl
-but_static_kinds (leaf.ConstConstant a) = refl
-
-but_static_formed : (l : Leaf) → IsFormed (blurred_but_static l)
-but_static_formed (leaf.Region region.Static) = (tt, tt)
-but_static_formed (leaf.Region region.Erased) = (tt, tt)
-but_static_formed (leaf.Region region.Error) = (tt, tt)
-but_static_formed (leaf.Region (region.EarlyParam n)) = (tt, tt)
-but_static_formed (leaf.Region (region.LateParam n)) = (tt, tt)
-but_static_formed (leaf.Region (region.Placeholder v n)) = (tt, tt)
-but_static_formed (leaf.Variable k n) = blurred_leaf_formed (leaf.Variable k n)
-but_static_formed (leaf.TyConstant a) = (tt, tt)
-but_static_formed (leaf.ConstConstant a) = (tt, tt)
-
 equations_among : (f : Equation → Equation) (qs : List Equation) (e : Equation) → Among qs e → Among (map f qs) (f e)
 equations_among f [] e a = absurd a
 equations_among f (x ∷ qs) e (inl p) = inl (ap f p)
@@ -115,31 +94,30 @@ read_leaves B us (x ∷ u) zero = one x
     one x = refl
 read_leaves B us (x ∷ u) (suc n) = read_leaves B us u n
 
+-- the input that is made of a form with leaves of its kinds, and the renaming that leads to it
+pub made_input : (i : Input) → i.hidden ≡ empty → (u : List Leaf) (r : ℕ → ℕ) → (let j = made_of (canonical_of i) u r in IsAsked j.environment j.predicate) → IsInput (made_of (canonical_of i) u r)
+made_input i hidden u r asked =
+    let j = made_of (canonical_of i) u r in
+    let none : j.hidden ≡ empty = ap (λ z. filled (map leaf_tree u) (numbered no_leaf (after_predicate i) z)) hidden in
+    let f = asked.formed in
+    let x = or_false (any_label is_canonical j.environment) _ asked.no_positions in
+    let z = or_false (any_label is_canonical j.predicate) false x.1 in
+    record { formed = (f.0, (f.1.0, (subst IsFormed (sym none) tt, tt))); no_positions = rw (x.0, z.0, ap (any_label is_canonical) none) refl }
+
+pub made_alike : (i : Input) → IsInput i → i.hidden ≡ empty → (u : List Leaf) (r : ℕ → ℕ) → HaveKinds (canonical_of i) u r → (let j = made_of (canonical_of i) u r in IsAsked j.environment j.predicate) → AreAlikeInputs i (made_of (canonical_of i) u r)
+made_alike i input hidden u r have asked = (forms_tell_inputs i (made_of (canonical_of i) u r) input (made_input i hidden u r asked)).0 (sym (making_gives_form i u r input have))
+
 module _ (h : Handler) (law : IsLawfulHandler h) (mode : Mode) (c : Content) (w : World) (solves : Solves c w) (i : Input) (from : IsAskedAs c i.environment i.predicate i) (goal : IsOpenGoal h mode i.environment i.predicate)
     (q : Content) (u : List Leaf) (r : ℕ → ℕ) (have : HaveKinds (canonical_of i) u r) (begun : IsBegun (canonical_of i) q (map leaf_tree u))
-    (asked : (let j = made_of (canonical_of i) u r in IsAsked j.environment j.predicate)) (known : (let j = made_of (canonical_of i) u r in Knows q (pair j.environment j.predicate))) where
+    (asked : (let j = made_of (canonical_of i) u r in IsAsked j.environment j.predicate)) (known : (let j = made_of (canonical_of i) u r in Knows q (pair j.environment j.predicate))) (ρ : Renaming) (maps : (let j = made_of (canonical_of i) u r in Renames ρ i j)) where
   abbrev j : Input
   j = made_of (canonical_of i) u r
 
-  pub input : IsInput i
+  input : IsInput i
   input = proper c w solves i from
 
-  pub no_hidden : j.hidden ≡ empty
-  no_hidden = (let x = from.input in ap (λ z. filled (map leaf_tree u) (numbered no_leaf (after_predicate i) z)) x.hidden)
-
-  pub made : IsInput j
-  made =
-      let f = asked.formed in
-      record { formed = (f.0, (f.1.0, (subst IsFormed (sym no_hidden) tt, tt))); no_positions = (let x = or_false (any_label is_canonical j.environment) _ asked.no_positions in let z = or_false (any_label is_canonical j.predicate) false x.1 in rw (x.0, z.0, ap (any_label is_canonical) no_hidden) refl) }
-
-  pub form : canonical_of j ≡ canonical_of i
-  form = making_gives_form i u r input have
-
-  abbrev ρ : Renaming
-  ρ = ((forms_tell_inputs i j input made).0 (sym form)).0
-
-  maps : Renames ρ i j
-  maps = ((forms_tell_inputs i j input made).0 (sym form)).1
+  made : IsInput j
+  made = made_input i (let x = from.input in x.hidden) u r asked
 
   none_environment : any_label is_canonical i.environment ≡ false
   none_environment = first_none i.environment (more i.predicate (more i.hidden empty)) input.no_positions
@@ -207,23 +185,8 @@ module _ (h : Handler) (law : IsLawfulHandler h) (mode : Mode) (c : Content) (w 
       sym (inst_blurred v (get_or (map leaf_tree u) n empty)) ∙ sym (get_or-map (λ t. merged (inst v t)) refl (map leaf_tree u) n) ∙ ap (λ z. get_or z n empty) world_there.images ∙ lookup l a
 
   -- what the handler offers there
-  environment_blurred : blurred_environment j.environment ≡ rename ρ' (blurred_environment i.environment)
-  environment_blurred = environment_off ρ i.environment j.environment none_environment (first_none j.environment (more j.predicate (more j.hidden empty)) made.no_positions) maps.environment
-
-  predicate_blurred : blurred j.predicate ≡ rename ρ' (blurred i.predicate)
-  predicate_blurred = ap blurred (sym maps.predicate) ∙ blurred_off ρ i.predicate
-
-  blurred_environment_formed : IsFormed (blurred_environment i.environment)
-  blurred_environment_formed = IsFormed-replace blurred_but_static but_static_kinds but_static_formed i.environment (let f = input.formed in f.0)
-
-  blurred_formed : IsFormed (blurred i.predicate)
-  blurred_formed = IsFormed-replace blurred_leaf blurred_kinds blurred_leaf_formed i.predicate (let f = input.formed in f.1.0)
-
-  pub all_offered : map blurred_candidate (h.offers mode j.environment j.predicate) ≡ map (renamed_candidate ρ') (map blurred_candidate (h.offers mode i.environment i.predicate))
-  all_offered =
-      let v = goal.uniform in
-      let there = uniform_renamed h law mode ρ' (off_plain ρ) (blurred_environment i.environment) (blurred i.predicate) goal.candidates blurred_environment_formed blurred_formed v in
-      there.alike j.environment j.predicate asked environment_blurred predicate_blurred ∙ ap (map (renamed_candidate ρ')) (sym (v.alike i.environment i.predicate goal.asked refl refl))
+  all_offered : map blurred_candidate (h.offers mode j.environment j.predicate) ≡ map (renamed_candidate ρ') (map blurred_candidate (h.offers mode i.environment i.predicate))
+  all_offered = offers_there i j input made ρ maps q known goal.asked h law mode goal
 
   pub record IsOfferedThere (x : Candidate) : Type 0 where
     pub candidate : Candidate

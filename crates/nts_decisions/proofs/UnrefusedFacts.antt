@@ -14,7 +14,7 @@ use Rattle.nts_model.specs.Derivations.Related.{pair}
 use Rattle.nts_model.specs.Derivations.Sequents.{Premise}
 use Rattle.nts_model.specs.Derivations.Rules.{Mode, Equation}
 use Rattle.nts_model.specs.Derivations.Handlers.{Handler, Candidate, IsAsked, IsLawfulHandler, HasNoLeaks, IsCandidateFor, AreValuesOf}
-use Rattle.nts_model.specs.Canonical.Inputs.{Input, PositionKind, type_variable, integer_variable, float_variable, const_variable, region_variable, placeholder, IsInput, HaveKinds, canonical_of, after_environment, originals}
+use Rattle.nts_model.specs.Canonical.Inputs.{Input, PositionKind, type_variable, integer_variable, float_variable, const_variable, region_variable, placeholder, IsInput, HaveKinds, canonical_of, after_environment, originals, AreAlikeInputs, made_of}
 use Rattle.nts_model.specs.Canonical.Numbered.{numbered, no_leaf}
 use Rattle.nts_model.specs.Refutation.Opening.{binds, opened_in, entered_table}
 use Rattle.nts_model.specs.Answers.Responses.{Response, IsResponseTo, IsQueryTable, read_in, RefusesResponse}
@@ -29,7 +29,7 @@ use Rattle.nts_decisions.proofs.OneRegion.{blurred_same, HasOneRegion}
 use Rattle.nts_decisions.proofs.FactWorlds.{MergedWorld, entered_merged, asked_trees, asked_values, images_one}
 use Rattle.nts_decisions.proofs.GrantedFacts.{ContainsMerged, says_merged}
 use Rattle.nts_decisions.proofs.MergedAnswers.{identity_merged, merged_granted}
-use Rattle.nts_decisions.proofs.MetFacts.{world_there, is_offered_there, IsOfferedThere, values_there, fit_there, one_there, named_there, equal_there, met_there, asks_nothing_there}
+use Rattle.nts_decisions.proofs.MetFacts.{world_there, is_offered_there, IsOfferedThere, values_there, fit_there, one_there, named_there, equal_there, met_there, asks_nothing_there, made_alike}
 use Rattle.nts_decisions.proofs.BegunFacts.{begun_there, never_breaks}
 use Rattle.nts_model.specs.Answers.Applying.{IsProperContent}
 use Rattle.nts_decisions.proofs.OfferedFacts.{none_left, no_goals_there}
@@ -127,8 +127,11 @@ module _ (Q : Queries) (h : Handler) (law : IsLawfulHandler h) (mode : Mode) (ti
 
   -- its candidates are tried in the query's first table
   module _ (asked : IsAsked e' g') (proper : IsProperContent q) where
-    there : IsOfferedThere h law mode c w solves i from fact.goal q u roots have first.begins asked first.knows x
-    there = is_offered_there h law mode c w solves i from fact.goal q u roots have first.begins asked first.knows x fact.offered
+    renaming : AreAlikeInputs i (made_of (canonical_of i) u roots)
+    renaming = (let f = from.input in made_alike i f.proper f.hidden u roots have asked)
+
+    there : IsOfferedThere h law mode c w solves i from fact.goal q u roots have first.begins asked first.knows renaming.0 renaming.1 x
+    there = is_offered_there h law mode c w solves i from fact.goal q u roots have first.begins asked first.knows renaming.0 renaming.1 x fact.offered
 
     abbrev y : Candidate
     y = there.candidate
@@ -140,25 +143,25 @@ module _ (Q : Queries) (h : Handler) (law : IsLawfulHandler h) (mode : Mode) (ti
     over = (let keep = law.keep in keep.each mode e' g' y asked there.offered)
 
     abbrev us : List Tree
-    us = (let m = fact.met in values_there h law mode c w solves i from fact.goal q u roots have first.begins asked first.knows x y there.same here over m.values m.fit m.named m.equal)
+    us = (let m = fact.met in values_there h law mode c w solves i from fact.goal q u roots have first.begins asked first.knows renaming.0 renaming.1 x y there.same here over m.values m.fit m.named m.equal)
 
     no_goals : y.goals ≡ []
-    no_goals = asks_nothing_there h law mode c w solves i from fact.goal q u roots have first.begins asked first.knows x there fact.no_goals
+    no_goals = asks_nothing_there h law mode c w solves i from fact.goal q u roots have first.begins asked first.knows renaming.0 renaming.1 x there fact.no_goals
 
     is_met : IsCandidateMet q y
-    is_met = (let m = fact.met in met_there h law mode c w solves i from fact.goal q u roots have first.begins asked first.knows x y there.same here over m.values m.fit m.named m.equal)
+    is_met = (let m = fact.met in met_there h law mode c w solves i from fact.goal q u roots have first.begins asked first.knows renaming.0 renaming.1 x y there.same here over m.values m.fit m.named m.equal)
 
     fit : AreValuesOf y.fresh us
-    fit = (let m = fact.met in fit_there h law mode c w solves i from fact.goal q u roots have first.begins asked first.knows x y there.same here over m.values m.fit m.named m.equal)
+    fit = (let m = fact.met in fit_there h law mode c w solves i from fact.goal q u roots have first.begins asked first.knows renaming.0 renaming.1 x y there.same here over m.values m.fit m.named m.equal)
 
     one : (t : Tree) → Among us t → HasOneRegion t
-    one = (let m = fact.met in one_there h law mode c w solves i from fact.goal q u roots have first.begins asked first.knows x y there.same here over m.values m.fit m.named m.equal)
+    one = (let m = fact.met in one_there h law mode c w solves i from fact.goal q u roots have first.begins asked first.knows renaming.0 renaming.1 x y there.same here over m.values m.fit m.named m.equal)
 
     named : AreNamedValues term_level q.universe us
-    named = (let m = fact.met in named_there h law mode c w solves i from fact.goal q u roots have first.begins asked first.knows x y there.same here over m.values m.fit m.named m.equal)
+    named = (let m = fact.met in named_there h law mode c w solves i from fact.goal q u roots have first.begins asked first.knows renaming.0 renaming.1 x y there.same here over m.values m.fit m.named m.equal)
 
     equal : (z : Equation) → Among y.equations z → (let v = entered in read_in (blurred_world v.world) us (left_of z) ≡ read_in (blurred_world v.world) us (right_of z))
-    equal = (let m = fact.met in equal_there h law mode c w solves i from fact.goal q u roots have first.begins asked first.knows x y there.same here over m.values m.fit m.named m.equal)
+    equal = (let m = fact.met in equal_there h law mode c w solves i from fact.goal q u roots have first.begins asked first.knows renaming.0 renaming.1 x y there.same here over m.values m.fit m.named m.equal)
 
     -- the query's fact does not fail
     never_fails : Fails Q h mode q y → ⊥
