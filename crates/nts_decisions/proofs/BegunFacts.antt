@@ -6,41 +6,30 @@ use Rattle.nts_model.specs.declared.labels.Sort.TheVariants as sort
 use Rattle.nts_model.proofs.Canonical.Positioned.{inst-filled}
 use Rattle.nts_model.proofs.Tables.Instances.{inst-agrees, Agrees-refl, Agrees-trans}
 use Rattle.nts_model.proofs.Tables.Instances.{inst-agrees}
-use Rattle.nts_model.proofs.Tables.Slots.{Knows-kept, KeepsKinds, KeepsKinds-refl, KeepsKinds-trans, KeepsKinds-with_slot}
+use Rattle.nts_model.proofs.Tables.Slots.{Knows-kept, KeepsKinds, KeepsKinds-trans}
 use Rattle.nts_model.proofs.Tables.Slots.{Knows-kept}
-use Rattle.nts_model.proofs.Tables.Solvable.{reading-solves, KnowsAll-kept}
 use Rattle.nts_model.proofs.Tables.Solving.{Solves-with_constraint}
-use Rattle.nts_model.proofs.Tables.Sound.{IsSound-with_slot}
-use Rattle.nts_model.proofs.Terms.Scoping.{ArePatches, no_patches, more_patches, lists_patched, filled_patched}
 use Rattle.nts_model.specs.Answers.Applying.{IsProperContent, AreKnownTrees}
 use Rattle.nts_model.specs.Answers.Applying.{IsProperContent}
 use Rattle.nts_model.specs.Answers.Responses.{read_in}
-use Rattle.nts_model.specs.Derivations.Handlers.{Candidate, kind_of_sort, IsValueOfSort, AreValuesOf, IsOfSort}
-use Rattle.nts_model.specs.Derivations.Handlers.{Handler, Candidate, constraint_by, IsAsked, CandidatesKeep, IsCandidateFor, IsFixed, IsOver, IsEquationOver}
+use Rattle.nts_model.specs.Derivations.Handlers.{Candidate, IsValueOfSort, AreValuesOf, IsOfSort}
+use Rattle.nts_model.specs.Derivations.Handlers.{Candidate, constraint_by, IsCandidateFor, IsFixed, IsOver, IsEquationOver}
 use Rattle.nts_model.specs.Derivations.Related.{Constraint, pair}
 use Rattle.nts_model.specs.Derivations.Rules.{Equation}
-use Rattle.nts_model.specs.Derivations.Rules.{coherence, Equation, related, alike}
+use Rattle.nts_model.specs.Derivations.Rules.{Equation, related, alike}
 use Rattle.nts_model.specs.Lists.{Among}
-use Rattle.nts_model.specs.Refutation.Choosing.{left_of, right_of, MeetsEquations, Freshens, AreNamedValues}
-use Rattle.nts_model.specs.Refutation.Choosing.{left_of, right_of, MeetsEquations, IsCandidateMet, NoneIsMet, OnlyIsMet, SomeIsMet, SeveralAreMet, Freshens, EquatesAll, FailsToEquate}
-use Rattle.nts_model.specs.Refutation.Coherence.{IsInstanceIn}
-use Rattle.nts_model.specs.Refutation.Containing.{Truth, IsTrueBy, IsSolution}
-use Rattle.nts_model.specs.Refutation.Forcing.{seen_as, AddsBy, Adds, AddsAll}
-use Rattle.nts_model.specs.Tables.Contents.{Content, Slot, unset, with_slot}
+use Rattle.nts_model.specs.Refutation.Choosing.{left_of, right_of, Freshens, AreNamedValues}
+use Rattle.nts_model.specs.Refutation.Choosing.{left_of, right_of, Freshens, EquatesAll}
+use Rattle.nts_model.specs.Refutation.Forcing.{seen_as, AddsBy, AddsAll}
+use Rattle.nts_model.specs.Tables.Contents.{Content}
 use Rattle.nts_model.specs.Tables.Contents.{Content, with_constraint}
-use Rattle.nts_model.specs.Tables.Equations.{AreRelated}
-use Rattle.nts_model.specs.Tables.RegionClasses.{reading}
-use Rattle.nts_model.specs.Tables.Resolving.{Knows, IsSound}
 use Rattle.nts_model.specs.Tables.Resolving.{Knows}
-use Rattle.nts_model.specs.Tables.Solvable.{IsSolvable}
+use Rattle.nts_model.specs.Tables.Resolving.{Knows}
 use Rattle.nts_model.specs.Tables.Worlds.{World, inst, Agrees, Solves}
 use Rattle.nts_model.specs.Tables.Worlds.{World, inst, IsTrueOf, IsMet}
-use Rattle.nts_model.specs.Terms.Placeholders.{leaf_level}
-use Rattle.nts_model.specs.Terms.Scoping.{IsWellBound}
-use Rattle.nts_model.specs.Terms.Scoping.{ListsBound, IsWellBound}
-use Rattle.nts_model.specs.Terms.Substitutions.{leaf_tree, Occurs, Instance, filled, filled_under}
-use Rattle.nts_model.specs.Terms.Substitutions.{leaf_tree, Occurs, filled, position_of, value_or}
-use Rattle.nts_model.specs.Terms.Trees.{Tree, empty, more, node, binders, IsFormed, kind_of_label, kind_of, of_sort}
+use Rattle.nts_model.specs.Terms.Substitutions.{leaf_tree, Occurs, filled}
+use Rattle.nts_model.specs.Terms.Substitutions.{leaf_tree, Occurs, filled}
+use Rattle.nts_model.specs.Terms.Trees.{Tree, empty, more, node, IsFormed, kind_of_label, kind_of, of_sort}
 use Rattle.nts_model.specs.Terms.Trees.{Tree}
 use Rattle.nts_model.specs.declared.labels.BoundVarIndexKind.TheVariants as index
 use Rattle.nts_model.specs.declared.labels.FreeRegion.TheVariants as region
@@ -51,18 +40,13 @@ use Rattle.nts_model.specs.declared.labels.Leaf.{Leaf}
 use Rattle.nts_model.specs.declared.labels.Relation.TheVariants as relation
 use Rattle.nts_model.specs.declared.labels.Relation.{Relation}
 use Rattle.nts_model.specs.declared.labels.Sort.{Sort}
-use Rattle.nts_theory.proofs.Refutation.Answered.{solution_later}
-use Rattle.nts_theory.proofs.Refutation.Choosing.{AreFresh, fresh_known, filled_known, AreOfTable, equations_known}
-use Rattle.nts_theory.proofs.Refutation.Freshening.{freshened, named_terms, filled_agree, knows_leaf, meets_filled}
-use Rattle.nts_theory.proofs.Refutation.Freshening.{new_kinds, freshened_world, freshened_back, filled_agree}
-use Rattle.nts_theory.proofs.Refutation.OfferMeeting.{MeetsOffered}
-use Rattle.nts_theory.proofs.Refutation.Offering.{MeetsNamed}
-use Rattle.nts_theory.proofs.Refutation.Trying.{KnowsEquations, equated_back, equated_never_fails, equated_world}
-use Rattle.nts_theory.proofs.Refutation.Trying.{MeetsCandidate, KnowsCandidate, Reaches, reaches_self, reaches_trans, true_there}
-use Rattle.nts_theory.proofs.Responses.Applying.{new_knows}
+use Rattle.nts_theory.proofs.Refutation.Choosing.{fresh_known, AreOfTable, equations_known}
+use Rattle.nts_theory.proofs.Refutation.Freshening.{filled_agree, knows_leaf}
+use Rattle.nts_theory.proofs.Refutation.Freshening.{freshened_world, filled_agree}
+use Rattle.nts_theory.proofs.Refutation.Trying.{KnowsEquations, equated_world}
 use Rattle.nts_theory.specs.Telling.{FailsToAdd, IsBegun, BreaksOff}
 use Rattle.std.proofs.Common.{ℕ, ◌≡◌, inl, inr, List, [], ◌∷◌, length, refl, sym, ap, subst, ◌∙◌, arith, Some, slice_get, true}
-use Rattle.std.proofs.Common.{◌≡◌, inl, inr, ℕ, zero, suc, List, [], ◌∷◌, ◌++◌, map, get_or, length, refl, sym, ap, ◌∙◌, subst}
+use Rattle.std.proofs.Common.{◌≡◌, inl, inr, ℕ, zero, suc, List, [], ◌∷◌, map, get_or, length, refl, sym, ap, ◌∙◌, subst}
 use Rattle.std.specs.Prelude.{◌⊎◌}
 use Rattle.nts_decisions.proofs.BlurredWorlds.{merged, blurred_world, solves_blurred, region_in, inst_blurred, region_is_blurred}
 use Rattle.nts_decisions.proofs.OneRegion.{HasOneRegion, merged_one, merged_same, blurred_same}

@@ -1,27 +1,26 @@
 -- A world of a caller's table, with all regions made one, is one of the first table of the query that it asks.
-use Rattle.std.proofs.Common.{◌≡◌, inl, inr, ℕ, ◌≤◌, List, [], ◌∷◌, map, Option, Some, None, refl, sym, ap, subst, ◌∙◌, arith}
-use Rattle.std.specs.Prelude.{Bool, true, ◌⊎◌, slice_get}
-use Rattle.nts_model.specs.declared.labels.Sort.TheVariants as sort
+use Rattle.std.proofs.Common.{◌≡◌, inl, inr, ℕ, ◌≤◌, List, [], ◌∷◌, map, Option, Some, None, refl, sym, ap, subst, ◌∙◌}
+use Rattle.std.specs.Prelude.{true, slice_get}
 use Rattle.nts_model.specs.declared.labels.VariableKind.{VariableKind}
 use Rattle.nts_model.specs.declared.labels.VariableKind.TheVariants as kind
 use Rattle.nts_model.specs.declared.labels.FreeRegion.TheVariants as region
 use Rattle.nts_model.specs.declared.labels.Leaf.{Leaf}
 use Rattle.nts_model.specs.declared.labels.Leaf.TheVariants as leaf
-use Rattle.nts_model.specs.Terms.Trees.{Tree, empty}
+use Rattle.nts_model.specs.Terms.Trees.{Tree}
 use Rattle.nts_model.specs.Tables.Contents.{Content, Slot, map_slot, universe_of, kind_at}
 use Rattle.nts_model.specs.Terms.Placeholders.{CanName, leaf_level_of, leaf_level}
 use Rattle.nts_model.specs.Tables.Levels.{NamesAll, term_level}
 use Rattle.nts_model.specs.Tables.Resolving.{Knows}
 use Rattle.nts_model.specs.Tables.Worlds.{World, inst, Solves, IsValue}
-use Rattle.nts_model.specs.Terms.Substitutions.{leaf_tree, IsConstant, Renaming, rename, Occurs, instance_of}
+use Rattle.nts_model.specs.Terms.Substitutions.{leaf_tree, IsConstant, Renaming, rename, Occurs}
 use Rattle.nts_model.specs.Lists.{Among}
-use Rattle.nts_model.specs.Canonical.Inputs.{Input, IsInput, PositionKind, position_kind, originals, canonical_of, OccursIn}
-use Rattle.nts_model.specs.Refutation.Containing.{Truth, IsFreeRegion, IsRootValue, IsInputValue, AreInputValues, IsSolutionOf}
+use Rattle.nts_model.specs.Canonical.Inputs.{Input, IsInput, position_kind, originals, canonical_of, OccursIn}
+use Rattle.nts_model.specs.Refutation.Containing.{Truth, IsFreeRegion, IsRootValue, IsInputValue, AreInputValues}
 use Rattle.nts_model.proofs.Canonical.CanonicalForms.{distinct-originals, originals_are_leaves}
 use Rattle.nts_model.proofs.Tables.Solving.{NamesAll-more}
 use Rattle.nts_model.proofs.Terms.Listed.{map-map}
 use Rattle.nts_theory.specs.Refutation.Refutation.{IsCarrying}
-use Rattle.nts_theory.proofs.Refutation.Carriers.{moved, moved_carrying, moved_low, moved_original, instance_by, leaf_named, placeholder_leaf}
+use Rattle.nts_theory.proofs.Refutation.Carriers.{moved, moved_carrying, moved_low, moved_original, instance_by, leaf_named}
 use Rattle.nts_theory.proofs.Refutation.Carrying.{names_replaced, value_instance}
 use Rattle.nts_theory.proofs.Refutation.Entering.{IsBegun, entered}
 use Rattle.nts_theory.proofs.Refutation.Freshening.{knows_leaf}

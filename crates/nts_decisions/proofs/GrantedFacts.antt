@@ -4,8 +4,6 @@ use Rattle.std.specs.Prelude.{slice_get, Contains, ◌-◌}
 use Rattle.std.specs.List.{position_or_len}
 use Rattle.nts_model.specs.declared.labels.Sort.{Sort}
 use Rattle.nts_model.specs.declared.labels.Sort.TheVariants as sort
-use Rattle.nts_model.specs.declared.labels.Relation.{Relation}
-use Rattle.nts_model.specs.declared.labels.Relation.TheVariants as relation
 use Rattle.nts_model.specs.declared.labels.VariableKind.{VariableKind}
 use Rattle.nts_model.specs.declared.labels.VariableKind.TheVariants as kind
 use Rattle.nts_model.specs.declared.labels.FreeRegion.TheVariants as region
@@ -16,44 +14,35 @@ use Rattle.nts_model.specs.Terms.Trees.{Tree, empty}
 use Rattle.nts_model.specs.Tables.Contents.{Content, Slot, Recorded, map_slot, universe_of, kind_at}
 use Rattle.nts_model.specs.Tables.Resolving.{Knows, deeply_resolved}
 use Rattle.nts_model.specs.Tables.Levels.{NamesAll}
-use Rattle.nts_model.specs.Tables.Worlds.{World, inst, IsTrueOf, IsMet, AreMet}
+use Rattle.nts_model.specs.Tables.Worlds.{World, inst}
 use Rattle.nts_model.specs.Terms.Substitutions.{leaf_tree, filled}
 use Rattle.nts_model.specs.Lists.{Among}
 use Rattle.nts_model.specs.Derivations.Handlers.{IsFixed}
 use Rattle.nts_model.specs.Canonical.Inputs.{PositionKind, placeholder, share}
-use Rattle.nts_model.specs.Answers.Responses.{Findings, recorded_by, AreFindings, own_leaves, positioned, is_fixed, answer_kind, universe_or, placeholder_tree, response_of, IsLeafIn, IsQueryTable}
+use Rattle.nts_model.specs.Answers.Responses.{Findings, AreFindings, own_leaves, positioned, is_fixed, answer_kind, universe_or, placeholder_tree, response_of, IsLeafIn, IsQueryTable}
 use Rattle.nts_model.specs.Terms.Placeholders.{leaf_level}
-use Rattle.nts_model.specs.Refutation.Containing.{Truth, IsTrueBy, IsSolution, IsOwnValue, IsAnswerValue, AreAnswerValues, AreMetBy, ContainsSolution}
+use Rattle.nts_model.specs.Refutation.Containing.{IsOwnValue}
 use Rattle.nts_model.proofs.Tables.Worlds.{inst-deeply_resolved}
-use Rattle.nts_model.proofs.Lists.{contains_none, first_or_later}
 use Rattle.nts_theory.proofs.Derivations.ProvedLater.{contains_first, contains_later}
-use Rattle.nts_model.proofs.Canonical.Positioned.{get_or-map, inst-filled, filled_under-fixed}
-use Rattle.nts_theory.proofs.Responses.Answering.{AllTrees, AllSides, AreSeen, IsPlainTerm, filled-positioned, all_found_seen, positioned_over, own_loose}
+use Rattle.nts_model.proofs.Canonical.Positioned.{get_or-map, inst-filled}
+use Rattle.nts_theory.proofs.Responses.Answering.{AllTrees, AreSeen, IsPlainTerm, filled-positioned, all_found_seen, positioned_over, own_loose}
 use Rattle.nts_theory.proofs.Responses.Querying.{all_plain, own_in}
 use Rattle.nts_theory.proofs.Refutation.AskingWorlds.{integer_leaf, float_leaf}
-use Rattle.std.specs.Prelude.{length, ◌≤◌, ◌+◌}
 use Rattle.nts_model.specs.Terms.Trees.{IsFormed}
-use Rattle.nts_model.specs.Tables.Levels.{term_level}
-use Rattle.nts_model.specs.Tables.Worlds.{Solves, IsValue}
-use Rattle.nts_model.specs.Terms.Substitutions.{filled_under, rename, Occurs}
-use Rattle.nts_model.specs.Canonical.Inputs.{Input, originals, canonical_of, type_variable, integer_variable, float_variable, const_variable, region_variable}
-use Rattle.nts_model.specs.Answers.Responses.{Response, IsOverPositions, IsResponseTo, placeholder_at, read_in, IsImageOf, AreImagesOf, IsNamedBy, AreNamedBy, AreEqualIn, row_of, value_row, constraint_row, RefusesResponse}
-use Rattle.nts_model.specs.Refutation.Containing.{IsInputValue, AreInputValues}
-use Rattle.nts_model.proofs.Terms.Substituting.{replace-replace, replace-equal, replace-leaf}
-use Rattle.nts_model.proofs.Terms.Listed.{map-map}
+use Rattle.nts_model.specs.Tables.Worlds.{Solves}
+use Rattle.nts_model.specs.Terms.Substitutions.{filled_under}
+use Rattle.nts_model.specs.Canonical.Inputs.{type_variable, integer_variable, float_variable, const_variable, region_variable}
+use Rattle.nts_model.specs.Answers.Responses.{Response, row_of, value_row, constraint_row}
 use Rattle.nts_model.proofs.Tables.Open.{Knows-deeply_resolved}
 use Rattle.nts_model.proofs.Canonical.Moving.{among-seen}
 use Rattle.nts_model.proofs.Canonical.Positioned.{replace-filled}
-use Rattle.nts_theory.specs.Telling.{IsResponseOf, IsIdentityAnswer}
+use Rattle.nts_theory.specs.Telling.{IsResponseOf}
 use Rattle.nts_theory.proofs.Refutation.Responding.{ArePlaced}
 use Rattle.nts_theory.proofs.Refutation.Freshening.{filled_agree, knows_leaf}
-use Rattle.nts_theory.proofs.Refutation.Carriers.{back_to, back_carrying, instance_by, leaf_named, placeholder_leaf, moved_new, moved_raises}
-use Rattle.nts_theory.proofs.Refutation.Carrying.{names_replaced, value_instance, names_terms}
 use Rattle.nts_decisions.specs.Deciding.{blurred_leaf, blurred}
-use Rattle.nts_decisions.specs.Facts.{IsAskedAs}
-use Rattle.nts_decisions.proofs.BlurredWorlds.{merged, merged_blurred, blurred_world, solves_blurred, inst_blurred}
-use Rattle.nts_decisions.proofs.OneRegion.{HasOneRegion, merged_one, merged_same, blurred_same, names_regions, replaced_under}
-use Rattle.nts_decisions.proofs.FactWorlds.{MergedWorld, leaf_one, low, proper, original_known, moving, moving_carries, image, image_one, asked_trees, asked_values}
+use Rattle.nts_decisions.proofs.BlurredWorlds.{merged, blurred_world, solves_blurred, inst_blurred}
+use Rattle.nts_decisions.proofs.OneRegion.{merged_one, blurred_same, names_regions}
+use Rattle.nts_decisions.proofs.FactWorlds.{MergedWorld, leaf_one}
 
 -- a value for a position of a response, but for regions
 abbrev pub IsMergedValue : List Tree → PositionKind → Tree → Type 0

@@ -2,7 +2,6 @@ pub mod AskedGoals
 pub mod BegunFacts
 pub mod BlurredMeeting
 pub mod BlurredWorlds
-pub mod CarriedFacts
 pub mod ConstantGoals
 pub mod DecidedGoals
 pub mod DecidedInfer

@@ -1,5 +1,5 @@
 -- Answers that change nothing, and answers that are granted to a caller, in a world with one region.
-use Rattle.std.proofs.Common.{◌≡◌, inl, inr, ℕ, zero, suc, ◌+◌, ◌≤◌, List, [], ◌∷◌, map, get_or, Some, refl, sym, ap, subst, ◌∙◌, arith}
+use Rattle.std.proofs.Common.{◌≡◌, inl, inr, ℕ, zero, suc, ◌+◌, List, [], ◌∷◌, map, get_or, refl, sym, ap, subst, ◌∙◌, arith}
 use Rattle.std.specs.Prelude.{length}
 use Rattle.nts_model.specs.declared.labels.Sort.{Sort}
 use Rattle.nts_model.specs.declared.labels.Sort.TheVariants as sort
@@ -9,20 +9,19 @@ use Rattle.nts_model.specs.declared.labels.FreeRegion.TheVariants as region
 use Rattle.nts_model.specs.declared.labels.Leaf.{Leaf}
 use Rattle.nts_model.specs.declared.labels.Leaf.TheVariants as leaf
 use Rattle.nts_model.specs.Terms.Trees.{Tree, empty, IsFormed}
-use Rattle.nts_model.specs.Tables.Contents.{Content, kind_at}
+use Rattle.nts_model.specs.Tables.Contents.{Content}
 use Rattle.nts_model.specs.Tables.Levels.{NamesAll, term_level}
 use Rattle.nts_model.specs.Tables.Resolving.{Knows}
 use Rattle.nts_model.specs.Tables.Worlds.{World, inst, Solves, IsValue}
 use Rattle.nts_model.specs.Terms.Placeholders.{leaf_level}
-use Rattle.nts_model.specs.Terms.Substitutions.{leaf_tree, filled, filled_under, Renaming, rename}
+use Rattle.nts_model.specs.Terms.Substitutions.{leaf_tree, filled, Renaming, rename}
 use Rattle.nts_model.specs.Lists.{Among}
 use Rattle.nts_model.specs.Derivations.Handlers.{IsFixed}
-use Rattle.nts_model.specs.Canonical.Inputs.{Input, PositionKind, type_variable, integer_variable, float_variable, const_variable, region_variable, placeholder, originals, canonical_of}
+use Rattle.nts_model.specs.Canonical.Inputs.{Input, PositionKind, type_variable, integer_variable, float_variable, const_variable, region_variable, placeholder, originals}
 use Rattle.nts_model.specs.Canonical.Numbered.{position}
-use Rattle.nts_model.specs.Answers.Responses.{Response, IsOverPositions, IsResponseTo, placeholder_tree, placeholder_at, read_in, IsImageOf, AreImagesOf, IsNamedBy, AreNamedBy, AreEqualIn, RefusesResponse}
+use Rattle.nts_model.specs.Answers.Responses.{Response, IsOverPositions, IsResponseTo, placeholder_tree, read_in, IsImageOf, AreImagesOf, IsNamedBy, AreNamedBy, AreEqualIn, RefusesResponse}
 use Rattle.nts_model.specs.Refutation.Containing.{IsRootValue, IsInputValue, AreInputValues, IsOwnValue}
 use Rattle.nts_model.proofs.Canonical.CanonicalForms.{distinct-originals}
-use Rattle.nts_model.proofs.Canonical.Positioned.{replace-filled}
 use Rattle.nts_model.proofs.Tables.Solving.{NamesAll-more}
 use Rattle.nts_model.proofs.Terms.Substituting.{replace-replace, replace-equal, replace-leaf}
 use Rattle.nts_model.proofs.Terms.Listed.{map-map}
@@ -30,7 +29,7 @@ use Rattle.nts_theory.specs.Telling.{IsIdentityAnswer}
 use Rattle.nts_theory.specs.Refutation.Refutation.{IsCarrying}
 use Rattle.nts_theory.proofs.Refutation.Agreeing.{IsNumberedKind, AreNumberedKinds, AgreesWith, AllAgree, filled_each, values_long}
 use Rattle.nts_theory.proofs.Refutation.Freshening.{filled_agree}
-use Rattle.nts_theory.proofs.Refutation.Carriers.{back_to, back_carrying, instance_by, leaf_named, placeholder_leaf, moved_new, moved_raises}
+use Rattle.nts_theory.proofs.Refutation.Carriers.{back_to, back_carrying, instance_by, leaf_named, moved_new, moved_raises}
 use Rattle.nts_theory.proofs.Refutation.Carrying.{names_replaced, value_instance, names_terms}
 use Rattle.nts_theory.proofs.Refutation.AskingWorlds.{integer_leaf, float_leaf}
 use Rattle.nts_decisions.specs.Deciding.{blurred_leaf, blurred}

@@ -1,23 +1,21 @@
 -- The fact that a caller's goal has is met in its query by the caller's world.
 use Rattle.std.proofs.Common.{◌≡◌, inl, inr, List, [], ◌∷◌, map, refl, sym, ap, subst, ◌∙◌, arith}
 use Rattle.nts_model.specs.Terms.Trees.{Tree, empty, more, IsFormed, any_label, is_canonical}
-use Rattle.nts_model.specs.Terms.Substitutions.{Renaming, rename, IsPlain, Occurs, leaf_tree, filled, replace}
+use Rattle.nts_model.specs.Terms.Substitutions.{Renaming, rename, Occurs, leaf_tree, filled, replace}
 use Rattle.nts_model.specs.Lists.{Among}
-use Rattle.nts_model.specs.Derivations.Sequents.{Premise}
 use Rattle.nts_model.specs.Derivations.Rules.{Mode, Equation}
-use Rattle.nts_model.specs.Derivations.Handlers.{Handler, Candidate, equation_by, premise_by, renamed_candidate, IsAsked, IsLawfulHandler, IsCandidateFor, AreValuesOf, IsOver, IsFixed, IsEquationOver, IsValueOfSort, kind_of_sort}
+use Rattle.nts_model.specs.Derivations.Handlers.{Handler, Candidate, equation_by, renamed_candidate, IsAsked, IsLawfulHandler, IsCandidateFor, AreValuesOf, IsOver, IsFixed, IsEquationOver, IsValueOfSort, kind_of_sort}
 use Rattle.nts_model.specs.Canonical.Inputs.{Input, canonical_of, IsInput, is_static, HaveKinds, static_as_label, made_of, Renames, after_predicate, originals, OccursIn, after_environment, label_or_leaf, AreAlikeInputs}
-use Rattle.nts_decisions.specs.Deciding.{blurred, blurred_environment, blurred_premise, blurred_candidate, IsUniform, blurred_but_static, blurred_leaf}
+use Rattle.nts_decisions.specs.Deciding.{blurred, blurred_candidate, blurred_leaf}
 use Rattle.nts_model.proofs.Canonical.Numbering.{first_none, AllLeaves, rest_none, numbered-replace, replace-tells, extends-trans, extends-seen, filled-replace}
 use Rattle.nts_model.proofs.Canonical.CanonicalForms.{forms_tell_inputs, making_gives_form, originals_are_leaves, distinct-originals}
-use Rattle.nts_decisions.proofs.DecidingRenamed.{among_back, uniform_renamed, left_by, right_by}
-use Rattle.nts_decisions.proofs.DecidedInputs.{off_regions, off_plain, environment_off, blurred_off, off_same}
+use Rattle.nts_decisions.proofs.DecidingRenamed.{among_back, left_by, right_by}
+use Rattle.nts_decisions.proofs.DecidedInputs.{off_regions, off_plain, off_same}
 use Rattle.std.proofs.Common.{zero, suc}
-use Rattle.std.specs.Prelude.{ℕ, ◌⊎◌, get_or, false, true}
+use Rattle.std.specs.Prelude.{ℕ, ◌⊎◌, get_or, false}
 use Rattle.nts_model.specs.Canonical.Numbered.{numbered, numbered_leaf, no_leaf, number}
 use Rattle.nts_model.specs.declared.labels.VariableKind.TheVariants as kind
 use Rattle.nts_model.specs.declared.labels.Sort.{Sort}
-use Rattle.nts_model.specs.declared.labels.Sort.TheVariants as sort
 use Rattle.nts_model.specs.declared.labels.FreeRegion.TheVariants as region
 use Rattle.nts_model.specs.declared.labels.Leaf.{Leaf}
 use Rattle.nts_model.specs.declared.labels.Leaf.TheVariants as leaf
@@ -26,21 +24,20 @@ use Rattle.nts_model.specs.declared.labels.Label.TheVariants as label
 use Rattle.nts_model.specs.Terms.Trees.{node}
 use Rattle.nts_model.specs.Tables.Contents.{Content}
 use Rattle.nts_model.specs.Tables.Worlds.{World, Solves, inst}
-use Rattle.nts_model.proofs.Terms.Substituting.{KeepsKinds}
 use Rattle.nts_model.specs.Terms.Regions.{of_variable}
 use Rattle.nts_model.specs.Derivations.Rules.{related, alike}
 use Rattle.nts_decisions.proofs.OfferedFacts.{no_goals_there}
 use Rattle.nts_decisions.proofs.FactsThere.{offers_there}
 use Rattle.nts_decisions.specs.Facts.{IsAskedAs, IsOpenGoal}
-use Rattle.nts_decisions.proofs.FactWorlds.{MergedWorld, low, proper, original_known, moving, moving_carries, image, image_one, asked_trees, entered_merged}
+use Rattle.nts_decisions.proofs.FactWorlds.{MergedWorld, low, proper, moving, moving_carries, image, asked_trees, entered_merged}
 use Rattle.nts_model.specs.Answers.Responses.{read_in}
-use Rattle.nts_model.proofs.Terms.Substituting.{leaf_alone, replace-replace, IsFormed-replace}
+use Rattle.nts_model.proofs.Terms.Substituting.{leaf_alone, replace-replace}
 use Rattle.nts_model.specs.Tables.Resolving.{Knows}
 use Rattle.nts_model.specs.Derivations.Related.{pair}
 use Rattle.nts_theory.proofs.Refutation.Entering.{IsBegun}
 use Rattle.nts_model.specs.Canonical.Numbered.{no_leaf}
 use Rattle.nts_model.proofs.Terms.Unpositioned.{or_false}
-use Rattle.nts_decisions.proofs.BlurredWorlds.{blurred_world, inst_blurred, merged, blurred_kinds, blurred_leaf_formed, region_in, merged_blurred, value_blurred, solves_blurred, names_merged}
+use Rattle.nts_decisions.proofs.BlurredWorlds.{blurred_world, inst_blurred, merged, region_in, merged_blurred, value_blurred, solves_blurred, names_merged}
 use Rattle.nts_model.proofs.Terms.Listed.{map-map, original}
 use Rattle.nts_model.proofs.Canonical.Positioned.{get_or-map}
 use Rattle.nts_model.specs.Refutation.Choosing.{AreNamedValues, left_of, right_of, IsCandidateMet}

@@ -1,14 +1,14 @@
 -- A goal with a fact is not refused: its query does not refute it, and each answer is granted to the caller.
-use Rattle.std.proofs.Common.{◌≡◌, inl, inr, ℕ, List, [], ◌∷◌, map, refl, sym, ap, subst, ◌∙◌, arith}
-use Rattle.std.specs.Prelude.{◌⊎◌, ◌++◌, length, false}
-use Rattle.nts_model.specs.Terms.Trees.{Tree, empty, more, IsFormed}
+use Rattle.std.proofs.Common.{◌≡◌, inl, inr, ℕ, List, [], ◌∷◌, map, refl, sym, ap, subst, ◌∙◌}
+use Rattle.std.specs.Prelude.{length, false}
+use Rattle.nts_model.specs.Terms.Trees.{Tree, IsFormed}
 use Rattle.nts_model.specs.declared.labels.Leaf.{Leaf}
 use Rattle.nts_model.specs.declared.labels.Sort.TheVariants as sort
 use Rattle.nts_model.specs.Lists.{Among}
 use Rattle.nts_model.specs.Tables.Contents.{Content}
 use Rattle.nts_model.specs.Tables.Levels.{AreCurrent, term_level}
 use Rattle.nts_model.specs.Tables.Resolving.{Knows, IsSound}
-use Rattle.nts_model.specs.Tables.Worlds.{World, inst, Solves}
+use Rattle.nts_model.specs.Tables.Worlds.{World, Solves}
 use Rattle.nts_model.specs.Terms.Substitutions.{leaf_tree, filled}
 use Rattle.nts_model.specs.Derivations.Related.{pair}
 use Rattle.nts_model.specs.Derivations.Sequents.{Premise}
@@ -18,21 +18,20 @@ use Rattle.nts_model.specs.Canonical.Inputs.{Input, PositionKind, type_variable,
 use Rattle.nts_model.specs.Canonical.Numbered.{numbered, no_leaf}
 use Rattle.nts_model.specs.Refutation.Opening.{binds, opened_in, entered_table}
 use Rattle.nts_model.specs.Answers.Responses.{Response, IsResponseTo, IsQueryTable, read_in, RefusesResponse}
-use Rattle.nts_theory.specs.Telling.{Verdict, Queries, IsInputFor, IsReady, StandsForAll, SaysOf, IsFound, without_constraints, IsPlainResponse, goals_with, Tells, tells_nothing, says_nothing, tells_one, Refutes, all_fail, Outcomes, no_outcome, then_fails, then_replies, Replies, replies, Fails, is_unmet, breaks_off, is_refused, is_leaky, Reaches, asks_nothing, then_asks, RefusesOne, refuses_one, cuts_one, Refused, by_query, by_response}
+use Rattle.nts_theory.specs.Telling.{Verdict, Queries, IsInputFor, IsReady, StandsForAll, SaysOf, without_constraints, IsPlainResponse, goals_with, Tells, tells_nothing, says_nothing, tells_one, Refutes, all_fail, Outcomes, no_outcome, then_fails, then_replies, Replies, replies, Fails, is_unmet, breaks_off, is_refused, is_leaky, Reaches, asks_nothing, then_asks, RefusesOne, refuses_one, cuts_one, Refused, by_query, by_response}
 use Rattle.nts_theory.proofs.Refutation.Queried.{IsFirst, BeginsEach, IsQuery, first_query, IsTried, tried, tried_knows, found_table, says_long}
 use Rattle.nts_theory.proofs.Refutation.QueryLabels.{query_without}
 use Rattle.nts_theory.proofs.Refutation.Answered.{among_split}
 use Rattle.nts_theory.proofs.Refutation.Agreeing.{kinds_agree, terms_long, agree_themselves, nothing_is_identity, positions_long, AllAgree}
-use Rattle.nts_decisions.specs.Facts.{IsAskedAs, IsOpenGoal, IsFactIn}
-use Rattle.nts_decisions.proofs.BlurredWorlds.{merged, blurred_world}
+use Rattle.nts_decisions.specs.Facts.{IsAskedAs, IsFactIn}
+use Rattle.nts_decisions.proofs.BlurredWorlds.{blurred_world}
 use Rattle.nts_decisions.proofs.OneRegion.{blurred_same, HasOneRegion}
 use Rattle.nts_decisions.proofs.FactWorlds.{MergedWorld, entered_merged, asked_trees, asked_values, images_one}
 use Rattle.nts_decisions.proofs.GrantedFacts.{ContainsMerged, says_merged}
 use Rattle.nts_decisions.proofs.MergedAnswers.{identity_merged, merged_granted}
-use Rattle.nts_decisions.proofs.MetFacts.{world_there, is_offered_there, IsOfferedThere, values_there, fit_there, one_there, named_there, equal_there, met_there, asks_nothing_there, made_alike}
+use Rattle.nts_decisions.proofs.MetFacts.{is_offered_there, IsOfferedThere, values_there, fit_there, one_there, named_there, equal_there, met_there, asks_nothing_there, made_alike}
 use Rattle.nts_decisions.proofs.BegunFacts.{begun_there, never_breaks}
 use Rattle.nts_model.specs.Answers.Applying.{IsProperContent}
-use Rattle.nts_decisions.proofs.OfferedFacts.{none_left, no_goals_there}
 use Rattle.nts_model.specs.Refutation.Choosing.{IsCandidateMet, AreNamedValues, left_of, right_of}
 use Rattle.nts_model.proofs.Tables.Slots.{KeepsKinds}
 use Rattle.nts_theory.proofs.Derivations.Flattening.{among_left, among_right}

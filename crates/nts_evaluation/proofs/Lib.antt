@@ -10,3 +10,4 @@ mod DecidedQueries
 mod DecidedGoals
 mod DecidedRounds
 mod DecidedExamples
+mod FactLeaves
