@@ -11,6 +11,7 @@ pub mod DecidedQueries
 pub mod Deciding
 pub mod DecidingExamples
 pub mod DecidingRenamed
+pub mod FactExamples
 pub mod FactWorlds
 pub mod FactsBack
 pub mod FactsKept
