@@ -112,3 +112,20 @@ fn regions_decide_nothing(rt: HostRuntime) {
     assert_eq!(rt; status, Status::Done);
     assert!(rt; output.as_slice() == b"yes\n  'b == 'static\n  'static == '_0\n".as_slice());
 }
+
+/// Facts decide goals with variables at the least depth, in each mode: one fact gives the variables their values, two leave the
+/// goal in doubt, and a candidate that can't be met takes nothing away. A fact beside a candidate whose condition goes round
+/// is not refused.
+#[test]
+fn facts_decide(rt: HostRuntime) {
+    let alloc = rt.alloc();
+    let text =
+        b"type Vec(type)\ntrait One(type)\nimpl One(Vec(?X))\ntrait Two(type)\nimpl Two(u8)\nimpl Two(Vec(?X))\ntrait Pair(type, type)\nimpl Pair(?X, ?X)\nimpl Pair(u8, Vec(?X)) <- Two(?X)\ntrait Round(type)\nimpl Round(Vec(?X)) <- Round(Vec(Vec(?X)))\nimpl Round(u8)\ndepth 0\ngoal One(?A)\ngoal Two(?A)\ngoal Two(Vec(?A))\ngoal Pair(?A, u16)\ngoal Pair(Vec(?A), ?B)\ndepth 8\ngoal Round(?A)\nmode coherence\ngoal One(?A)\ngoal Two(?A)\ngoal Round(?A)\nmode postanalysis\ngoal One(?A)\ngoal Two(?A)\ngoal Round(?A)\n";
+    let mut output = Vec::new(alloc);
+    let status = run(alloc, text.as_slice(), &mut output);
+    assert_eq!(rt; status, Status::Done);
+    assert!(rt;
+        output.as_slice()
+            == b"yes\n  ?A = Vec(?0)\nmaybe ambiguity\nyes\n  ?A = ?A\nyes\n  ?A = u16\nyes\n  ?A = ?A\n  ?B = Vec(?A)\nmaybe overflow\nyes\n  ?A = Vec(?0)\nmaybe ambiguity\nmaybe overflow\nyes\n  ?A = Vec(?0)\nmaybe ambiguity\nmaybe overflow\n".as_slice()
+    );
+}

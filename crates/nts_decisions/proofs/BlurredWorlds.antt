@@ -133,7 +133,7 @@ names_label u (label.Clause x) h = tt
 names_label u (label.Predicate x) h = tt
 names_label u (label.List x) h = tt
 
-names_merged : (u : ℕ) (t : Tree) → NamesAll term_level u t → NamesAll term_level u (merged t)
+pub names_merged : (u : ℕ) (t : Tree) → NamesAll term_level u t → NamesAll term_level u (merged t)
 names_merged u empty h = tt
 names_merged u (more a b) h = (names_merged u a h.0, names_merged u b h.1)
 names_merged u (node l c) h = (names_label u l h.0, names_merged u c h.1)

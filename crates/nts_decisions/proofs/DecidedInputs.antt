@@ -63,6 +63,11 @@ off_regions ρ =
       keeps_sorts = off_sorts ρ.to ρ.keeps_sorts;
     }
 
+-- leaves that are no regions are renamed as before
+pub off_same : (ρ : Renaming) (l : Leaf) → (leaf_sort l ≡ sort_of_variable kind.Region → ⊥) → (let k = off_regions ρ in k.to l) ≡ ρ.to l
+unfolding off_regions
+off_same ρ l e = off_other ρ.to l e
+
 pub off_plain : (ρ : Renaming) → IsPlain (off_regions ρ)
 unfolding off_regions
 off_plain ρ r h = refl

@@ -54,8 +54,12 @@ use Rattle.nts_theory.proofs.Refutation.Choosing.{AreOfTable, equations_known, f
 use Rattle.nts_decisions.specs.Deciding.{blurred_leaf, blurred}
 use Rattle.nts_decisions.proofs.BlurredWorlds.{merged_blurred, blurred_world, solves_blurred}
 use Rattle.nts_decisions.proofs.DecidedGoals.{reading_blurred}
-use Rattle.nts_decisions.proofs.CarriedFacts.{KnowsNothing}
 use Rattle.nts_decisions.proofs.Faring.{added_back}
+
+-- a table that knows nothing: no variable has a value or is one with another, and no constraint is recorded
+pub record KnowsNothing (q : Content) : Type 0 where
+  pub unset : (n : ℕ) → (state_of q n ≡ None) ⊎ (state_of q n ≡ Some unset)
+  pub none : q.constraints ≡ []
 
 -- a variable of types or consts
 abbrev pub IsOfTerms : VariableKind → Type 0

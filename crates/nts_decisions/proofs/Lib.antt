@@ -1,7 +1,7 @@
 pub mod AskedGoals
+pub mod BegunFacts
 pub mod BlurredMeeting
 pub mod BlurredWorlds
-pub mod CarriedFacts
 pub mod ConstantGoals
 pub mod DecidedGoals
 pub mod DecidedInfer
@@ -11,13 +11,19 @@ pub mod DecidedQueries
 pub mod Deciding
 pub mod DecidingExamples
 pub mod DecidingRenamed
+pub mod FactExamples
+pub mod FactWorlds
 pub mod FactsBack
 pub mod FactsKept
 pub mod FactsOver
 pub mod FactsSettled
 pub mod FactsThere
 pub mod Faring
+pub mod GrantedFacts
+pub mod MergedAnswers
+pub mod MetFacts
 pub mod OfferedFacts
+pub mod OneRegion
 pub mod OpenedStatements
 pub mod OwnAnswers
 pub mod OwnResponses
@@ -26,3 +32,4 @@ pub mod Reopening
 pub mod RootedInputs
 pub mod UnchangedAnswers
 pub mod UndecidedExamples
+pub mod UnrefusedFacts

@@ -12,3 +12,4 @@ mod DecidedQueries
 mod DecidedGoals
 mod DecidedRounds
 mod DecidedExamples
+mod FactLeaves

@@ -15,14 +15,14 @@ ghost use Rattle.nts_explaining.specs.declared.kinds.Reason.TheVariants.{Conditi
 use crate::conditions::{Outcome, ask_conditions};
 use crate::equations::unmet_equation;
 use crate::kinds::Reason;
-use crate::opening::open;
+
 use nts_asking::resolve_goal;
 use nts_certainty::{Certainty, GoalSource};
 use nts_delegate::{CandidateData, GoalHandler};
 use nts_store::EvalError;
 use nts_table::InferCtxt;
 use nts_terms::{Cx, Goal};
-use nts_trying::{GoalRow, Trial, equate, goal_kind, goal_row, record_constraints};
+use nts_trying::{GoalRow, Trial, enter_forall, equate, goal_kind, goal_row, record_constraints};
 
 /// What each candidate that the handler offers for a goal comes to, in their order: why the goal is not answered yes, one level
 /// deep. A goal that binds variables is opened first. There is no reason where no candidate answers such a goal. The table is as
@@ -64,7 +64,7 @@ fn explain_here<H: GoalHandler>(
         table.old.mode cx.old.nodes table.old goal rs.items) }
     ensures holds { IfOk result (λ rs. All (HoldsReason cx.new.nodes) rs.items) }
 {
-    let opened = open(table, cx, goal)?;
+    let opened = enter_forall(table, cx, goal)?;
     cx.terms_are_formed();
     let opened = match goal_row(cx, opened) {
         GoalRow::Unopened => return Ok(Vec::new(cx.alloc)),

@@ -6,7 +6,6 @@ mod candidates;
 mod conditions;
 mod equations;
 mod kinds;
-mod opening;
 
 pub use candidates::explain;
 pub use kinds::Reason;

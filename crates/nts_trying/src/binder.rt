@@ -23,12 +23,13 @@ use nts_table::InferCtxt;
 use nts_terms::{ClauseKind, Cx, GenericArgs, Goal, Predicate, PredicateKind, TraitRef};
 
 /// A trait goal with placeholders of a new universe in place of the variables that it binds; a goal that
-/// binds nothing as it is. `None` for other goals: the table is as before.
+/// binds nothing as it is. `None` for other goals: the table is as before. After an error the table may be of a
+/// new universe, and is else as before.
 #[inline(never)]
 pub fn enter_forall(table: &mut InferCtxt, cx: &mut Cx, goal: Goal) -> Result<Option<Goal>, Fault>
     requires posed { IsPosed cx.old.nodes table.old goal }
     ensures grows { Grows cx.old cx.new }
-    ensures goes { OnOk result (Goes cx.old.nodes cx.new.nodes table.old table.new) }
+    ensures goes { Goes cx.old.nodes cx.new.nodes table.old table.new }
     ensures posed { IfOk result (λ o. IfSome o (IsPosed cx.new.nodes table.new)) }
     ensures opened { IfOk result (λ o. IfSome o (IsOpenedTo cx.old.nodes cx.new.nodes table.old
         table.new goal)) }
@@ -69,7 +70,7 @@ fn open_trait(table: &mut InferCtxt, cx: &mut Cx, trait_ref: TraitRef) -> Result
     requires knows { Knows (content_of cx.old.nodes table.old.entries) (tree_at cx.old.nodes
         trait_ref.args.node) }
     ensures grows { Grows cx.old cx.new }
-    ensures goes { OnOk result (Goes cx.old.nodes cx.new.nodes table.old table.new) }
+    ensures goes { Goes cx.old.nodes cx.new.nodes table.old table.new }
     ensures entries { OnOk result (table.new.entries ≡ moved table.old.entries
         (table.old.entries.universe + 1)) }
     ensures tree { IfOk result (λ p. tree_at cx.new.nodes p.node ≡ unbound (node (label.Clause
@@ -97,7 +98,7 @@ fn open_args(table: &mut InferCtxt, cx: &mut Cx, args: GenericArgs) -> Result<Ge
     requires knows { Knows (content_of cx.old.nodes table.old.entries) (tree_at cx.old.nodes
         args.node) }
     ensures grows { Grows cx.old cx.new }
-    ensures goes { OnOk result (Goes cx.old.nodes cx.new.nodes table.old table.new) }
+    ensures goes { Goes cx.old.nodes cx.new.nodes table.old table.new }
     ensures entries { OnOk result (table.new.entries ≡ moved table.old.entries
         (table.old.entries.universe + 1)) }
     ensures tree { IfOk result (λ r. tree_at cx.new.nodes r.node ≡ opened (placeholder_in

@@ -17,7 +17,7 @@ returns-in-Unopened-clause-reasons g c = (let o = c.in_ok-opened.ensures in unop
 pub returns-in-Unanswered-clause-reasons : goal.returns-in-Unanswered-clause-reasons
 returns-in-Unanswered-clause-reasons g c =
     let o = c.in_ok-opened.ensures in
-    unasked_reasons _ (search rules) c.open.new.cx.nodes c.open.new.table _ (rw c.in-Unanswered.ensures.0 at o.opened) c.in-Unanswered.ensures.1
+    unasked_reasons _ (search rules) c.enter_forall.new.cx.nodes c.enter_forall.new.table _ (rw c.in-Unanswered.ensures.0 at o.opened) c.in-Unanswered.ensures.1
 
 pub returns-in_err-candidates-clause-goes : goal.returns-in_err-candidates-clause-goes
 returns-in_err-candidates-clause-goes g c = (let o = c.in_ok-opened.ensures in Goes-trans o.goes (Goes-extends o.goes.table c.candidates.ensures.grows.extends))
@@ -45,11 +45,11 @@ returns-clause-reasons g c =
     let opened = rw c.in-Candidates.ensures.0 at o.opened in
     let posed = rw c.in-Candidates.ensures.0 at o.posed in
     let asked = c.in-Candidates.opened in
-    let b = c.open.new.cx.nodes in
+    let b = c.enter_forall.new.cx.nodes in
     let d = c.candidates.new.cx.nodes in
     let h = g.H.GoalHandler.handler c.args.cx.now.nodes c.args.handler.now in
     let same = g.met.H.GoalHandler.handler_kept c.args.cx.now.nodes d c.args.handler.now c.requires.ready (Extends-trans o.grows.extends e.grows.extends) in
     let here = content_of-extended e.grows.extends o.goes.table.now in
     let offered : candidates_of d c.in_ok-candidates.candidates.items ≡ offers_of h (mode_of c.args.table.now.mode) b asked =
     e.offered ∙ ap (λ m. (g.H.GoalHandler.handler d c.args.handler.now).offers (mode_of m) (tree_at d asked.param_env.node) (tree_at d asked.predicate.node)) (c.typing_mode.ensures ∙ o.goes.mode) ∙ same.offers _ _ _ ∙ offers-kept h (mode_of c.args.table.now.mode) e.grows.extends posed.holds in
-    IfOk-map c.reasons_of.result (λ rs each. of_candidates b c.open.new.table asked opened c.in-Candidates.ensures.1 (rw (here, offered) at (rw c.deref.ensures.value at each))) c.reasons_of.ensures.each
+    IfOk-map c.reasons_of.result (λ rs each. of_candidates b c.enter_forall.new.table asked opened c.in-Candidates.ensures.1 (rw (here, offered) at (rw c.deref.ensures.value at each))) c.reasons_of.ensures.each

@@ -1,7 +1,9 @@
 use Rattle.std.proofs.Common.{rules, ◌≡◌, ◌+◌, [], ◌∷◌, Some}
 use Rattle.nts_store.specs.Growth.{tree_at}
+use Rattle.nts_store.proofs.Growing.{Extends-refl}
 use Rattle.nts_table.specs.TableLaws.{IsTable-extended}
-use Rattle.nts_trying.proofs.Entering.{HaveEntered, have_entered}
+use Rattle.nts_asking.proofs.Evaluating.{Goes-extends}
+use Rattle.nts_trying.proofs.Entering.{HaveEntered, have_entered, goes_entered}
 use Rattle.nts_trying.proofs.binder.open_args.Goals as goal
 
 entered : (c : goal.After-drop-universes-2) → HaveEntered c.args.cx.now.nodes c.replace_bound_vars.new.cx.nodes c.args.table.now c.replace_bound_vars.new.table (tree_at c.args.cx.now.nodes c.args.args.node) (tree_at c.replace_bound_vars.new.cx.nodes c.in_ok-opened.opened.node)
@@ -22,3 +24,19 @@ returns-clause-tree c = (entered c).tree
 
 pub returns-clause-knows : goal.returns-clause-knows
 returns-clause-knows c = (entered c).knows
+
+-- no universe was entered
+pub returns-in_err-universe-clause-goes : goal.returns-in_err-universe-clause-goes
+returns-in_err-universe-clause-goes c = rw c.in_err-universe.ensures.err (Goes-extends c.requires.table (Extends-refl _))
+
+-- a universe was entered, and no more
+pub returns-in_err-push-clause-goes : goal.returns-in_err-push-clause-goes
+returns-in_err-push-clause-goes c =
+    let k = c.in_ok-universe.ensures in
+    goes_entered c.requires.table (Extends-refl _) (k.table _ c.requires.table) k.changes k.entries
+
+pub returns-in_err-opened-clause-goes : goal.returns-in_err-opened-clause-goes
+returns-in_err-opened-clause-goes c =
+    let k = c.in_ok-universe.ensures in
+    let r = c.in_err-opened.ensures in
+    rw r.table_err (goes_entered c.requires.table r.grows.extends (IsTable-extended r.grows.extends (k.table _ c.requires.table)) k.changes k.entries)

@@ -27,3 +27,17 @@ returns-clause-knows c =
     let says : tree_at c.make-2.new.self c.in_ok-node.node ≡ unbound (node (label.Clause (clause.Trait c.args.trait_ref.def_id.number)) (more (tree_at c.open_args.new.cx.nodes c.in_ok-args.args.node) empty)) = first_of (search rules, grind (arith, common_steps)) in
     let closed : IsClosed (tree_at c.open_args.new.cx.nodes c.in_ok-args.args.node) = subst IsClosed (sym k.tree) (opened_is_closed (placeholder_in _) 0 1 _ refl c.requires.levels) in
     rw (same, says) (knows_trait (content_of c.open_args.new.cx.nodes c.open_args.new.table.entries) c.args.trait_ref.def_id.number args closed k.knows)
+
+-- the table has gone on where no term was made
+pub returns-in_err-vars-clause-goes : goal.returns-in_err-vars-clause-goes
+returns-in_err-vars-clause-goes c = (let k = c.in_ok-args.ensures in Goes-trans k.goes (Goes-extends k.goes.table c.mk_bound_vars.ensures.grows.extends))
+
+pub returns-in_err-statement-clause-goes : goal.returns-in_err-statement-clause-goes
+returns-in_err-statement-clause-goes c =
+    let k = c.in_ok-args.ensures in
+    Goes-trans k.goes (Goes-extends k.goes.table (Extends-trans c.in_ok-vars.ensures.grows.extends c.make.ensures.extends))
+
+pub returns-in_err-node-clause-goes : goal.returns-in_err-node-clause-goes
+returns-in_err-node-clause-goes c =
+    let k = c.in_ok-args.ensures in
+    Goes-trans k.goes (Goes-extends k.goes.table (Extends-trans c.in_ok-vars.ensures.grows.extends (Extends-trans c.in_ok-statement.ensures.extends c.make-2.ensures.extends)))
