@@ -24,6 +24,7 @@ pub mod MergedAnswers
 pub mod MetFacts
 pub mod OfferedFacts
 pub mod OneRegion
+pub mod OnlyFacts
 pub mod OpenedStatements
 pub mod OwnAnswers
 pub mod OwnResponses
