@@ -13,7 +13,7 @@ use Rattle.nts_model.specs.declared.labels.Leaf.TheVariants as leaf
 use Rattle.nts_model.specs.declared.labels.BoundVarIndexKind.TheVariants as index
 use Rattle.nts_model.specs.declared.labels.Label.{Label}
 use Rattle.nts_model.specs.declared.labels.Label.TheVariants as label
-use Rattle.nts_model.specs.Terms.Trees.{Tree, empty, more, node}
+use Rattle.nts_model.specs.Terms.Trees.{Tree, empty, more, node, IsFormed}
 use Rattle.nts_model.specs.Terms.Substitutions.{leaf_tree, Occurs, IsConstant, filled, position_of, value_or}
 use Rattle.nts_model.specs.Tables.Contents.{Content, Slot, map_slot, unset, state_of, kind_at}
 use Rattle.nts_model.specs.Tables.Resolving.{Knows, IsSound}
@@ -23,7 +23,7 @@ use Rattle.nts_model.specs.Derivations.Handlers.{IsFixed}
 use Rattle.nts_model.specs.Canonical.Inputs.{PositionKind, type_variable, integer_variable, float_variable, const_variable, region_variable, placeholder}
 use Rattle.nts_model.specs.Answers.Responses.{IsOverPositions, universe_of_kind}
 use Rattle.nts_model.specs.Answers.Applying.{IsProperContent}
-use Rattle.nts_decisions.specs.FirstTables.{IsFirstLeaf, a_variable, a_type, a_const, a_region, IsFirstQuery}
+use Rattle.nts_decisions.specs.FirstTables.{IsFirstLeaf, a_variable, a_type, a_const, a_region, IsFirstQuery, IsSettledFact}
 use Rattle.nts_decisions.proofs.DecidingRenamed.{among_back}
 use Rattle.nts_decisions.proofs.Faring.{among_by}
 use Rattle.nts_store.specs.Growth.{tree_at}
@@ -35,12 +35,13 @@ use Rattle.nts_canonical.specs.declared.types.CanonicalInput.{CanonicalInput}
 use Rattle.nts_canonical.specs.Forms.{form_of}
 use Rattle.nts_canonical.specs.Building.{kinds_of}
 use Rattle.nts_canonical.specs.Kinds.{value_leaf, value_leaves, made_variables}
-use Rattle.nts_asking.specs.Asking.{first_table, first_values}
+use Rattle.nts_asking.specs.Asking.{first_table, first_values, asked_environment, asked_predicate}
+use Rattle.nts_store.specs.Formed.{AreFormed}
 use Rattle.nts_asking.specs.Answering.{IsQueryInput}
 use Rattle.nts_asking.specs.Rounds.{BeginsQuery}
 use Rattle.nts_asking.proofs.FirstTables.{first_of_query}
 use Rattle.nts_model.specs.Derivations.Handlers.{Handler}
-use Rattle.nts_model.specs.Canonical.Inputs.{canonical_of}
+use Rattle.nts_model.specs.Canonical.Inputs.{canonical_of, IsInput}
 use Rattle.nts_certainty.specs.declared.certainty.Certainty.TheVariants as certainty
 use Rattle.nts_store.specs.declared.fault.EvalError.{EvalError}
 use Rattle.nts_store.specs.declared.fault.EvalError.TheVariants as error
@@ -201,8 +202,14 @@ query_begun a b input t g qs over begins =
     }
 
 -- .. in which one candidate without goals decides its goal
-pub fact_begun : (h : Handler) (a b : List Tree) (input : CanonicalInput) (t : Table) (g : Goal) (qs : List GenericArg) → IsQueryInput a input → BeginsQuery a b input t g qs → IsFactForm h (mode_of input.typing_mode) (form_of a input) → IsFactHere h t.mode b t g qs
-fact_begun h a b input t g qs over begins f = record { query = query_begun a b input t g qs over begins; settled = rw (begins.first, begins.environment, begins.predicate, begins.mode) f }
+pub fact_begun : (h : Handler) (a b : List Tree) (input : CanonicalInput) (t : Table) (g : Goal) (qs : List GenericArg) → IsQueryInput a input → BeginsQuery a b input t g qs → AreFormed b → IsFactForm h (mode_of input.typing_mode) (form_of a input) → IsFactHere h t.mode b t g qs
+fact_begun h a b input t g qs over begins formed f =
+    let posed = begins.posed in
+    let holds = posed.holds in
+    let env = subst IsFormed begins.environment (formed g.param_env.node holds.env.within) in
+    let predicate = subst IsFormed begins.predicate (formed g.predicate.node holds.predicate.within) in
+    let settled : IsSettledFact h (mode_of input.typing_mode) (first_table (kinds_of input)) (asked_environment (form_of a input)) (asked_predicate (form_of a input)) = f env predicate in
+    record { query = query_begun a b input t g qs over begins; settled = rw (begins.first, begins.environment, begins.predicate, begins.mode) settled }
 
 -- nothing is decided lower than 0
 pub nothing_above : (h : Handler) (ts : List Tree) (g : SearchGraph) → IsAbove h ts 0 g
@@ -213,8 +220,8 @@ pub round_fact : (h : Handler) (a b : List Tree) (i j : CanonicalInput) → j �
 round_fact h a b i j e f d = subst (IsFactForm h (mode_of j.typing_mode)) (sym f) (subst (λ z. IsFactForm h z (form_of a i)) (ap (λ (x : CanonicalInput). mode_of x.typing_mode) (sym e)) d)
 
 -- a goal of a table, as a query
-pub fact_query : {h : Handler} {a b : List Tree} {t : Table} {os : Vec GenericArg} (g : Goal) (i : CanonicalInput) → IsQueryOf a b t g (os, i) → IsFactForm h (mode_of t.mode) (canonical_of (input_of a t.entries g [])) → IsFactForm h (mode_of i.typing_mode) (form_of b i)
-fact_query {h} {a} {b} {t} g i q f = subst (IsFactForm h (mode_of i.typing_mode)) (sym q.form) (subst (λ z. IsFactForm h z (canonical_of (input_of a t.entries g []))) (sym q.mode) f)
+pub fact_query : {h : Handler} {a b : List Tree} {t : Table} {os : Vec GenericArg} (g : Goal) (i : CanonicalInput) → IsQueryOf a b t g (os, i) → (IsInput (input_of a t.entries g []) → IsFactForm h (mode_of t.mode) (canonical_of (input_of a t.entries g []))) → IsFactForm h (mode_of i.typing_mode) (form_of b i)
+fact_query {h} {a} {b} {t} g i q f = subst (IsFactForm h (mode_of i.typing_mode)) (sym q.form) (subst (λ z. IsFactForm h z (canonical_of (input_of a t.entries g []))) (sym q.mode) (f q.proper))
 
 -- the last round's answer is the query's
 pub last_fact : {g h : SearchGraph} (o : Option (Canonical Response)) (r : Result (Box (Canonical Response)) EvalError) → ((x : Canonical Response) → o ≡ Some x → IsBoxed x r) → IsRoundYes o → IsAsBefore g h → Decides true r (λ z. IsYes z.value.value.certainty) g h

@@ -1,5 +1,6 @@
 mod Failing
 mod FactQueries
+mod FactRoots
 mod FactTrials
 mod Coherence
 mod Leaking

@@ -1,6 +1,6 @@
 -- What the calls of an evaluation promise of goals that are decided: each is answered as it is decided.
 use Rattle.std.specs.Prelude.{◌≡◌, ℕ, ◌<◌, ◌≤◌, Bool, true, false, List, [], map, length, All, Option, Some, None, Result, Ok, Err}
-use Rattle.nts_model.specs.Terms.Trees.{Tree, empty}
+use Rattle.nts_model.specs.Terms.Trees.{Tree, empty, IsFormed}
 use Rattle.nts_model.specs.Lists.{Among}
 use Rattle.nts_model.specs.Derivations.Related.{pair}
 use Rattle.nts_model.specs.Derivations.Rules.{Mode}
@@ -11,6 +11,7 @@ use Rattle.nts_model.specs.Tables.Resolving.{deeply_resolved}
 use Rattle.nts_model.specs.Canonical.Inputs.{Input, IsInput, canonical_of, CanonicalInput as Form, PositionKind}
 use Rattle.nts_model.specs.Answers.Responses.{Response as Answer, IsIdentity}
 use Rattle.nts_decisions.specs.Deciding.{IsGoalDecided}
+use Rattle.nts_decisions.specs.Facts.{IsOnlyFactIn}
 use Rattle.nts_decisions.specs.Faring.{AreDecidedHere, Fares, OneFares}
 use Rattle.nts_decisions.specs.FirstTables.{IsFirstQuery, IsSettledFact}
 use Rattle.nts_decisions.specs.Queries.{AreRootKinds, AreConstants, AreOwn}
@@ -172,11 +173,15 @@ ArePlainCandidates ts t g xs = (x : Candidate) → Among (candidates_of ts xs) x
 abbrev pub IsOverIfSilent : List Tree → List Tree → Canonical Response → Type 0
 IsOverIfSilent b qs r = (ts : List Tree) → Extends b ts → AppliesAlways ts r → AreTermsOfKinds (map kind_of_var r.var_kinds.items) qs
 
--- .. of the goal of a canonical input, in the first table of its query
+-- .. of the goal of a canonical input, in the first table of its query, where it is formed
 abbrev pub IsFactForm : Handler → Mode → Form → Type 0
-IsFactForm h mode f = IsSettledFact h mode (first_table f.kinds) (asked_environment f) (asked_predicate f)
+IsFactForm h mode f = IsFormed (asked_environment f) → IsFormed (asked_predicate f) → IsSettledFact h mode (first_table f.kinds) (asked_environment f) (asked_predicate f)
 
 -- a round ends with a certain answer
 abbrev pub IsRoundYes : Option (Canonical Response) → Type 0
 IsRoundYes None = ⊥
 IsRoundYes (Some r) = IsYes r.value.certainty
+
+-- one candidate without goals decides the goal as the table knows it
+abbrev pub IsOnlyFact : Handler → TypingMode → List Tree → Table → Goal → Type 0
+IsOnlyFact h mode ts t g = (let c = content_of ts t.entries in IsOnlyFactIn h (mode_of mode) c (deeply_resolved c (tree_at ts g.param_env.node)) (deeply_resolved c (tree_at ts g.predicate.node)))

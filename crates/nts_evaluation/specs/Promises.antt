@@ -14,7 +14,7 @@ use Rattle.nts_terms.specs.Rest.{Grows}
 use Rattle.nts_canonical.specs.declared.types.Canonical.{Canonical}
 use Rattle.nts_canonical.specs.declared.types.CanonicalInput.{CanonicalInput}
 use Rattle.nts_canonical.specs.Forms.{form_of, input_of, trees_of}
-use Rattle.nts_model.specs.Canonical.Inputs.{canonical_of}
+use Rattle.nts_model.specs.Canonical.Inputs.{canonical_of, IsInput}
 use Rattle.nts_canonical.specs.Building.{kinds_of}
 use Rattle.nts_response.specs.declared.types.Response.{Response}
 use Rattle.nts_response.specs.Forms.{response_at}
@@ -103,7 +103,7 @@ pub record AsksGoal (R : Rules) (a b : Cx) (g h : SearchGraph) (t u : Table) (go
   pub refuted : WhereTold R a g (λ m. r ≡ Err error.NoSolution → IsRefusedIn m t.mode a.nodes t goal ⊎ IsGoalCut a.nodes g (content_of a.nodes t.entries) t.mode (tree_at a.nodes goal.param_env.node) (tree_at a.nodes goal.predicate.node) step)
   pub decided : AnswersDecided R a g h (depth + 1) (λ m n b. IsBelow n (λ k. IsGoalDecided m (mode_of t.mode) k (tree_at a.nodes goal.param_env.node) (tree_at a.nodes goal.predicate.node) b)) r IsYesUnchanged
   -- at the root: where one candidate without goals decides the goal of its query, and it is not refused, it is answered yes
-  pub facts : WhereTold R a g (λ m. IsFactForm m (mode_of t.mode) (canonical_of (input_of a.nodes t.entries goal [])) → (IsRefusedIn m t.mode a.nodes t goal → ⊥) → g.stack.items ≡ [] → CanDecide m a g 0 (depth + 1) → Decides true r (λ e. IsYes e.certainty) g h)
+  pub facts : WhereTold R a g (λ m. (IsInput (input_of a.nodes t.entries goal []) → IsFactForm m (mode_of t.mode) (canonical_of (input_of a.nodes t.entries goal []))) → (IsRefusedIn m t.mode a.nodes t goal → ⊥) → g.stack.items ≡ [] → CanDecide m a g 0 (depth + 1) → Decides true r (λ e. IsYes e.certainty) g h)
 
 -- .. as the table knows it; or not at all, where no depth is left for it: then the overflow is marked
 pub record AsksAdded (R : Rules) (a b : Cx) (g h : SearchGraph) (t u : Table) (goal : Goal) (step : PathKind) (depth : AvailableDepth) (r : Result Evaluated EvalError) : Type 0 where

@@ -6,7 +6,7 @@ ghost use Rattle.nts_terms.specs.Rest.{Grows};
 ghost use Rattle.nts_asking.specs.Evaluation.{IsAdmitted, IsPosed};
 ghost use Rattle.nts_asking.specs.Meant.{rules_of, Always, IsRefusedUnder};
 ghost use Rattle.nts_certainty.specs.declared.certainty.Certainty.TheVariants as certainty;
-ghost use Rattle.nts_evaluation.specs.Deciding.{IsDeterminate, MayAnswer, IsAsDecided};
+ghost use Rattle.nts_evaluation.specs.Deciding.{IsDeterminate, IsOnlyFact, MayAnswer, IsAsDecided};
 ghost use Rattle.nts_evaluation.specs.Solutions.{IsCoherenceOf, HasNoSolutionUnder, WasEvaluated, IsAllGood};
 
 use crate::solve::evaluate_root;
@@ -19,7 +19,7 @@ use nts_terms::{Cx, Goal};
 /// Whether a goal may hold, where goals may be nested so deep. It is false exactly where the goal has no solution: then each
 /// candidate failed, or no solution of the table grants what the others say. In coherence, where no alias is declared, no
 /// solution of the table has a settled proof of the goal then. A goal that a finite tree of goals decides, no higher than that
-/// depth, gets true for a yes and false for a no. The table is as before. A fault is want of memory, or `Full` where a universe
+/// depth, gets true for a yes and false for a no; one that one candidate without goals decides gets true. The table is as before. A fault is want of memory, or `Full` where a universe
 /// above the greatest is asked for.
 pub fn root_goal_may_hold_with_depth<H: GoalHandler>(
     table: &mut InferCtxt,
@@ -43,6 +43,9 @@ pub fn root_goal_may_hold_with_depth<H: GoalHandler>(
     ensures decided { (b : Bool) → IsDeterminate (H.handler cx.old.nodes handler.now) table.old.mode
         cx.old.nodes table.old goal root_depth b → MayAnswer
         (H.handler cx.old.nodes handler.now) cx.old → IfOk result (λ r. r ≡ b) }
+    ensures facts { IsOnlyFact (H.handler cx.old.nodes handler.now) table.old.mode cx.old.nodes
+        table.old goal → MayAnswer (H.handler cx.old.nodes handler.now) cx.old →
+        IfOk result (λ r. r ≡ true) }
 {
     cx.terms_are_formed();
     match evaluate_and_roll_back(table, cx, handler, goal, root_depth) {
@@ -55,7 +58,8 @@ pub fn root_goal_may_hold_with_depth<H: GoalHandler>(
 
 /// Whether a goal may hold, and is not in doubt for an opaque type that may stand for itself. It is true for a yes, and for a
 /// doubt with `OpaqueTypesJank::AllGood`. The goal is evaluated at the store's recursion limit; a goal that a finite tree of goals
-/// decides, no higher than that, gets true for a yes and false for a no. The table is as before.
+/// decides, no higher than that, gets true for a yes and false for a no; one that one candidate without goals decides gets true. The
+/// table is as before.
 pub fn root_goal_may_hold_opaque_types_jank<H: GoalHandler>(
     table: &mut InferCtxt,
     cx: &mut Cx,
@@ -75,6 +79,9 @@ pub fn root_goal_may_hold_opaque_types_jank<H: GoalHandler>(
     ensures decided { (b : Bool) → IsDeterminate (H.handler cx.old.nodes handler.now) table.old.mode
         cx.old.nodes table.old goal cx.old.recursion_limit b → MayAnswer
         (H.handler cx.old.nodes handler.now) cx.old → IfOk result (λ r. r ≡ b) }
+    ensures facts { IsOnlyFact (H.handler cx.old.nodes handler.now) table.old.mode cx.old.nodes
+        table.old goal → MayAnswer (H.handler cx.old.nodes handler.now) cx.old →
+        IfOk result (λ r. r ≡ true) }
 {
     cx.terms_are_formed();
     let depth = cx.recursion_limit();
@@ -117,6 +124,10 @@ fn evaluate_and_roll_back<H: GoalHandler>(
     ensures decided { Always (rules_of H.ready H.handler handler.now) cx.old (λ s. (b : Bool) →
         IsDeterminate (H.handler s.base handler.now) table.old.mode cx.old.nodes table.old goal
         depth b → MayAnswer (H.handler s.base handler.now) cx.old → IsAsDecided b result (λ c.
+        c ≡ certainty.Yes)) }
+    ensures facts { Always (rules_of H.ready H.handler handler.now) cx.old (λ s.
+        IsOnlyFact (H.handler s.base handler.now) table.old.mode cx.old.nodes table.old goal →
+        MayAnswer (H.handler s.base handler.now) cx.old → IsAsDecided true result (λ c.
         c ≡ certainty.Yes)) }
 {
     let snapshot = table.start_snapshot()?;

@@ -31,3 +31,14 @@ returns-in-Err-NoSolution-clause-decided g c = λ b d may.
     let refused : c.evaluate_and_roll_back.result ≡ Err EvalError.NoSolution = search rules in
     let x = c.evaluate_and_roll_back.ensures.decided (Since-now c.terms_are_formed.ensures c.requires.ready) b (rw c.recursion_limit-depth.ensures d) may in
     sym (rw refused at x)
+
+pub returns-in-Ok-clause-facts : goal.returns-in-Ok-clause-facts
+returns-in-Ok-clause-facts g c = λ f may.
+    let x = c.in-Ok.ensures.facts (Since-now c.terms_are_formed.ensures c.requires.ready) f may in
+    c.is_all_good.ensures.1 (rw x.1 tt)
+
+pub returns-in-Err-NoSolution-clause-facts : goal.returns-in-Err-NoSolution-clause-facts
+returns-in-Err-NoSolution-clause-facts g c = λ f may.
+    let refused : c.evaluate_and_roll_back.result ≡ Err EvalError.NoSolution = search rules in
+    let x = c.evaluate_and_roll_back.ensures.facts (Since-now c.terms_are_formed.ensures c.requires.ready) f may in
+    sym (rw refused at x)

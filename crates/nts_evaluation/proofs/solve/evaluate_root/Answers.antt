@@ -1,4 +1,4 @@
-use Rattle.std.proofs.Common.{◌≡◌, ◌∙◌, suc, arith, Err, rules}
+use Rattle.std.proofs.Common.{◌≡◌, ◌∙◌, suc, arith, Err, rules, refl, true}
 use Rattle.nts_store.specs.declared.fault.EvalError.TheVariants as EvalError
 use Rattle.nts_unify.specs.Lawful.{content_of-extended}
 use Rattle.nts_asking.proofs.Running.{unread}
@@ -10,6 +10,8 @@ use Rattle.nts_delegate.specs.Offered.{path_kind_of}
 use Rattle.nts_asking.specs.Meant.{IsProvedFromSince}
 use Rattle.nts_asking.proofs.Rounds.{search_begun, tell_begun, nothing_left, not_cut}
 use Rattle.nts_evaluation.proofs.Deciding.{fault_is_decided, decides_error, begun_decides}
+use Rattle.nts_evaluation.proofs.FactRoots.{fact_form, never_refused, resolved_fact, begun_facts}
+use Rattle.nts_terms.specs.Modes.{mode_of}
 use Rattle.nts_evaluation.proofs.solve.evaluate_root.Goals as goal
 
 pub evaluate_goal-requires-clause-search : goal.evaluate_goal-requires-clause-search
@@ -66,3 +68,31 @@ returns-clause-decided g c = λ s b d may.
     let k = c.in_ok-asked.ensures in
     let x = c.in_ok-evaluated.ensures.decided (Since-later k.grows s) (suc d.height) b (d.height, (omega arith), rw (k.env, k.predicate) d.decided) (begun_decides d k.grows may c.new-graph.ensures.empty c.new-graph.ensures.overflowed) in
     (x.answer.0, x.answer.1.0)
+
+pub returns-in_err-asked-clause-facts : goal.returns-in_err-asked-clause-facts
+returns-in_err-asked-clause-facts g c = λ s f may. fault_is_decided true c.from_residual.result _ (search rules) (search rules)
+
+pub returns-in_err-evaluated-clause-facts : goal.returns-in_err-evaluated-clause-facts
+returns-in_err-evaluated-clause-facts g c = λ s f may.
+    let k = c.in_ok-asked.ensures in
+    let h = g.H.GoalHandler.handler s.base c.args.handler.now in
+    let law = g.met.H.GoalHandler.lawful s.base c.args.handler.now s.formed s.is_ready in
+    let fact = resolved_fact h c.args.table.now.mode c.args.cx.now.nodes c.resolve_goal.new.cx.nodes c.args.table.now c.args.goal c.in_ok-asked.asked (content_of-extended k.grows.extends c.requires.posed.table.now) k.env k.predicate f in
+    let x = c.evaluate_goal.ensures.facts (Since-later k.grows s) (tell_begun c.new-graph.result h c.resolve_goal.new.cx.nodes c.new-graph.ensures.empty)
+    (fact_form h law (mode_of c.args.table.now.mode) c.resolve_goal.new.cx.nodes c.args.table.now c.in_ok-asked.asked k.posed fact)
+    (never_refused h law (mode_of c.args.table.now.mode) c.resolve_goal.new.cx.nodes c.args.table.now c.in_ok-asked.asked k.posed fact may.tight c.args.table.now.mode refl)
+    c.new-graph.ensures.empty (begun_facts c.args.depth k.grows may c.new-graph.ensures.overflowed) in
+    let y = decides_error c.evaluate_goal.result c.from_residual-in_err-evaluated.result (search rules) (λ no. (search rules)) (λ no. no) x in
+    y.answer
+
+pub returns-clause-facts : goal.returns-clause-facts
+returns-clause-facts g c = λ s f may.
+    let k = c.in_ok-asked.ensures in
+    let h = g.H.GoalHandler.handler s.base c.args.handler.now in
+    let law = g.met.H.GoalHandler.lawful s.base c.args.handler.now s.formed s.is_ready in
+    let fact = resolved_fact h c.args.table.now.mode c.args.cx.now.nodes c.resolve_goal.new.cx.nodes c.args.table.now c.args.goal c.in_ok-asked.asked (content_of-extended k.grows.extends c.requires.posed.table.now) k.env k.predicate f in
+    let x = c.in_ok-evaluated.ensures.facts (Since-later k.grows s) (tell_begun c.new-graph.result h c.resolve_goal.new.cx.nodes c.new-graph.ensures.empty)
+    (fact_form h law (mode_of c.args.table.now.mode) c.resolve_goal.new.cx.nodes c.args.table.now c.in_ok-asked.asked k.posed fact)
+    (never_refused h law (mode_of c.args.table.now.mode) c.resolve_goal.new.cx.nodes c.args.table.now c.in_ok-asked.asked k.posed fact may.tight c.args.table.now.mode refl)
+    c.new-graph.ensures.empty (begun_facts c.args.depth k.grows may c.new-graph.ensures.overflowed) in
+    x.answer

@@ -54,3 +54,6 @@ returns-clause-keeps g c = λ x.
 
 pub returns-clause-decided : goal.returns-clause-decided
 returns-clause-decided g c = rw c.recursion_limit-depth.ensures at (c.evaluate_root-evaluated.ensures.decided (Since-now c.terms_are_formed.ensures c.requires.ready))
+
+pub returns-clause-facts : goal.returns-clause-facts
+returns-clause-facts g c = c.evaluate_root-evaluated.ensures.facts (Since-now c.terms_are_formed.ensures c.requires.ready)

@@ -199,7 +199,8 @@ evaluate_round-returns g t c =
           let rest = c.push_query.ensures.rest in
           let up = decides_grown c.requires.search k.grows can in
           let ready : CanDecide h c.query_table.new.cx c.push_query.new.graph 0 c.args.depth = record { deep = omega arith; above = nothing_above h b c.push_query.new.graph; unmarked = rest.has_overflowed ∙ up.unmarked; steps = up.steps; rounds = up.rounds; tight = up.tight } in
-          let fact = fact_begun h a b input table asked c.in_ok-table.values.items over x f in
+          let formed = formed_before b z c.compute_goal-response.ensures.grows.extends c.terms_are_formed.ensures in
+          let fact = fact_begun h a b input table asked c.in_ok-table.values.items over x formed f in
           let y = c.compute_goal-response.ensures.facts (Since-later k.grows s) before (rw (c.deref_mut.ensures.value, c.deref-2.ensures.value) fact) ready in
           ended_fact true z ks c.args.graph.now c.push_query.new.graph c.compute_goal-response.new.graph c.end_round.new.graph own off.0 c.in_ok-push_query.ensures.pushed.1 c.push_query.ensures.rest refl off.1 c.compute_goal-response.result c.end_round.result off.2 c.end_round.ensures.answer y;
     }
