@@ -377,8 +377,10 @@ never_there k n met w t s (leaf.Variable kind.Int m) c none e h q = (let f = s.f
 never_there k n met w t s (leaf.Variable kind.Float m) c none e h q = (let f = s.fitting in let v = f.each m kind.Float h.0.0 in no_float k t (subst (Fits kind.Float) q v.fits))
 never_there kind.Ty n met w t s (leaf.Variable kind.Ty m) c none e h q = absurd (none m refl)
 never_there kind.Const n met w t s (leaf.Variable kind.Const m) c none e h q = absurd (none m refl)
-never_there kind.Ty n met w t s l c none e h q = absurd (cc (e, q))
-never_there kind.Const n met w t s l c none e h q = absurd (cc (e, q))
+never_there kind.Ty n met w t s (leaf.TyConstant a) c none e h q = absurd (cc q)
+never_there kind.Ty n met w t s l c none e h q = absurd (cc e)
+never_there kind.Const n met w t s (leaf.ConstConstant a) c none e h q = absurd (cc q)
+never_there kind.Const n met w t s l c none e h q = absurd (cc e)
 never_there kind.Region n met w t s l c none e h q = absurd t
 never_there kind.Int n met w t s l c none e h q = absurd t
 never_there kind.Float n met w t s l c none e h q = absurd t
@@ -518,6 +520,15 @@ module _ (c : Content) (nothing : KnowsNothing c) (proper : IsProperContent c) (
   unfolding other swapped_world v
   other_tree = ap (swapped l v) its_tree ∙ ap leaf_tree (swap_same l v)
 
+  carried_tree : (first second third : World) (b d e : ℕ) → Agrees b other first → Agrees d first second → Agrees e second third → n < b → n < d → n < e → third.tree n ≡ leaf_tree (leaf.Variable k 0)
+  carried_tree first second third b d e x y z lb ld le = z.trees n le ∙ y.trees n ld ∙ x.trees n lb ∙ other_tree
+
+  not_there : (w : World) → Solves met w → ((m : ℕ) → l ≡ leaf.Variable k m → ⊥) → w.tree n ≡ leaf_tree (leaf.Variable k 0) → ⊥
+  not_there w solves none last =
+      let (d, e) = at_label (deeply_resolved met (leaf_tree (leaf.Variable k n))) (label.Leaf l) is in
+      never_there k n met w of_terms solves l d none its_sort (subst (Knows met) e (Knows-deeply_resolved met (leaf_tree (leaf.Variable k n)) sound (knows_there k n at)))
+      (ap (inst w) (sym e) ∙ inst-deeply_resolved met w (leaf_tree (leaf.Variable k n)) sound solves ∙ last)
+
   never : ((m : ℕ) → l ≡ leaf.Variable k m → ⊥) → ⊥
   never none =
       let fresh = fresh_known c.universe x.fresh chosen c begun.made begun.freshens in
@@ -542,15 +553,11 @@ module _ (c : Content) (nothing : KnowsNothing c) (proper : IsProperContent c) (
             ∙ sym (far y.right g.1));
         outlives = λ a b. there_agrees.outlives a b ∙ made_agrees.outlives a b ∙ outlives_all a b;
       }) in
-      let added_agrees = added.agrees in
       let low : n < length c.slots = slot_below c.slots n k at in
       let longer : length c.slots ≤ length begun.made.slots = made.longer in
       let longest : length begun.made.slots ≤ length begun.equal.slots = equated.longer in
-      let last : added.world.tree n ≡ leaf_tree (leaf.Variable k 0) =
-      added_agrees.trees n (omega (arith, low, longer, longest)) ∙ there_agrees.trees n (omega (arith, low, longer)) ∙ made_agrees.trees n low ∙ other_tree in
-      let (d, e) = at_label (deeply_resolved met (leaf_tree (leaf.Variable k n))) (label.Leaf l) is in
-      never_there k n met added.world of_terms added.solves l d none its_sort (subst (Knows met) e (Knows-deeply_resolved met (leaf_tree (leaf.Variable k n)) sound (knows_there k n at)))
-      (ap (inst added.world) (sym e) ∙ inst-deeply_resolved met added.world (leaf_tree (leaf.Variable k n)) sound added.solves ∙ last)
+      not_there added.world added.solves none
+      (carried_tree made.world there.world added.world (length c.slots) (length begun.made.slots) (length begun.equal.slots) made.agrees there.agrees added.agrees low (omega (arith, low, longer)) (omega (arith, low, longer, longest)))
 
   -- it came to be a variable of its kind
   pub stays_variable : (m : ℕ) × (l ≡ leaf.Variable k m)

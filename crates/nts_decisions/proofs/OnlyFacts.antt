@@ -1,5 +1,5 @@
 -- A goal that one candidate without goals decides: it has a fact, and that candidate decides the goal of its query too.
-use Rattle.std.proofs.Common.{◌≡◌, ℕ, inl, inr, false, List, [], ◌∷◌, map, refl, sym, ap, subst}
+use Rattle.std.proofs.Common.{◌≡◌, ℕ, inl, inr, List, [], ◌∷◌, map, refl, sym, ap, subst}
 use Rattle.nts_model.specs.declared.labels.Leaf.{Leaf}
 use Rattle.nts_model.specs.Terms.Trees.{Tree, empty, any_label, is_canonical, IsFormed}
 use Rattle.nts_model.specs.Tables.Contents.{Content}

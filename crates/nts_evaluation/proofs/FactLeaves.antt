@@ -1,17 +1,14 @@
 -- The leaves that stand for the positions of a query in its first table have the kinds of its input.
-use Rattle.std.proofs.Common.{◌≡◌, ◌⊎◌, inl, inr, ℕ, zero, suc, ◌+◌, ◌≤◌, ◌<◌, List, [], ◌∷◌, ◌++◌, length, map, Option, Some, None, refl, sym, ap, subst, ◌∙◌, arith}
+use Rattle.std.proofs.Common.{◌≡◌, ◌⊎◌, inl, inr, ℕ, zero, suc, ◌+◌, ◌<◌, List, [], ◌∷◌, ◌++◌, length, Some, None, refl, sym, ap, ◌∙◌, arith}
 use Rattle.std.specs.Prelude.{slice_get}
-use Rattle.std.proofs.lemmas.Option.{slice_get_within}
-use Rattle.nts_model.specs.declared.labels.VariableKind.{VariableKind}
-use Rattle.nts_model.specs.declared.labels.VariableKind.TheVariants as kind
-use Rattle.nts_model.specs.Canonical.Inputs.{Input, IsInput, HaveKinds, canonical_of, PositionKind, type_variable, integer_variable, float_variable, const_variable, region_variable, placeholder}
+use Rattle.nts_model.specs.Canonical.Inputs.{Input, HaveKinds, canonical_of, PositionKind, type_variable, integer_variable, float_variable, const_variable, region_variable, placeholder}
 use Rattle.std.proofs.lemmas.Option.{slice_get_past}
 use Rattle.std.proofs.lemmas.Bool.{cases_lt}
 use Rattle.nts_unify.specs.Reading.{LinksDescend}
 use Rattle.nts_canonical.specs.SubRoots.{sub_root_in}
 use Rattle.nts_unify.specs.declared.contents.Variable.{Variable}
 use Rattle.nts_unify.specs.declared.contents.State.TheVariants.{Link, Unset}
-use Rattle.nts_canonical.specs.Kinds.{AreInputKinds, value_leaves, variables_before, count_of, kind_of_position, if_there, link_to, made_variable, made_variables}
+use Rattle.nts_canonical.specs.Kinds.{AreInputKinds, value_leaves, variables_before, count_of, kind_of_position, link_to, made_variables}
 use Rattle.nts_canonical.specs.Building.{made_entries}
 use Rattle.nts_canonical.proofs.Kinded.{have_kinds}
 use Rattle.nts_canonical.proofs.Handed.{form-kinds}

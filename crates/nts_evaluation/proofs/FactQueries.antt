@@ -6,8 +6,6 @@ use Rattle.nts_model.specs.declared.labels.Sort.{Sort}
 use Rattle.nts_model.specs.declared.labels.Sort.TheVariants as sort
 use Rattle.nts_model.specs.declared.labels.VariableKind.{VariableKind}
 use Rattle.nts_model.specs.declared.labels.VariableKind.TheVariants as kind
-use Rattle.nts_model.specs.declared.labels.FreeRegion.TheVariants as region
-use Rattle.nts_model.specs.declared.labels.Constant.TheVariants as constant
 use Rattle.nts_model.specs.declared.labels.Leaf.{Leaf}
 use Rattle.nts_model.specs.declared.labels.Leaf.TheVariants as leaf
 use Rattle.nts_model.specs.declared.labels.BoundVarIndexKind.TheVariants as index
@@ -15,27 +13,26 @@ use Rattle.nts_model.specs.declared.labels.Label.{Label}
 use Rattle.nts_model.specs.declared.labels.Label.TheVariants as label
 use Rattle.nts_model.specs.Terms.Trees.{Tree, empty, more, node, IsFormed}
 use Rattle.nts_model.specs.Terms.Substitutions.{leaf_tree, Occurs, IsConstant, filled, position_of, value_or}
-use Rattle.nts_model.specs.Tables.Contents.{Content, Slot, map_slot, unset, state_of, kind_at}
+use Rattle.nts_model.specs.Tables.Contents.{Content, Slot, map_slot, unset}
 use Rattle.nts_model.specs.Tables.Resolving.{Knows, IsSound}
 use Rattle.nts_model.specs.Lists.{Among}
 use Rattle.nts_model.specs.Derivations.Related.{pair}
 use Rattle.nts_model.specs.Derivations.Handlers.{IsFixed}
 use Rattle.nts_model.specs.Canonical.Inputs.{PositionKind, type_variable, integer_variable, float_variable, const_variable, region_variable, placeholder}
 use Rattle.nts_model.specs.Answers.Responses.{IsOverPositions, universe_of_kind}
-use Rattle.nts_model.specs.Answers.Applying.{IsProperContent}
 use Rattle.nts_decisions.specs.FirstTables.{IsFirstLeaf, a_variable, a_type, a_const, a_region, IsFirstQuery, IsSettledFact}
 use Rattle.nts_decisions.proofs.DecidingRenamed.{among_back}
 use Rattle.nts_decisions.proofs.Faring.{among_by}
 use Rattle.nts_store.specs.Growth.{tree_at}
 use Rattle.nts_terms.specs.declared.handles.Goal.{Goal}
 use Rattle.nts_terms.specs.declared.handles.GenericArg.{GenericArg}
-use Rattle.nts_unify.specs.Reading.{content_of, slot_of}
+use Rattle.nts_unify.specs.Reading.{slot_of}
 use Rattle.nts_table.specs.Tables.{Table}
 use Rattle.nts_canonical.specs.declared.types.CanonicalInput.{CanonicalInput}
 use Rattle.nts_canonical.specs.Forms.{form_of}
 use Rattle.nts_canonical.specs.Building.{kinds_of}
 use Rattle.nts_canonical.specs.Kinds.{value_leaf, value_leaves, made_variables}
-use Rattle.nts_asking.specs.Asking.{first_table, first_values, asked_environment, asked_predicate}
+use Rattle.nts_asking.specs.Asking.{first_table, asked_environment, asked_predicate}
 use Rattle.nts_store.specs.Formed.{AreFormed}
 use Rattle.nts_asking.specs.Answering.{IsQueryInput}
 use Rattle.nts_asking.specs.Rounds.{BeginsQuery}

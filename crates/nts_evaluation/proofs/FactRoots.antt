@@ -1,5 +1,5 @@
 -- A goal at the root that one candidate without goals decides: its query's goal is decided by it, and it is not refused.
-use Rattle.std.proofs.Common.{◌≡◌, ℕ, ◌+◌, false, List, [], refl, sym, ap, subst, ◌∙◌, arith}
+use Rattle.std.proofs.Common.{◌≡◌, ℕ, ◌+◌, false, List, [], refl, arith}
 use Rattle.nts_model.specs.Terms.Trees.{Tree}
 use Rattle.nts_model.specs.Tables.Resolving.{Knows, deeply_resolved}
 use Rattle.nts_model.specs.Derivations.Related.{pair}
@@ -17,14 +17,15 @@ use Rattle.nts_terms.specs.declared.modes.TypingMode.{TypingMode}
 use Rattle.nts_terms.specs.Modes.{mode_of}
 use Rattle.nts_terms.specs.Rest.{Grows}
 use Rattle.nts_unify.specs.Reading.{content_of}
-use Rattle.nts_table.specs.Tables.{Table}
+use Rattle.nts_table.specs.Tables.{Table, IsTable}
+use Rattle.nts_model.proofs.Tables.Open.{Knows-deeply_resolved}
 use Rattle.nts_canonical.specs.Forms.{input_of}
 use Rattle.nts_search.specs.declared.stack.SearchGraph.{SearchGraph}
-use Rattle.nts_asking.specs.Evaluation.{IsPosed}
+use Rattle.nts_asking.specs.Evaluation.{IsPosed, IsAdmitted}
 use Rattle.nts_asking.specs.Telling.{queries}
-use Rattle.nts_asking.specs.Meant.{IsRefusedIn}
+use Rattle.nts_asking.specs.Meant.{IsRefusedIn, IsRefusedUnder}
 use Rattle.nts_asking.proofs.FirstTables.{begins_each}
-use Rattle.nts_evaluation.specs.Deciding.{IsFactForm, IsOnlyFact, MayAnswer, CanDecide}
+use Rattle.nts_evaluation.specs.Deciding.{IsFactForm, IsFact, IsOnlyFact, MayAnswer, CanDecide}
 use Rattle.nts_evaluation.proofs.FactLeaves.{leaves_each}
 use Rattle.nts_evaluation.proofs.FactQueries.{nothing_above}
 use Rattle.nts_asking.proofs.SubClasses.{root_classes}
@@ -52,8 +53,21 @@ module _ (h : Handler) (law : IsLawfulHandler h) (mode : Mode) (ts : List Tree) 
       (only_is_fact h mode (content_of ts t.entries) (tree_at ts g.param_env.node) (tree_at ts g.predicate.node) fact) known n.sound own.current (rw same at r)
 
 -- .. as the table knows it
-pub resolved_fact : (h : Handler) (mode : TypingMode) (a b : List Tree) (t : Table) (g o : Goal) → content_of b t.entries ≡ content_of a t.entries → tree_at b o.param_env.node ≡ (let c = content_of a t.entries in deeply_resolved c (tree_at a g.param_env.node)) → tree_at b o.predicate.node ≡ (let c = content_of a t.entries in deeply_resolved c (tree_at a g.predicate.node)) → IsOnlyFact h mode a t g → IsOnlyFactIn h (mode_of mode) (content_of b t.entries) (tree_at b o.param_env.node) (tree_at b o.predicate.node)
+pub resolved_fact : (h : Handler) (mode : TypingMode) (a b : List Tree) (t : Table) (g o : Goal) → content_of b t.entries ≡ content_of a t.entries
+    → tree_at b o.param_env.node ≡ (let c = content_of a t.entries in deeply_resolved c (tree_at a g.param_env.node))
+    → tree_at b o.predicate.node ≡ (let c = content_of a t.entries in deeply_resolved c (tree_at a g.predicate.node)) → IsOnlyFact h mode a t g → IsOnlyFactIn h (mode_of mode) (content_of b t.entries) (tree_at b o.param_env.node) (tree_at b o.predicate.node)
 resolved_fact h mode a b t g o same env predicate f = rw (same, env, predicate) f
+
+-- a goal with a fact is not refused
+pub fact_stands : {h : Handler} (mode : TypingMode) {ts : List Tree} {t : Table} {g : Goal} → IsTable ts t → IsAdmitted ts t g → IsLawfulHandler h → HasNoLeaks h → IsFact h mode ts t g → IsRefusedUnder h mode ts t g → ⊥
+fact_stands {h} mode {ts} {t} {g} table admitted law tight fact r =
+    let now = table.now in
+    let own = now.proper in
+    let env = admitted.env in
+    let predicate = admitted.predicate in
+    let c = content_of ts t.entries in
+    fact_not_refused queries begins_each leaves_each h law (mode_of mode) tight c (deeply_resolved c (tree_at ts g.param_env.node)) (deeply_resolved c (tree_at ts g.predicate.node)) fact
+    (Knows-deeply_resolved c (tree_at ts g.param_env.node) now.sound env.knows, (Knows-deeply_resolved c (tree_at ts g.predicate.node) now.sound predicate.knows, tt)) now.sound own.current r
 
 -- the search may answer it
 pub begun_facts : {h : Handler} {a b : Cx} {s : SearchGraph} (depth : ℕ) → Grows a b → MayAnswer h a → s.has_overflowed ≡ false → CanDecide h b s 0 (depth + 1)

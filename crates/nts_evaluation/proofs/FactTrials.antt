@@ -1,9 +1,8 @@
 -- A candidate without goals that was run in the first table of a query: its response, if it says nothing, is over the terms of the query.
-use Rattle.std.proofs.Common.{◌≡◌, ℕ, Bool, true, false, List, [], map, refl, sym, ap, subst, ◌∙◌, arith}
+use Rattle.std.proofs.Common.{◌≡◌, ℕ, Bool, true, false, List, map, refl, sym, ap, subst, ◌∙◌}
 use Rattle.nts_model.specs.Terms.Trees.{Tree}
 use Rattle.nts_model.specs.Tables.Contents.{Content}
 use Rattle.nts_model.specs.Tables.Holding.{Continues}
-use Rattle.nts_model.specs.Lists.{Among}
 use Rattle.nts_model.specs.Derivations.Handlers.{Handler, Candidate, IsLawfulHandler}
 use Rattle.nts_model.specs.Derivations.Rules.{Mode}
 use Rattle.nts_model.specs.Refutation.Choosing.{IsCandidateMet}
@@ -11,7 +10,7 @@ use Rattle.nts_model.specs.Refutation.Opening.{binds}
 use Rattle.nts_theory.specs.Telling.{IsTraitGoal, IsResponseOf, IsBegun, AreTermsOfKinds}
 use Rattle.nts_decisions.specs.Faring.{Fares, no_world, by_goals}
 use Rattle.nts_decisions.proofs.OpenedStatements.{trait_is_plain}
-use Rattle.nts_decisions.specs.FirstTables.{IsFirstQuery, IsSettledFact}
+use Rattle.nts_decisions.specs.FirstTables.{IsSettledFact}
 use Rattle.nts_decisions.proofs.FactsSettled.{fact_over, are_places, reached_nothing}
 use Rattle.nts_store.specs.Growth.{tree_at, Extends}
 use Rattle.nts_store.specs.Formed.{AreFormed}
@@ -37,18 +36,20 @@ use Rattle.nts_asking.specs.Evaluation.{IsPosed, IsAskedGoal}
 use Rattle.nts_trying.specs.Opening.{IsOpenedTo}
 use Rattle.nts_asking.proofs.Running.{term_table}
 use Rattle.nts_trying.proofs.LeftOut.{among_all}
-use Rattle.nts_evaluation.specs.Deciding.{IsQueryAtFirst, IsFactHere, IsPlainCandidate, ArePlainCandidates, IsOverIfSilent, CandidatesSettled}
+use Rattle.nts_evaluation.specs.Deciding.{IsQueryAtFirst, IsPlainCandidate, ArePlainCandidates, IsOverIfSilent, CandidatesSettled}
 use Rattle.nts_evaluation.proofs.DecidedGoals.{kept_fares}
 
 -- a query in a store that has grown
-pub query_later : (a b : List Tree) (t u : Table) (g o : Goal) (qs : List GenericArg) → content_of b u.entries ≡ content_of a t.entries → tree_at b o.param_env.node ≡ tree_at a g.param_env.node → tree_at b o.predicate.node ≡ tree_at a g.predicate.node → trees_of b qs ≡ trees_of a qs → IsQueryAtFirst a t g qs → IsQueryAtFirst b u o qs
+pub query_later : (a b : List Tree) (t u : Table) (g o : Goal) (qs : List GenericArg) → content_of b u.entries ≡ content_of a t.entries → tree_at b o.param_env.node ≡ tree_at a g.param_env.node → tree_at b o.predicate.node ≡ tree_at a g.predicate.node
+    → trees_of b qs ≡ trees_of a qs → IsQueryAtFirst a t g qs → IsQueryAtFirst b u o qs
 query_later a b t u g o qs same env predicate values q = record { kinds = q.kinds; values = values ∙ q.values; first = rw (same, env, predicate) q.first }
 
 pub plain_later : (a b : List Tree) (g : Goal) (x y : Candidate) → tree_at b g.param_env.node ≡ tree_at a g.param_env.node → tree_at b g.predicate.node ≡ tree_at a g.predicate.node → y ≡ x → IsPlainCandidate a g x → IsPlainCandidate b g y
 plain_later a b g x y env predicate same p = rw same (record { offered = rw (env, predicate) p.offered; no_goals = p.no_goals })
 
 -- the response of the table that such a candidate left
-pub over_after : (h : Handler) (s t u : Table) {a b : List Tree} (e : List Tree) (x : CandidateData) (g : Goal) (qs : List GenericArg) (r : Canonical Response) → HasRunTo h s.mode a s b u x → s.entries ≡ t.entries → Continues (content_of a s.entries) (content_of b u.entries) → AreFormed b → IsTable b u
+pub over_after : (h : Handler) (s t u : Table) {a b : List Tree} (e : List Tree) (x : CandidateData) (g : Goal) (qs : List GenericArg) (r : Canonical Response) → HasRunTo h s.mode a s b u x → s.entries ≡ t.entries
+    → Continues (content_of a s.entries) (content_of b u.entries) → AreFormed b → IsTable b u
     → IsQueryAtFirst a t g qs → IsPlainCandidate a g (candidate_of a x) → IsResponseOf (content_of b u.entries) (trees_of a qs) (response_at e r) → HoldsResponse e r.value → IsOverIfSilent e (trees_of a qs) r
 over_after h s t u {a} {b} e x g qs r run same continues formed table q p says holds ts up silent =
     let now = table.now in

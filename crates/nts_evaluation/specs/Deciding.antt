@@ -11,7 +11,7 @@ use Rattle.nts_model.specs.Tables.Resolving.{deeply_resolved}
 use Rattle.nts_model.specs.Canonical.Inputs.{Input, IsInput, canonical_of, CanonicalInput as Form, PositionKind}
 use Rattle.nts_model.specs.Answers.Responses.{Response as Answer, IsIdentity}
 use Rattle.nts_decisions.specs.Deciding.{IsGoalDecided}
-use Rattle.nts_decisions.specs.Facts.{IsOnlyFactIn}
+use Rattle.nts_decisions.specs.Facts.{IsFactIn, IsOnlyFactIn}
 use Rattle.nts_decisions.specs.Faring.{AreDecidedHere, Fares, OneFares}
 use Rattle.nts_decisions.specs.FirstTables.{IsFirstQuery, IsSettledFact}
 use Rattle.nts_decisions.specs.Queries.{AreRootKinds, AreConstants, AreOwn}
@@ -182,6 +182,10 @@ abbrev pub IsRoundYes : Option (Canonical Response) → Type 0
 IsRoundYes None = ⊥
 IsRoundYes (Some r) = IsYes r.value.certainty
 
--- one candidate without goals decides the goal as the table knows it
+-- the goal as the table knows it has a fact: a candidate without goals is offered that a world of the table meets
+abbrev pub IsFact : Handler → TypingMode → List Tree → Table → Goal → Type 0
+IsFact h mode ts t g = (let c = content_of ts t.entries in IsFactIn h (mode_of mode) c (deeply_resolved c (tree_at ts g.param_env.node)) (deeply_resolved c (tree_at ts g.predicate.node)))
+
+-- .. and no values meet another one
 abbrev pub IsOnlyFact : Handler → TypingMode → List Tree → Table → Goal → Type 0
 IsOnlyFact h mode ts t g = (let c = content_of ts t.entries in IsOnlyFactIn h (mode_of mode) c (deeply_resolved c (tree_at ts g.param_env.node)) (deeply_resolved c (tree_at ts g.predicate.node)))

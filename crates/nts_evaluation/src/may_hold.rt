@@ -1,12 +1,13 @@
 //! Whether a goal may hold, asked without a trace in the table.
-ghost use Rattle.std.specs.Prelude.{◌≡◌, ◌⊎◌, ◌↔◌, Bool, IsTrue, true, false, Ok, Err, IfOk};
+ghost use Rattle.std.specs.Prelude.{◌≡◌, ◌≢◌, ◌⊎◌, ◌↔◌, Bool, IsTrue, true, false, Ok, Err, IfOk};
 ghost use Rattle.nts_certainty.specs.declared.certainty.Certainty.{Certainty as Sure};
+ghost use Rattle.nts_model.specs.Derivations.Handlers.{HasNoLeaks};
 ghost use Rattle.nts_table.specs.Tables.{IsTable};
 ghost use Rattle.nts_terms.specs.Rest.{Grows};
 ghost use Rattle.nts_asking.specs.Evaluation.{IsAdmitted, IsPosed};
 ghost use Rattle.nts_asking.specs.Meant.{rules_of, Always, IsRefusedUnder};
 ghost use Rattle.nts_certainty.specs.declared.certainty.Certainty.TheVariants as certainty;
-ghost use Rattle.nts_evaluation.specs.Deciding.{IsDeterminate, IsOnlyFact, MayAnswer, IsAsDecided};
+ghost use Rattle.nts_evaluation.specs.Deciding.{IsDeterminate, IsFact, IsOnlyFact, MayAnswer, IsAsDecided};
 ghost use Rattle.nts_evaluation.specs.Solutions.{IsCoherenceOf, HasNoSolutionUnder, WasEvaluated, IsAllGood};
 
 use crate::solve::evaluate_root;
@@ -19,8 +20,8 @@ use nts_terms::{Cx, Goal};
 /// Whether a goal may hold, where goals may be nested so deep. It is false exactly where the goal has no solution: then each
 /// candidate failed, or no solution of the table grants what the others say. In coherence, where no alias is declared, no
 /// solution of the table has a settled proof of the goal then. A goal that a finite tree of goals decides, no higher than that
-/// depth, gets true for a yes and false for a no; one that one candidate without goals decides gets true. The table is as before. A fault is want of memory, or `Full` where a universe
-/// above the greatest is asked for.
+/// depth, gets true for a yes and false for a no. A goal with a fact does not get false, and gets true where no other candidate can
+/// be met. The table is as before. A fault is want of memory, or `Full` where a universe above the greatest is asked for.
 pub fn root_goal_may_hold_with_depth<H: GoalHandler>(
     table: &mut InferCtxt,
     cx: &mut Cx,
@@ -43,7 +44,9 @@ pub fn root_goal_may_hold_with_depth<H: GoalHandler>(
     ensures decided { (b : Bool) → IsDeterminate (H.handler cx.old.nodes handler.now) table.old.mode
         cx.old.nodes table.old goal root_depth b → MayAnswer
         (H.handler cx.old.nodes handler.now) cx.old → IfOk result (λ r. r ≡ b) }
-    ensures facts { IsOnlyFact (H.handler cx.old.nodes handler.now) table.old.mode cx.old.nodes
+    ensures fact { IsFact (H.handler cx.old.nodes handler.now) table.old.mode cx.old.nodes table.old
+        goal → HasNoLeaks (H.handler cx.old.nodes handler.now) → result ≢ Ok false }
+    ensures only_fact { IsOnlyFact (H.handler cx.old.nodes handler.now) table.old.mode cx.old.nodes
         table.old goal → MayAnswer (H.handler cx.old.nodes handler.now) cx.old →
         IfOk result (λ r. r ≡ true) }
 {
@@ -58,8 +61,8 @@ pub fn root_goal_may_hold_with_depth<H: GoalHandler>(
 
 /// Whether a goal may hold, and is not in doubt for an opaque type that may stand for itself. It is true for a yes, and for a
 /// doubt with `OpaqueTypesJank::AllGood`. The goal is evaluated at the store's recursion limit; a goal that a finite tree of goals
-/// decides, no higher than that, gets true for a yes and false for a no; one that one candidate without goals decides gets true. The
-/// table is as before.
+/// decides, no higher than that, gets true for a yes and false for a no; one with a fact, where no other candidate can be met, gets
+/// true. The table is as before.
 pub fn root_goal_may_hold_opaque_types_jank<H: GoalHandler>(
     table: &mut InferCtxt,
     cx: &mut Cx,
@@ -79,7 +82,7 @@ pub fn root_goal_may_hold_opaque_types_jank<H: GoalHandler>(
     ensures decided { (b : Bool) → IsDeterminate (H.handler cx.old.nodes handler.now) table.old.mode
         cx.old.nodes table.old goal cx.old.recursion_limit b → MayAnswer
         (H.handler cx.old.nodes handler.now) cx.old → IfOk result (λ r. r ≡ b) }
-    ensures facts { IsOnlyFact (H.handler cx.old.nodes handler.now) table.old.mode cx.old.nodes
+    ensures only_fact { IsOnlyFact (H.handler cx.old.nodes handler.now) table.old.mode cx.old.nodes
         table.old goal → MayAnswer (H.handler cx.old.nodes handler.now) cx.old →
         IfOk result (λ r. r ≡ true) }
 {
@@ -125,7 +128,7 @@ fn evaluate_and_roll_back<H: GoalHandler>(
         IsDeterminate (H.handler s.base handler.now) table.old.mode cx.old.nodes table.old goal
         depth b → MayAnswer (H.handler s.base handler.now) cx.old → IsAsDecided b result (λ c.
         c ≡ certainty.Yes)) }
-    ensures facts { Always (rules_of H.ready H.handler handler.now) cx.old (λ s.
+    ensures only_fact { Always (rules_of H.ready H.handler handler.now) cx.old (λ s.
         IsOnlyFact (H.handler s.base handler.now) table.old.mode cx.old.nodes table.old goal →
         MayAnswer (H.handler s.base handler.now) cx.old → IsAsDecided true result (λ c.
         c ≡ certainty.Yes)) }

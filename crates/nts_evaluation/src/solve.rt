@@ -1,6 +1,6 @@
 //! The evaluation of goals.
-ghost use Rattle.std.specs.Prelude.{◌+◌, ◌≡◌, ◌↔◌, Bool, true, IsTrue, None, IfOk, OnOk, OnErr, IsOkUnless};
-ghost use Rattle.nts_model.specs.Derivations.Handlers.{meaning, HasNoCoinductiveTrait};
+ghost use Rattle.std.specs.Prelude.{◌+◌, ◌≡◌, ◌≢◌, ◌↔◌, Bool, true, IsTrue, None, IfOk, OnOk, OnErr, IsOkUnless};
+ghost use Rattle.nts_model.specs.Derivations.Handlers.{meaning, HasNoCoinductiveTrait, HasNoLeaks};
 ghost use Rattle.nts_store.specs.Growth.{Extends};
 ghost use Rattle.nts_table.specs.Tables.{IsTable};
 ghost use Rattle.nts_terms.specs.Modes.{mode_of};
@@ -11,7 +11,7 @@ ghost use Rattle.nts_asking.specs.Evaluation.{Runs, IsAdmitted, IsPosed, IsGoalU
 ghost use Rattle.nts_asking.specs.Meant.{rules_of, Always, IsProvedSince, EvaluatesUnder, IsRefusedUnder};
 ghost use Rattle.nts_certainty.specs.declared.certainty.Certainty.TheVariants as certainty;
 ghost use Rattle.nts_terms.specs.Rest.{Grows};
-ghost use Rattle.nts_evaluation.specs.Deciding.{IsDeterminate, IsOnlyFact, MayAnswer, IsAsDecided};
+ghost use Rattle.nts_evaluation.specs.Deciding.{IsDeterminate, IsFact, IsOnlyFact, MayAnswer, IsAsDecided};
 ghost use Rattle.nts_evaluation.specs.Solutions.{IsCoherenceOf, HasNoSolutionUnder, KeepsSolutionsUnder};
 
 use crate::evaluate::evaluate_goal;
@@ -69,9 +69,9 @@ pub fn goal_is_admitted(table: &InferCtxt, cx: &mut Cx, goal: Goal) -> Result<bo
 /// all candidates that did not fail. One that is in doubt leaves no region constraints. `NoSolution` says that each candidate
 /// failed: its equations can't be met, or a goal that it asks for was refused; or that no solution of the table grants the
 /// response. A goal that a finite tree of goals decides, no higher than the recursion limit, is answered as it is decided, yes or
-/// no, whatever the rules say of other goals. So is one with variables for which one candidate without goals is offered that a
-/// world of the table meets, where no values meet another one: it is answered yes. After an error the table is as it was. A fault is want of memory, or `Full` where a
-/// universe above the greatest is asked for.
+/// no, whatever the rules say of other goals. A goal with a fact, variables or not, is not refused, and where no other candidate
+/// can be met it is answered yes: a candidate without goals is a fact if it is offered and a world of the table meets it. After an
+/// error the table is as it was. A fault is want of memory, or `Full` where a universe above the greatest is asked for.
 pub fn evaluate_root_goal<H: GoalHandler>(
     table: &mut InferCtxt,
     cx: &mut Cx,
@@ -108,9 +108,11 @@ pub fn evaluate_root_goal<H: GoalHandler>(
         cx.old.nodes table.old goal cx.old.recursion_limit b → MayAnswer
         (H.handler cx.old.nodes handler.now) cx.old → IsAsDecided b result (λ e. e.certainty ≡
         certainty.Yes) }
-    ensures facts { IsOnlyFact (H.handler cx.old.nodes handler.now) table.old.mode cx.old.nodes
-        table.old goal → MayAnswer (H.handler cx.old.nodes handler.now) cx.old → IsAsDecided true
-        result (λ e. e.certainty ≡ certainty.Yes) }
+    ensures fact { IsFact (H.handler cx.old.nodes handler.now) table.old.mode cx.old.nodes table.old
+        goal → HasNoLeaks (H.handler cx.old.nodes handler.now) → result ≢ Err EvalError.NoSolution }
+    ensures only_fact { IsOnlyFact (H.handler cx.old.nodes handler.now) table.old.mode
+        cx.old.nodes table.old goal → MayAnswer (H.handler cx.old.nodes handler.now) cx.old →
+        IsAsDecided true result (λ e. e.certainty ≡ certainty.Yes) }
 {
     let _ = (span, stalled_on);
     cx.terms_are_formed();
@@ -147,7 +149,7 @@ pub(crate) fn evaluate_root<H: GoalHandler>(
         IsDeterminate (H.handler s.base handler.now) table.old.mode cx.old.nodes table.old goal
         depth b → MayAnswer (H.handler s.base handler.now) cx.old → IsAsDecided b result (λ e.
         e.certainty ≡ certainty.Yes)) }
-    ensures facts { Always (rules_of H.ready H.handler handler.now) cx.old (λ s.
+    ensures only_fact { Always (rules_of H.ready H.handler handler.now) cx.old (λ s.
         IsOnlyFact (H.handler s.base handler.now) table.old.mode cx.old.nodes table.old goal →
         MayAnswer (H.handler s.base handler.now) cx.old → IsAsDecided true result (λ e.
         e.certainty ≡ certainty.Yes)) }

@@ -10,9 +10,9 @@ returns-in_err-evaluated-clause-decided g c = λ s b d may.
 pub returns-clause-decided : goal.returns-clause-decided
 returns-clause-decided g c = λ s b d may. c.in_ok-evaluated.ensures.decided s b (determinate_after c.start_snapshot.ensures.entries c.start_snapshot.ensures.mode d) may
 
-pub returns-in_err-evaluated-clause-facts : goal.returns-in_err-evaluated-clause-facts
-returns-in_err-evaluated-clause-facts g c = λ s f may.
-    decided_error true _ _ c.evaluate_root-evaluated.result c.from_residual-in_err-evaluated.result (search rules) (search rules) (c.evaluate_root-evaluated.ensures.facts s (rw (c.start_snapshot.ensures.entries, c.start_snapshot.ensures.mode) f) may)
+pub returns-in_err-evaluated-clause-only_fact : goal.returns-in_err-evaluated-clause-only_fact
+returns-in_err-evaluated-clause-only_fact g c = λ s f may.
+    decided_error true _ _ c.evaluate_root-evaluated.result c.from_residual-in_err-evaluated.result (search rules) (search rules) (c.evaluate_root-evaluated.ensures.only_fact s (rw (c.start_snapshot.ensures.entries, c.start_snapshot.ensures.mode) f) may)
 
-pub returns-clause-facts : goal.returns-clause-facts
-returns-clause-facts g c = λ s f may. c.in_ok-evaluated.ensures.facts s (rw (c.start_snapshot.ensures.entries, c.start_snapshot.ensures.mode) f) may
+pub returns-clause-only_fact : goal.returns-clause-only_fact
+returns-clause-only_fact g c = λ s f may. c.in_ok-evaluated.ensures.only_fact s (rw (c.start_snapshot.ensures.entries, c.start_snapshot.ensures.mode) f) may

@@ -32,13 +32,13 @@ returns-in-Err-NoSolution-clause-decided g c = λ b d may.
     let x = c.evaluate_and_roll_back.ensures.decided (Since-now c.terms_are_formed.ensures c.requires.ready) b (rw c.recursion_limit-depth.ensures d) may in
     sym (rw refused at x)
 
-pub returns-in-Ok-clause-facts : goal.returns-in-Ok-clause-facts
-returns-in-Ok-clause-facts g c = λ f may.
-    let x = c.in-Ok.ensures.facts (Since-now c.terms_are_formed.ensures c.requires.ready) f may in
+pub returns-in-Ok-clause-only_fact : goal.returns-in-Ok-clause-only_fact
+returns-in-Ok-clause-only_fact g c = λ f may.
+    let x = c.in-Ok.ensures.only_fact (Since-now c.terms_are_formed.ensures c.requires.ready) f may in
     c.is_all_good.ensures.1 (rw x.1 tt)
 
-pub returns-in-Err-NoSolution-clause-facts : goal.returns-in-Err-NoSolution-clause-facts
-returns-in-Err-NoSolution-clause-facts g c = λ f may.
+pub returns-in-Err-NoSolution-clause-only_fact : goal.returns-in-Err-NoSolution-clause-only_fact
+returns-in-Err-NoSolution-clause-only_fact g c = λ f may.
     let refused : c.evaluate_and_roll_back.result ≡ Err EvalError.NoSolution = search rules in
-    let x = c.evaluate_and_roll_back.ensures.facts (Since-now c.terms_are_formed.ensures c.requires.ready) f may in
+    let x = c.evaluate_and_roll_back.ensures.only_fact (Since-now c.terms_are_formed.ensures c.requires.ready) f may in
     sym (rw refused at x)

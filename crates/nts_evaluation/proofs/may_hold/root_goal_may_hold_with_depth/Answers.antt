@@ -2,6 +2,7 @@ use Rattle.std.proofs.Common.{◌≡◌, Err, rules, sym}
 use Rattle.nts_store.specs.declared.fault.EvalError.TheVariants as EvalError
 use Rattle.nts_asking.proofs.Evaluating.{IsPosed-admitted, Since-now}
 use Rattle.nts_evaluation.proofs.Coherence.{no_solution_under}
+use Rattle.nts_evaluation.proofs.FactRoots.{fact_stands}
 use Rattle.nts_evaluation.proofs.may_hold.root_goal_may_hold_with_depth.Goals as goal
 
 pub evaluate_and_roll_back-requires-clause-posed : goal.evaluate_and_roll_back-requires-clause-posed
@@ -31,8 +32,12 @@ returns-in-Err-NoSolution-clause-decided g c = λ b d may.
     let x = c.evaluate_and_roll_back.ensures.decided (Since-now c.terms_are_formed.ensures c.requires.ready) b d may in
     sym (rw refused at x)
 
-pub returns-in-Err-NoSolution-clause-facts : goal.returns-in-Err-NoSolution-clause-facts
-returns-in-Err-NoSolution-clause-facts g c = λ f may.
+pub returns-in-Err-NoSolution-clause-only_fact : goal.returns-in-Err-NoSolution-clause-only_fact
+returns-in-Err-NoSolution-clause-only_fact g c = λ f may.
     let refused : c.evaluate_and_roll_back.result ≡ Err EvalError.NoSolution = search rules in
-    let x = c.evaluate_and_roll_back.ensures.facts (Since-now c.terms_are_formed.ensures c.requires.ready) f may in
+    let x = c.evaluate_and_roll_back.ensures.only_fact (Since-now c.terms_are_formed.ensures c.requires.ready) f may in
     sym (rw refused at x)
+
+pub returns-in-Err-NoSolution-clause-fact : goal.returns-in-Err-NoSolution-clause-fact
+returns-in-Err-NoSolution-clause-fact g c = λ f tight no.
+    fact_stands c.args.table.now.mode c.requires.table c.requires.admitted (g.met.H.GoalHandler.lawful c.args.cx.now.nodes c.args.handler.now c.terms_are_formed.ensures c.requires.ready) tight f (returns-in-Err-NoSolution-clause-refuted g c no)

@@ -69,11 +69,11 @@ returns-clause-decided g c = λ s b d may.
     let x = c.in_ok-evaluated.ensures.decided (Since-later k.grows s) (suc d.height) b (d.height, (omega arith), rw (k.env, k.predicate) d.decided) (begun_decides d k.grows may c.new-graph.ensures.empty c.new-graph.ensures.overflowed) in
     (x.answer.0, x.answer.1.0)
 
-pub returns-in_err-asked-clause-facts : goal.returns-in_err-asked-clause-facts
-returns-in_err-asked-clause-facts g c = λ s f may. fault_is_decided true c.from_residual.result _ (search rules) (search rules)
+pub returns-in_err-asked-clause-only_fact : goal.returns-in_err-asked-clause-only_fact
+returns-in_err-asked-clause-only_fact g c = λ s f may. fault_is_decided true c.from_residual.result _ (search rules) (search rules)
 
-pub returns-in_err-evaluated-clause-facts : goal.returns-in_err-evaluated-clause-facts
-returns-in_err-evaluated-clause-facts g c = λ s f may.
+pub returns-in_err-evaluated-clause-only_fact : goal.returns-in_err-evaluated-clause-only_fact
+returns-in_err-evaluated-clause-only_fact g c = λ s f may.
     let k = c.in_ok-asked.ensures in
     let h = g.H.GoalHandler.handler s.base c.args.handler.now in
     let law = g.met.H.GoalHandler.lawful s.base c.args.handler.now s.formed s.is_ready in
@@ -85,8 +85,8 @@ returns-in_err-evaluated-clause-facts g c = λ s f may.
     let y = decides_error c.evaluate_goal.result c.from_residual-in_err-evaluated.result (search rules) (λ no. (search rules)) (λ no. no) x in
     y.answer
 
-pub returns-clause-facts : goal.returns-clause-facts
-returns-clause-facts g c = λ s f may.
+pub returns-clause-only_fact : goal.returns-clause-only_fact
+returns-clause-only_fact g c = λ s f may.
     let k = c.in_ok-asked.ensures in
     let h = g.H.GoalHandler.handler s.base c.args.handler.now in
     let law = g.met.H.GoalHandler.lawful s.base c.args.handler.now s.formed s.is_ready in

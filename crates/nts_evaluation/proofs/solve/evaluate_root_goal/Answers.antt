@@ -2,6 +2,7 @@ use Rattle.nts_asking.proofs.Running.{Stays-now}
 use Rattle.nts_theory.proofs.Derivations.Rooted.{proved_held, proof_falls}
 use Rattle.nts_asking.proofs.Evaluating.{IsPosed-admitted, Since-now, each_of}
 use Rattle.nts_evaluation.proofs.Coherence.{no_solution_under, keeps_solutions_under, each_kept}
+use Rattle.nts_evaluation.proofs.FactRoots.{fact_stands}
 use Rattle.nts_evaluation.proofs.solve.evaluate_root_goal.Goals as goal
 
 pub evaluate_root-evaluated-requires-clause-posed : goal.evaluate_root-evaluated-requires-clause-posed
@@ -55,5 +56,9 @@ returns-clause-keeps g c = λ x.
 pub returns-clause-decided : goal.returns-clause-decided
 returns-clause-decided g c = rw c.recursion_limit-depth.ensures at (c.evaluate_root-evaluated.ensures.decided (Since-now c.terms_are_formed.ensures c.requires.ready))
 
-pub returns-clause-facts : goal.returns-clause-facts
-returns-clause-facts g c = c.evaluate_root-evaluated.ensures.facts (Since-now c.terms_are_formed.ensures c.requires.ready)
+pub returns-clause-only_fact : goal.returns-clause-only_fact
+returns-clause-only_fact g c = c.evaluate_root-evaluated.ensures.only_fact (Since-now c.terms_are_formed.ensures c.requires.ready)
+
+pub returns-clause-fact : goal.returns-clause-fact
+returns-clause-fact g c = λ f tight no.
+    fact_stands c.args.table.now.mode c.requires.table c.requires.admitted (g.met.H.GoalHandler.lawful c.args.cx.now.nodes c.args.handler.now c.terms_are_formed.ensures c.requires.ready) tight f (c.evaluate_root-evaluated.ensures.refuted (Since-now c.terms_are_formed.ensures c.requires.ready) no)
