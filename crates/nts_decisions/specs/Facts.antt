@@ -72,11 +72,3 @@ pub record IsAskedAs (c : Content) (e g : Tree) (i : Input) : Type 0 where
   pub knows : Knows c (pair e g)
   pub sound : IsSound c
   pub current : AreCurrent c
-
--- a canonical input that such a table asks for such a goal
-pub record IsQueryFact (h : Handler) (mode : Mode) (f : CanonicalInput) : Type 0 where
-  pub caller : Content
-  pub asked : Input
-  pub from : IsAskedAs caller asked.environment asked.predicate asked
-  pub fact : IsOnlyFactIn h mode caller asked.environment asked.predicate
-  pub form : canonical_of asked ≡ f

@@ -78,8 +78,10 @@ use Rattle.nts_trying.specs.Stepping.{left_after}
 use Rattle.nts_evaluation.proofs.evaluate.+evaluate.Goals as goal
 use Rattle.nts_evaluation.proofs.evaluate.+evaluate.Answers.Queries as queries
 use Rattle.nts_evaluation.proofs.evaluate.+evaluate.Answers.Candidates as candidates
+use Rattle.nts_evaluation.proofs.evaluate.+evaluate.Answers.Steps as steps
 mod Queries
 mod Candidates
+mod Steps
 
 pub compute_goal-evaluate_candidates-response-requires : goal.compute_goal-evaluate_candidates-response-requires
 compute_goal-evaluate_candidates-response-requires = candidates.compute_goal-evaluate_candidates-response-requires
@@ -154,77 +156,16 @@ compute_goal-returns-in-Unanswered g t c =
     }
 
 pub evaluate_added-evaluate_goal-requires : goal.evaluate_added-evaluate_goal-requires
-evaluate_added-evaluate_goal-requires g t c =
-    λ κs k-1.
-    let k = c.in_ok-asked-in-Some.ensures in
-    let less : c.in-Some.below + 1 ≤ bound_of c.args.depth = omega (arith, c.in-Some.ensures.within) in (
-      omega (arith, c.decreases),
-      (
-        k-1,
-        (
-          k.posed,
-          (
-            g.met.H.GoalHandler.ready_kept _ _ _ c.requires.ready k.grows.extends,
-            search_grows (bound_of c.args.depth) (c.in-Some.below + 1) less c.requires.search k.grows,
-          ),
-        ),
-      ),
-    )
+evaluate_added-evaluate_goal-requires = steps.evaluate_added-evaluate_goal-requires
 
 pub evaluate_added-returns-in-None : goal.evaluate_added-returns-in-None
-evaluate_added-returns-in-None g t c =
-    record {
-      runs = Runs-refl c.requires.posed.table;
-      searches = search_marked (bound_of c.args.depth) c.requires.search;
-      err = search rules;
-      labels = search rules;
-      proved = search rules;
-      marks = λ e. refl;
-      told = λ s tells. inr (c.next.ensures.too_deep.0 (search rules), refl);
-      refuted = search rules;
-      decided = λ s n b d can. absurd (let none = c.next.ensures.too_deep.0 (search rules) in omega (arith, none, can.deep, d.1));
-    }
+evaluate_added-returns-in-None = steps.evaluate_added-returns-in-None
 
 pub evaluate_added-returns-in_err-asked-in-Some : goal.evaluate_added-returns-in_err-asked-in-Some
-evaluate_added-returns-in_err-asked-in-Some g t c =
-    record {
-      runs = Runs-extends c.requires.posed.table c.resolve_goal.ensures.grows.extends c.resolve_goal.ensures.grows.rest;
-      searches = Searches-refl (bound_of c.args.depth) c.requires.search c.resolve_goal.ensures.grows;
-      err = search rules;
-      labels = search rules;
-      proved = search rules;
-      marks = λ e. (let less : c.in-Some.below + 1 ≤ bound_of c.args.depth = omega (arith, c.in-Some.ensures.within) in absurd (omega (arith, e, less)));
-      told = search rules;
-      refuted = search rules;
-      decided = λ s n b d can. decides_fault c.from_residual.result (search rules) (search rules);
-    }
+evaluate_added-returns-in_err-asked-in-Some = steps.evaluate_added-returns-in_err-asked-in-Some
 
 pub evaluate_added-returns-in_ok-asked-in-Some : goal.evaluate_added-returns-in_ok-asked-in-Some
-evaluate_added-returns-in_ok-asked-in-Some g t c =
-    let k = c.in_ok-asked-in-Some.ensures in
-    let e = c.evaluate_goal.ensures in
-    let p = c.requires.posed in
-    let all = Goes-trans (Goes-extends p.table k.grows.extends) e.runs.goes in
-    let env = e.runs.goes.extends.kept _ k.posed.holds.env.within ∙ k.env in
-    let predicate = e.runs.goes.extends.kept _ k.posed.holds.predicate.within ∙ k.predicate in
-    let same = content_of-extended k.grows.extends c.requires.posed.table.now in
-    record {
-      runs = Runs-trans (Runs-extends c.requires.posed.table c.in_ok-asked-in-Some.ensures.grows.extends c.in_ok-asked-in-Some.ensures.grows.rest) c.evaluate_goal.ensures.runs;
-      searches = search_then (bound_of c.args.depth) c.requires.search c.in_ok-asked-in-Some.ensures.grows c.evaluate_goal.ensures.searches;
-      err = e.err;
-      labels = OnOk-map c.evaluate_goal.result (λ h. only_resolved c.args.goal c.in_ok-asked-in-Some.asked k.grows.extends c.requires.posed.table k.env k.predicate h) c.evaluate_goal.ensures.labels;
-      proved = λ s.
-          IfOk-map c.evaluate_goal.result
-          (λ x f y.
-          rw (all.extends.kept c.args.goal.param_env.node p.holds.env.within, all.extends.kept c.args.goal.predicate.node p.holds.predicate.within)
-          (unread _ _ _ _ all env predicate p.knows.env p.knows.predicate (f y))) (e.proved (Since-later k.grows s));
-      marks = λ e. (let less : c.in-Some.below + 1 ≤ bound_of c.args.depth = omega (arith, c.in-Some.ensures.within) in absurd (omega (arith, e, less)));
-      told = λ s tells. IfOk-map c.evaluate_goal.result (λ x f. inl (evaluates_at same (rw (k.env, k.predicate) at f))) (c.evaluate_goal.ensures.told (Since-later k.grows s) (tell_grown (g.H.GoalHandler.handler s.base c.args.handler.now) (bound_of c.args.depth) c.requires.search k.grows tells));
-      refuted = λ s tells n. goal_cut_earlier k.grows.extends c.requires.search.stack c.requires.search.heads (rw (same, k.env, k.predicate) at (c.evaluate_goal.ensures.refuted (Since-later k.grows s) (tell_grown (g.H.GoalHandler.handler s.base c.args.handler.now) (bound_of c.args.depth) c.requires.search k.grows tells) n));
-      decided = λ s n b d can.
-          let depth : c.in-Some.below + 1 ≡ bound_of c.args.depth = c.in-Some.ensures.whole can.unmarked in
-          c.evaluate_goal.ensures.decided (Since-later k.grows s) n b (d.0, d.1, rw (k.env, k.predicate) d.2) (decides_later n (c.in-Some.below + 1) c.requires.search k.grows (same_search _) (omega arith) (omega (arith, depth, can.deep)) can);
-    }
+evaluate_added-returns-in_ok-asked-in-Some = steps.evaluate_added-returns-in_ok-asked-in-Some
 
 pub evaluate_candidates-loop-candidate-init : goal.evaluate_candidates-loop-candidate-init
 evaluate_candidates-loop-candidate-init = candidates.evaluate_candidates-loop-candidate-init
@@ -449,129 +390,22 @@ evaluate_rounds-returns-in_err-asked g t c =
     query_failed c.from_residual.result (search rules) (search rules) (search rules) (Searches-refl (c.args.depth + 1) c.requires.search c.first_round.ensures.grows)
 
 pub evaluate_step-evaluate_added-requires : goal.evaluate_step-evaluate_added-requires
-evaluate_step-evaluate_added-requires g t c = λ κs k.
-    let i = c.loop-added.invariant in (
-      omega (arith, c.decreases),
-      (
-        k,
-        (
-          IsPosed-later i.runs.goes (c.requires.posed c.loop-added.added-index _ c.loop-added-test.true),
-          (
-            g.met.H.GoalHandler.ready_kept _ _ _ c.requires.ready i.runs.goes.extends,
-            search_later (bound_of c.args.depth) (bound_of c.args.depth) (omega arith) c.requires.search i.searches,
-          ),
-        ),
-      ),
-    )
+evaluate_step-evaluate_added-requires = steps.evaluate_step-evaluate_added-requires
 
 pub evaluate_step-loop-added-init : goal.evaluate_step-loop-added-init
-evaluate_step-loop-added-init g t c = record {
-  runs = Runs-refl c.requires.table;
-  searches = Searches-refl (bound_of c.args.depth) c.requires.search (record { extends = Extends-refl _; rest = KeepsRest-refl _ });
-  left = subst (AreLeft []) (sym c.new-step.ensures.left) none_left;
-  labels = only-refl _ _;
-  proved = λ s y i. absurd i;
-  sure = λ y. c.new-step.ensures.left;
-  told = λ s tells. asks_nothing;
-  decided = λ s n b here can. record { rest = here.decided; left = c.new-step.ensures.left; certain = c.new-step.ensures.certainty; unchanged = c.new-step.ensures.unchanged; search = same_search _ };
-}
+evaluate_step-loop-added-init = steps.evaluate_step-loop-added-init
 
 pub evaluate_step-loop-added-preserved : goal.evaluate_step-loop-added-preserved
-evaluate_step-loop-added-preserved g t c =
-    let i = c.loop-added.invariant in
-    let e = c.in_ok-answer.ensures in
-    let n = c.in_ok-note.ensures in
-    let gs = c.args.goals.now in
-    let d : GoalSource × Goal = (source.Misc, record { param_env = record { node = record { number = 0 } }; predicate = record { node = record { number = 0 } } }) in
-    let at = c.loop-added-test.true in
-    let there = among_get gs c.loop-added.added-index d at in
-    let now = search_later (bound_of c.args.depth) (bound_of c.args.depth) (omega arith) c.requires.search i.searches in
-    let covers = search_covers (bound_of c.args.depth) now e.runs.goes.extends e.searches in
-    record {
-      runs = Runs-trans i.runs e.runs;
-      searches = Searches-trans i.searches e.searches;
-      left = rw (take_more gs c.loop-added.added-index d at) (subst (AreLeft (take c.loop-added.added-index gs ++ get_or gs c.loop-added.added-index d ∷ [])) (sym n.left) (left_more (get_or gs c.loop-added.added-index d) c.in_ok-answer.answer.certainty i.left));
-      labels = only-trans i.labels (only_one gs (get_or gs c.loop-added.added-index d) i.runs.goes.extends c.requires.posed there e.labels);
-      proved = λ s.
-          subst (AreSettled (IsNestedSince (λ ts. g.H.GoalHandler.handler ts c.args.handler.now) s c.args.table.now.mode (goal_kind_of c.args.kind) (assumed_in c.evaluate_added.new.cx.nodes c.evaluate_added.new.graph) c.evaluate_added.new.cx.nodes c.evaluate_added.new.table) (take (c.loop-added.added-index + 1) gs)) (sym n.left)
-          (settled_proved (assumed_in c.loop-added.cx.nodes c.loop-added.graph) (assumed_in c.evaluate_added.new.cx.nodes c.evaluate_added.new.graph) (λ ts. g.H.GoalHandler.handler ts c.args.handler.now) s c.args.table.now.mode (goal_kind_of c.args.kind) gs c.loop-added.step.left.items c.loop-added.added-index d c.in_ok-answer.answer.certainty at c.requires.posed i.runs.goes.extends e.runs.goes covers (rw (i.runs.goes.mode, c.step_kind_for_source-kind.ensures) at (e.proved (Since-later (ran i.runs) s))) (i.proved s));
-      sure = λ y. n.left ∙ sure_more c.loop-added.step.certainty c.in_ok-answer.answer.certainty c.loop-added.step.left.items (get_or gs c.loop-added.added-index d) i.sure (sym n.certainty ∙ y);
-      told = λ s tells. reach_more c.loop-added.table (g.H.GoalHandler.handler s.base c.args.handler.now) c.args.table.now.mode gs (get_or gs c.loop-added.added-index d) c.requires.posed there i.runs.goes.extends (i.told s tells) c.evaluate_added.new.table i.runs.goes.table e.runs.goes.extends (rw i.runs.goes.mode at (e.told (Since-later (ran i.runs) s) (heads_tell_later (g.H.GoalHandler.handler s.base c.args.handler.now) (bound_of c.args.depth) c.requires.search i.runs.goes.extends i.searches tells)));
-      decided = λ s m b here can.
-          let before = i.decided s m b here can in
-          let next = next_goal (g.H.GoalHandler.handler s.base c.args.handler.now) m gs b c.loop-added.added-index d i.runs.goes c.requires.posed here at before.rest in
-          let there = decides_later m (bound_of c.args.depth) c.requires.search (ran i.runs) before.search (omega arith) can.deep can in
-          let x = e.decided (Since-later (ran i.runs) s) m next.answer next.below there in
-          record {
-            rest = next.yes x.answer.0;
-            left = n.left ∙ ap (left_after c.loop-added.step.left.items (get_or gs c.loop-added.added-index d)) x.answer.1.0 ∙ before.left;
-            certain = n.certainty ∙ rw (before.certain, x.answer.1.0) refl;
-            unchanged = n.changed.1 (before.unchanged, x.answer.1.1);
-            search = then_same before.search x.search;
-          };
-    }
+evaluate_step-loop-added-preserved = steps.evaluate_step-loop-added-preserved
 
 pub evaluate_step-returns : goal.evaluate_step-returns
-evaluate_step-returns g t c =
-    record {
-      runs = search rules;
-      searches = search rules;
-      posed = (let i = c.loop-added.invariant in posed_left c.args.goals.now c.loop-added.step.left.items i.runs.goes c.requires.posed (rw (take_all c.loop-added.added-index c.args.goals.now c.loop-added-test.false) at i.left));
-      left = (let i = c.loop-added.invariant in rw (take_all c.loop-added.added-index c.args.goals.now c.loop-added-test.false) at i.left);
-      labels = search rules;
-      proved = λ s. rw (take_all c.loop-added.added-index c.args.goals.now c.loop-added-test.false) at (c.loop-added.invariant.proved s);
-      sure = search rules;
-      told = search rules;
-      refuted = search rules;
-      decided = λ s m b here can.
-          let x = c.loop-added.invariant.decided s m b here can in
-          record { answer = (at_end (g.H.GoalHandler.handler s.base c.args.handler.now) m c.args.cx.now.nodes c.args.table.now c.args.goals.now c.loop-added.added-index b (omega (arith, c.loop-added-test.false)) x.rest, (x.certain, x.unchanged)); search = x.search };
-    }
+evaluate_step-returns = steps.evaluate_step-returns
 
 pub evaluate_step-returns-in_err-answer : goal.evaluate_step-returns-in_err-answer
-evaluate_step-returns-in_err-answer g t c =
-    let i = c.loop-added.invariant in
-    let fails : is_err c.from_residual.result ≡ true = search rules in
-    record {
-      runs = Runs-trans c.loop-added.invariant.runs c.evaluate_added.ensures.runs;
-      searches = Searches-trans c.loop-added.invariant.searches c.evaluate_added.ensures.searches;
-      posed = IfOk-from_err c.from_residual.result _ fails;
-      left = IfOk-from_err c.from_residual.result _ fails;
-      labels = IfOk-from_err c.from_residual.result _ fails;
-      proved = λ s. IfOk-from_err c.from_residual.result _ fails;
-      sure = IfOk-from_err c.from_residual.result _ fails;
-      told = λ s tells. reach_still c.args.cx.now.nodes c.args.table.now c.loop-added.table (g.H.GoalHandler.handler s.base c.args.handler.now) c.args.table.now.mode c.args.goals.now c.evaluate_added.ensures.runs.goes.extends i.runs.goes.table (after_error c.evaluate_added.result c.evaluate_added.ensures.err (search rules)) (i.told s tells);
-      refuted = λ s tells n.
-          let h = g.H.GoalHandler.handler s.base c.args.handler.now in
-          let refused : c.evaluate_added.result ≡ Err EvalError.NoSolution = search rules in
-          let later = heads_tell_later h (bound_of c.args.depth) c.requires.search i.runs.goes.extends i.searches tells in
-          stop_more c.loop-added.table h c.args.table.now.mode c.args.goals.now _ c.requires.posed (among_get c.args.goals.now c.loop-added.added-index _ c.loop-added-test.true) i.runs.goes.extends (i.told s tells) i.runs.goes.table c.args.kind _ c.step_kind_for_source-kind.ensures c.args.graph.now
-          (cut_at_first i.runs.goes.extends c.requires.search i.searches (rw i.runs.goes.mode at (c.evaluate_added.ensures.refuted (Since-later (ran i.runs) s) later refused)));
-      decided = λ s m b here can.
-          let before = i.decided s m b here can in
-          let next = next_goal (g.H.GoalHandler.handler s.base c.args.handler.now) m c.args.goals.now b c.loop-added.added-index _ i.runs.goes c.requires.posed here c.loop-added-test.true before.rest in
-          let there = decides_later m (bound_of c.args.depth) c.requires.search (ran i.runs) before.search (omega arith) can.deep can in
-          decides_then before.search (decides_error c.evaluate_added.result c.from_residual.result fails (λ no. (search rules)) next.no (c.evaluate_added.ensures.decided (Since-later (ran i.runs) s) m next.answer next.below there));
-    }
+evaluate_step-returns-in_err-answer = steps.evaluate_step-returns-in_err-answer
 
 pub evaluate_step-returns-in_err-note : goal.evaluate_step-returns-in_err-note
-evaluate_step-returns-in_err-note g t c =
-    let fails : is_err c.from_residual-in_err-note.result ≡ true = search rules in
-    record {
-      runs = Runs-trans c.loop-added.invariant.runs c.evaluate_added.ensures.runs;
-      searches = Searches-trans c.loop-added.invariant.searches c.evaluate_added.ensures.searches;
-      posed = IfOk-from_err c.from_residual-in_err-note.result _ fails;
-      left = IfOk-from_err c.from_residual-in_err-note.result _ fails;
-      labels = IfOk-from_err c.from_residual-in_err-note.result _ fails;
-      proved = λ s. IfOk-from_err c.from_residual-in_err-note.result _ fails;
-      sure = IfOk-from_err c.from_residual-in_err-note.result _ fails;
-      told = λ s tells.
-          let i = c.loop-added.invariant in
-          let e = c.in_ok-answer.ensures in
-          reach_more c.loop-added.table (g.H.GoalHandler.handler s.base c.args.handler.now) c.args.table.now.mode c.args.goals.now _ c.requires.posed (among_get c.args.goals.now c.loop-added.added-index _ c.loop-added-test.true) i.runs.goes.extends (i.told s tells) c.evaluate_added.new.table i.runs.goes.table e.runs.goes.extends (rw i.runs.goes.mode at (e.told (Since-later (ran i.runs) s) (heads_tell_later (g.H.GoalHandler.handler s.base c.args.handler.now) (bound_of c.args.depth) c.requires.search i.runs.goes.extends i.searches tells)));
-      refuted = search rules;
-      decided = λ s m b here can. decides_fault c.from_residual-in_err-note.result fails (search rules);
-    }
+evaluate_step-returns-in_err-note = steps.evaluate_step-returns-in_err-note
 
 pub probe_candidate-boxed_response-requires-clause-values : goal.probe_candidate-boxed_response-requires-clause-values
 probe_candidate-boxed_response-requires-clause-values = candidates.probe_candidate-boxed_response-requires-clause-values
@@ -754,130 +588,19 @@ search-returns-in-Some g t c =
     }
 
 pub try_evaluate_goals-evaluate_step-requires : goal.try_evaluate_goals-evaluate_step-requires
-try_evaluate_goals-evaluate_step-requires g t c =
-    λ κs k.
-    let i = c.loop-step.invariant in (
-      omega (arith, c.decreases),
-      (
-        k,
-        (
-          i.runs.goes.table,
-          (
-            rw c.deref.ensures.value i.posed,
-            (
-              g.met.H.GoalHandler.ready_kept _ _ _ c.requires.ready i.runs.goes.extends,
-              search_later (bound_of c.args.depth) (bound_of c.args.depth) (omega arith) c.requires.search i.searches,
-            ),
-          ),
-        ),
-      ),
-    )
+try_evaluate_goals-evaluate_step-requires = steps.try_evaluate_goals-evaluate_step-requires
 
 pub try_evaluate_goals-loop-step-init : goal.try_evaluate_goals-loop-step-init
-try_evaluate_goals-loop-step-init g t c = record {
-  runs = Runs-refl c.requires.table;
-  searches = Searches-refl (bound_of c.args.depth) c.requires.search (record { extends = Extends-refl _; rest = KeepsRest-refl _ });
-  steps = omega arith;
-  counted = refl;
-  posed = c.requires.posed;
-  left = left_refl _;
-  labels = only-refl _ _;
-  proved = λ s y i. inl i;
-  told = λ s tells. asks_nothing;
-  first = λ e. (refl, refl, refl, refl);
-  decided = λ s n b d can. refl;
-}
+try_evaluate_goals-loop-step-init = steps.try_evaluate_goals-loop-step-init
 
 pub try_evaluate_goals-loop-step-preserved : goal.try_evaluate_goals-loop-step-preserved
-try_evaluate_goals-loop-step-preserved g t c =
-    let i = c.loop-step.invariant in
-    let e = c.in_ok-stepped.ensures in
-    record {
-      runs = Runs-trans i.runs e.runs;
-      searches = Searches-trans i.searches e.searches;
-      steps = omega (arith, c.loop-step-test.true, c.step_limit-step-end.ensures);
-      counted = refl;
-      posed = e.posed;
-      left = left_trans i.left (rw c.deref.ensures.value at e.left);
-      labels = only-trans i.labels (only_left c.args.goals.now.items c.loop-step.goals.items i.runs.goes.extends c.requires.posed i.left (rw c.deref.ensures.value at e.labels));
-      proved = λ s.
-          let i = c.loop-step.invariant in
-          let e = c.in_ok-stepped.ensures in
-          settled_step (assumed_in c.loop-step.cx.nodes c.loop-step.graph) (assumed_in c.evaluate_step.new.cx.nodes c.evaluate_step.new.graph) (λ ts. g.H.GoalHandler.handler ts c.args.handler.now) s c.args.table.now.mode (goal_kind_of c.args.kind) c.args.goals.now.items c.loop-step.goals.items c.in_ok-stepped.stepped.left.items c.requires.posed i.runs.goes.extends e.runs.goes (search_covers (bound_of c.args.depth) (search_later (bound_of c.args.depth) (bound_of c.args.depth) (omega arith) c.requires.search i.searches) e.runs.goes.extends e.searches) (i.proved s) (rw (i.runs.goes.mode, c.deref.ensures.value) at (e.proved (Since-later (ran i.runs) s)));
-      told = λ s tells.
-          let i = c.loop-step.invariant in
-          let e = c.in_ok-stepped.ensures in
-          reach_step c.loop-step.table (g.H.GoalHandler.handler s.base c.args.handler.now) c.args.table.now.mode c.args.goals.now.items c.loop-step.goals.items c.requires.posed i.left i.runs.goes.extends (i.told s tells) c.evaluate_step.new.cx.nodes c.evaluate_step.new.table (rw (i.runs.goes.mode, c.deref.ensures.value) at (e.told (Since-later (ran i.runs) s) (heads_tell_later (g.H.GoalHandler.handler s.base c.args.handler.now) (bound_of c.args.depth) c.requires.search i.runs.goes.extends i.searches tells)));
-      first = λ e. absurd (omega (arith, e));
-      decided = λ s n b d can.
-          let first = i.first (i.decided s n b d can) in
-          let x = step_decided (g.H.GoalHandler.handler s.base c.args.handler.now) n b first.0 first.1 first.2 (rw c.deref.ensures.value first.3) d can (e.decided (Since-later (ran i.runs) s) n b) in
-          absurd (let more = c.if-not-stepped.false in let off = x.answer.1.1 in let clash = rw off at more in cc clash);
-    }
+try_evaluate_goals-loop-step-preserved = steps.try_evaluate_goals-loop-step-preserved
 
 pub try_evaluate_goals-returns : goal.try_evaluate_goals-returns
-try_evaluate_goals-returns g t c =
-    let i = c.loop-step.invariant in
-    record {
-      runs = i.runs;
-      searches = i.searches;
-      steps = i.steps;
-      counted = λ limit. (let all = i.counted in omega (arith, limit, all, c.loop-step-test.false, c.step_limit-step-end.ensures));
-      posed = i.posed;
-      left = i.left;
-      labels = i.labels;
-      proved = i.proved;
-      sure = search rules;
-      told = i.told;
-      refuted = search rules;
-      decided = λ s n b d can. (let first = i.decided s n b d can in absurd (omega (arith, first, can.steps, c.loop-step-test.false, c.step_limit-step-end.ensures)));
-    }
+try_evaluate_goals-returns = steps.try_evaluate_goals-returns
 
 pub try_evaluate_goals-returns-in_err-stepped : goal.try_evaluate_goals-returns-in_err-stepped
-try_evaluate_goals-returns-in_err-stepped g t c =
-    let i = c.loop-step.invariant in
-    let fails : is_err c.from_residual.result ≡ true = search rules in
-    record {
-      runs = Runs-trans c.loop-step.invariant.runs c.evaluate_step.ensures.runs;
-      searches = Searches-trans c.loop-step.invariant.searches c.evaluate_step.ensures.searches;
-      steps = search rules;
-      counted = λ limit. omega arith;
-      posed = posed_later c.loop-step.goals.items c.evaluate_step.ensures.runs.goes c.loop-step.invariant.posed;
-      left = c.loop-step.invariant.left;
-      labels = IfOk-from_err c.from_residual.result _ fails;
-      proved = λ s. IfOk-from_err c.from_residual.result _ fails;
-      sure = search rules;
-      told = λ s tells. reach_step c.loop-step.table (g.H.GoalHandler.handler s.base c.args.handler.now) c.args.table.now.mode c.args.goals.now.items c.loop-step.goals.items c.requires.posed i.left i.runs.goes.extends (i.told s tells) c.evaluate_step.new.cx.nodes c.evaluate_step.new.table (rw (i.runs.goes.mode, c.deref.ensures.value) at (c.evaluate_step.ensures.told (Since-later (ran i.runs) s) (heads_tell_later (g.H.GoalHandler.handler s.base c.args.handler.now) (bound_of c.args.depth) c.requires.search i.runs.goes.extends i.searches tells)));
-      refuted = λ s tells n.
-          let h = g.H.GoalHandler.handler s.base c.args.handler.now in
-          let refused : c.evaluate_step.result ≡ Err EvalError.NoSolution = search rules in
-          let search = c.requires.search in
-          stop_step c.loop-step.table h c.args.table.now.mode c.args.goals.now.items c.loop-step.goals.items c.requires.posed i.left i.runs.goes.extends (i.told s tells) c.args.graph.now c.loop-step.graph c.args.kind search.stack search.heads (let y = i.searches in y.later)
-          (rw (i.runs.goes.mode, c.deref.ensures.value) at (c.evaluate_step.ensures.refuted (Since-later (ran i.runs) s) (heads_tell_later (g.H.GoalHandler.handler s.base c.args.handler.now) (bound_of c.args.depth) c.requires.search i.runs.goes.extends i.searches tells) refused));
-      decided = λ s n b d can.
-          let first = i.first (i.decided s n b d can) in
-          let x = step_decided (g.H.GoalHandler.handler s.base c.args.handler.now) n b first.0 first.1 first.2 (rw c.deref.ensures.value first.3) d can (c.evaluate_step.ensures.decided (Since-later (ran i.runs) s) n b) in
-          decides_error c.evaluate_step.result c.from_residual.result fails (λ no. (search rules)) (λ no. no) x;
-    }
+try_evaluate_goals-returns-in_err-stepped = steps.try_evaluate_goals-returns-in_err-stepped
 
 pub try_evaluate_goals-returns-then-not-stepped : goal.try_evaluate_goals-returns-then-not-stepped
-try_evaluate_goals-returns-then-not-stepped g t c =
-    let i = c.loop-step.invariant in
-    let e = c.in_ok-stepped.ensures in
-    record {
-      runs = Runs-trans c.loop-step.invariant.runs c.in_ok-stepped.ensures.runs;
-      searches = Searches-trans c.loop-step.invariant.searches c.in_ok-stepped.ensures.searches;
-      steps = search rules;
-      counted = λ limit. omega arith;
-      posed = search rules;
-      left = left_trans i.left (rw c.deref.ensures.value at c.in_ok-stepped.ensures.left);
-      labels = only-trans i.labels (only_left c.args.goals.now.items c.loop-step.goals.items i.runs.goes.extends c.requires.posed i.left (rw c.deref.ensures.value at c.in_ok-stepped.ensures.labels));
-      proved = λ s. settled_step (assumed_in c.loop-step.cx.nodes c.loop-step.graph) (assumed_in c.evaluate_step.new.cx.nodes c.evaluate_step.new.graph) (λ ts. g.H.GoalHandler.handler ts c.args.handler.now) s c.args.table.now.mode (goal_kind_of c.args.kind) c.args.goals.now.items c.loop-step.goals.items c.in_ok-stepped.stepped.left.items c.requires.posed i.runs.goes.extends e.runs.goes (search_covers (bound_of c.args.depth) (search_later (bound_of c.args.depth) (bound_of c.args.depth) (omega arith) c.requires.search i.searches) e.runs.goes.extends e.searches) (i.proved s) (rw (i.runs.goes.mode, c.deref.ensures.value) at (e.proved (Since-later (ran i.runs) s)));
-      sure = search rules;
-      told = λ s tells. reach_step c.loop-step.table (g.H.GoalHandler.handler s.base c.args.handler.now) c.args.table.now.mode c.args.goals.now.items c.loop-step.goals.items c.requires.posed i.left i.runs.goes.extends (i.told s tells) c.evaluate_step.new.cx.nodes c.evaluate_step.new.table (rw (i.runs.goes.mode, c.deref.ensures.value) at (e.told (Since-later (ran i.runs) s) (heads_tell_later (g.H.GoalHandler.handler s.base c.args.handler.now) (bound_of c.args.depth) c.requires.search i.runs.goes.extends i.searches tells)));
-      refuted = search rules;
-      decided = λ s n b d can.
-          let first = i.first (i.decided s n b d can) in
-          let x = step_decided (g.H.GoalHandler.handler s.base c.args.handler.now) n b first.0 first.1 first.2 (rw c.deref.ensures.value first.3) d can (e.decided (Since-later (ran i.runs) s) n b) in
-          record { answer = (x.answer.0, x.answer.1.0); search = x.search };
-    }
+try_evaluate_goals-returns-then-not-stepped = steps.try_evaluate_goals-returns-then-not-stepped
