@@ -186,6 +186,6 @@ IsRoundYes (Some r) = IsYes r.value.certainty
 abbrev pub IsFact : Handler → TypingMode → List Tree → Table → Goal → Type 0
 IsFact h mode ts t g = (let c = content_of ts t.entries in IsFactIn h (mode_of mode) c (deeply_resolved c (tree_at ts g.param_env.node)) (deeply_resolved c (tree_at ts g.predicate.node)))
 
--- .. and no values meet another one
+-- the goal as the table knows it has a fact, and no values meet another candidate that is offered for it
 abbrev pub IsOnlyFact : Handler → TypingMode → List Tree → Table → Goal → Type 0
 IsOnlyFact h mode ts t g = (let c = content_of ts t.entries in IsOnlyFactIn h (mode_of mode) c (deeply_resolved c (tree_at ts g.param_env.node)) (deeply_resolved c (tree_at ts g.predicate.node)))
