@@ -1,80 +1,33 @@
 -- Longer answers for the functions that ask goals in steps.
-use Rattle.std.proofs.Common.{◌≡◌, inl, inr, Err, Ok, arith, rules, ◌+◌, ◌≤◌, map, length, take, get_or, refl, ap, sym, ◌∙◌, subst, length-append, [], ◌∷◌, true, false, ◌++◌}
-use Rattle.std.specs.Prelude.{is_some, IfSome}
+use Rattle.std.proofs.Common.{◌≡◌, inl, inr, Err, arith, rules, ◌+◌, ◌≤◌, take, get_or, refl, ap, sym, ◌∙◌, subst, [], ◌∷◌, true, ◌++◌}
 use Rattle.std.proofs.lemmas.List.{take_all, take_more}
-use Rattle.nts_model.specs.Lists.{Among}
-use Rattle.nts_model.specs.Derivations.Handlers.{meaning}
 use Rattle.nts_model.proofs.Tables.Bringing.{only-trans, only-refl}
 use Rattle.nts_certainty.specs.declared.sources.GoalSource.{GoalSource}
-use Rattle.nts_store.specs.Growth.{tree_at, AllIn}
-use Rattle.nts_store.proofs.Growing.{Extends-trans, Extends-refl}
+use Rattle.nts_store.proofs.Growing.{Extends-refl}
 use Rattle.nts_terms.specs.declared.handles.Goal.{Goal}
-use Rattle.nts_terms.specs.Modes.{mode_of}
-use Rattle.nts_terms.proofs.Moved.{KeepsRest-trans, KeepsRest-refl}
-use Rattle.nts_unify.specs.Reading.{content_of}
+use Rattle.nts_terms.proofs.Moved.{KeepsRest-refl}
 use Rattle.nts_unify.specs.Lawful.{content_of-extended}
-use Rattle.nts_table.specs.TableLaws.{IsTable-extended}
-use Rattle.nts_delegate.specs.Offered.{certainty_of, candidate_of, premise_of, path_kind_of, candidates_of}
 use Rattle.nts_delegate.proofs.Results.{IfOk-map, OnOk-map}
-use Rattle.nts_canonical.specs.Building.{kinds_of}
-use Rattle.nts_canonical.specs.Forms.{trees_of, form_of}
-use Rattle.nts_response.specs.Forms.{response_at}
-use Rattle.nts_asking.specs.Meant.{Since, meaning_since, IsProvedNow, IsNestedSince}
+use Rattle.nts_asking.specs.Meant.{IsNestedSince}
 use Rattle.nts_trying.specs.Stepping.{AreLeft, AreSettled, bound_of, none_left}
 use Rattle.nts_theory.specs.Telling.Reaches.{asks_nothing}
-use Rattle.nts_asking.proofs.Asking.{IsAskedGoal-extended, kind_asked}
-use Rattle.nts_asking.proofs.AskedGoals.{trees_kept, ok_both, ok_two, args_there, applicable, evaluates, evaluates_at, was_asked, asked_stays, asked_labels, query_cut, response_refused, ok_three}
+use Rattle.nts_asking.proofs.AskedGoals.{evaluates_at}
 use Rattle.nts_asking.proofs.Cuts.{cut_at_first}
-use Rattle.nts_asking.proofs.AnsweredQueries.{first_entries, query_environment, query_predicate, args_later}
-use Rattle.nts_trying.proofs.Labels.{only_earlier, only_back, only_same, only_resolved, content_same}
-use Rattle.nts_asking.proofs.Evaluating.{Goes-trans, Goes-extends, Runs-trans, Runs-extends, Runs-refl, rolled_back, Since-later, offers-kept, IsPosed-later, AreValues-later, IsCandidate-extended, candidate_at, goes-back, HoldsGoal-extended}
+use Rattle.nts_trying.proofs.Labels.{only_resolved}
+use Rattle.nts_asking.proofs.Evaluating.{Goes-trans, Goes-extends, Runs-trans, Runs-extends, Runs-refl, Since-later, IsPosed-later}
 use Rattle.nts_trying.proofs.Stepping.{among_get, posed_later, posed_left, only_one, only_left, reach_more, reach_still, after_error, stop_more, reach_step, stop_step, left_trans, settled_step, left_more, settled_proved, sure_more, left_refl}
-use Rattle.nts_asking.proofs.Running.{term_table, unread, HasRun, has_run, both_sure, constraints-kept, offered_there, Equates-later, Constrains-later}
-use Rattle.nts_canonical.specs.declared.types.Canonical.{Canonical}
-use Rattle.nts_response.specs.declared.types.Response.{Response}
-use Rattle.nts_terms.specs.Handles.{HoldsGoal}
-use Rattle.nts_store.specs.Kept.{map-kept, AllIn-kept}
-use Rattle.nts_theory.specs.Telling.{IsPlainResponse, SaysNothing}
-use Rattle.nts_theory.specs.Telling.Tells.{tells_nothing, says_nothing}
-use Rattle.nts_theory.specs.Telling.Fails.{is_unmet}
-use Rattle.nts_trying.proofs.Opened.{told_through, told_offered, refuted_through, nothing_through, labels_through, labels_entered, proved_through, opened_holds}
-use Rattle.nts_trying.proofs.Probed.{found_in, found_still, found_fits, found_derived, went_in, plain_of, doubtful, not_kept, says_found, says_before, run_replies}
-use Rattle.nts_trying.proofs.Outcomes.{found_earlier, founds_more, founds_with, outcomes_first, outcomes_more, found_merged, told_merged, failed_of}
-use Rattle.nts_trying.proofs.Ran.{added_is, added_only, ran_to, ran_refused, all_proved, all_posed, proved_all, ok_inside}
-use Rattle.nts_model.specs.Derivations.Rules.{goal_kind}
-use Rattle.nts_model.specs.Derivations.Proofs.{passed}
-use Rattle.nts_theory.proofs.Derivations.Assuming.{covers_passed}
+use Rattle.nts_asking.proofs.Running.{unread}
 use Rattle.nts_search.specs.Kinds.{goal_kind_of}
-use Rattle.nts_search.specs.Searching.{entry_at, entries_at}
-use Rattle.nts_search.proofs.Stacked.{entries_pushed, entries_popped}
-use Rattle.nts_asking.specs.Searching.{HeadsTell, IsAnswerTold, IsHeadAnswer, assumed_in}
-use Rattle.nts_asking.proofs.Searching.{Searches-refl, Searches-trans, search_later, search_grown, search_grows, search_covers, covers_grown, stays_more, served_more, tell_grown, heads_tell_later, search_counted, search_marked, search_marked_again, input_stands, head_answer_later, answer_told_later, form_later, input_later, later_long, goal_cut_earlier}
-use Rattle.nts_search.specs.declared.stack.StackEntry.{StackEntry}
-use Rattle.nts_canonical.specs.declared.types.CanonicalInput.{CanonicalInput}
-use Rattle.nts_asking.specs.Answering.{IsAnswerTo, is_yes}
-use Rattle.nts_model.specs.Searching.Stacks.{IsDerivedFrom, IsProvedFrom, assumptions}
-use Rattle.nts_trying.specs.Found.{Found}
-use Rattle.nts_model.specs.Answers.Responses.{answer_sequent}
-use Rattle.nts_asking.proofs.Rounds.{search_noted, own_asked, own_form, entry_held, round_proved, round_told, grown, ran, search_then, entry_of, holds_answer, search_pushed, tell_pushed, search_same, search_popped, round_closes, last_fits, last_told, last_refuted, last_each, cycle_told, cycle_refuted, cycle_derived, first_fits, first_told, round_ends, ended_entry}
-use Rattle.nts_delegate.specs.Relevant.{LeavesOut}
-use Rattle.nts_trying.proofs.LeftOut.{all_outcomes, kept_offered}
-use Rattle.nts_asking.specs.declared.round.Round.{Round}
+use Rattle.nts_asking.specs.Searching.{assumed_in}
+use Rattle.nts_asking.proofs.Searching.{Searches-refl, Searches-trans, search_later, search_grows, search_covers, tell_grown, heads_tell_later, search_marked, goal_cut_earlier}
+use Rattle.nts_asking.proofs.Rounds.{ran, search_then}
 use Rattle.nts_certainty.specs.declared.sources.GoalSource.TheVariants as source
 use Rattle.nts_store.specs.declared.fault.EvalError.TheVariants as EvalError
-use Rattle.nts_certainty.specs.declared.certainty.Certainty.TheVariants as certainty
 use Rattle.std.specs.Result.{is_err}
 use Rattle.std.proofs.lemmas.Result.{IfOk-from_err}
-use Rattle.nts_evaluation.proofs.Failing.{query_failed, goal_failed, try_failed}
 use Rattle.nts_evaluation.proofs.evaluate.+evaluate.Goals.{search-then-graph, search-else-graph}
-use Rattle.nts_evaluation.proofs.Deciding.{decides_fault, decides_error, decides_refused, decides_then, decides_grown, decides_later, same_search, then_same}
-use Rattle.nts_evaluation.proofs.DecidedCandidates.{all_merged, facts_merged}
-use Rattle.nts_asking.proofs.Searching.{nothing_stands}
-use Rattle.nts_evaluation.proofs.FactQueries.{fact_query}
-use Rattle.nts_evaluation.proofs.FactTrials.{fact_asked}
-use Rattle.nts_evaluation.proofs.DecidedTrials.{refused_no}
-use Rattle.nts_evaluation.proofs.DecidedGoals.{is_opened, is_asked_here}
-use Rattle.nts_evaluation.proofs.DecidedRounds.{stands_high, as_query, marked_again}
-use Rattle.nts_evaluation.proofs.DecidedSteps.{IsStepSoFar, next_goal, at_end, step_decided}
+use Rattle.nts_evaluation.proofs.Deciding.{decides_fault, decides_error, decides_then, decides_later, same_search, then_same}
+use Rattle.nts_evaluation.proofs.DecidedSteps.{next_goal, at_end, step_decided}
 use Rattle.nts_trying.specs.Stepping.{left_after}
 use Rattle.nts_evaluation.proofs.evaluate.+evaluate.Goals as goal
 
