@@ -15,7 +15,6 @@ ghost use Rattle.nts_explaining.specs.declared.kinds.Reason.TheVariants.{Conditi
 use crate::conditions::{Outcome, ask_conditions};
 use crate::equations::unmet_equation;
 use crate::kinds::Reason;
-
 use nts_asking::resolve_goal;
 use nts_certainty::{Certainty, GoalSource};
 use nts_delegate::{CandidateData, GoalHandler};
