@@ -147,7 +147,7 @@ pulled_values ρ p [] (v ∷ vs) h = absurd h
 pulled_values ρ p (s ∷ ss) [] h = absurd h
 pulled_values ρ p (s ∷ ss) (v ∷ vs) h = (
   let k = h.0 in
-  let r = pulled_value ρ p (kind_of_sort s) v (record { fits = k.fits; closed = k.closed; formed = k.formed }) in
+      let r = pulled_value ρ p (kind_of_sort s) v (record { fits = k.fits; closed = k.closed; formed = k.formed }) in
       record { fits = r.fits; formed = r.formed; closed = r.closed },
   pulled_values ρ p ss vs h.1,
 )

@@ -225,7 +225,7 @@ values_swapped l v n e [] (t ∷ ts) h = absurd h
 values_swapped l v n e (s ∷ ss) [] h = absurd h
 values_swapped l v n e (s ∷ ss) (t ∷ ts) h = (
   let k = h.0 in
-  let r = value_swapped l v n e (kind_of_sort s) t (apart_sort l s t) (record { fits = k.fits; closed = k.closed; formed = k.formed }) in
+      let r = value_swapped l v n e (kind_of_sort s) t (apart_sort l s t) (record { fits = k.fits; closed = k.closed; formed = k.formed }) in
       record { fits = r.fits; formed = r.formed; closed = r.closed },
   values_swapped l v n e ss ts h.1,
 )

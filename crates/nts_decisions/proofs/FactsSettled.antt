@@ -125,7 +125,6 @@ module _ (c : Content) (xs : List Leaf) (e g : Tree) (query : IsFirstQuery c xs 
     goal_terms : AreGoalTerms c l x
     goal_terms = record { equations = λ q i. sides_over q (offered.equations q i); constraints = λ y i. (let h = offered.constraints y i in (goal_term y.left h.0, goal_term y.right h.1)) }
 
-
     -- a variable of numbers is another term
     no_number : (j : VariableKind) (m : ℕ) → (leaf.Variable j m ≡ leaf.Variable k n → ⊥) → kind_at c m ≡ Some j → label_of (deeply_resolved met (leaf_tree (leaf.Variable j m))) ≡ Some (label.Leaf l) → ⊥
     no_number j m differs at q = differs (alone (leaf.Variable j m) (query.all j m at) q)
