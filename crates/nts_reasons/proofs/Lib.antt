@@ -1,0 +1,6 @@
+pub mod Does
+pub mod Holding
+pub mod Noting
+pub mod Runs
+pub mod Telling
+pub mod Worded
