@@ -1,5 +1,6 @@
 pub mod Does
 pub mod Holding
+pub mod Lining
 pub mod Noting
 pub mod Runs
 pub mod Telling

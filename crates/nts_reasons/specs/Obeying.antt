@@ -1,5 +1,6 @@
 -- What the lines of a run do, and which of them are noted.
-use Rattle.std.specs.Prelude.{◌≡◌, ◌⊎◌, ℕ, List, [], ◌∷◌, Option, None, Some}
+use Rattle.std.specs.Prelude.{◌≡◌, ◌⊎◌, ℕ, List, [], ◌∷◌, length, Option, None, Some}
+use Rattle.nts_delegate.specs.Clauses.{clauses_of}
 use Rattle.nts_text.specs.Commands.{IsCommandOf}
 use Rattle.nts_text.specs.Spelled.{KeepsNumbers}
 use Rattle.nts_text.specs.declared.commands.Command.{Command}
@@ -36,6 +37,10 @@ lines_for l (Some t) = lines_of l t
 pub record IsNewExplainer (e : Explainer) : Type 0 where
   pub program : IsNewProgram e.program
   pub lines : (i : ℕ) → lines_of e.lines i ≡ []
+
+-- each clause has its line: a trait has as many lines as clauses, and both are in the order in which they were added
+abbrev pub HasLines : Explainer → Type 0
+HasLines e = (t : ℕ) → length (lines_of e.lines t) ≡ length (clauses_of e.program.clauses t)
 
 -- the line of an impl is noted for the trait of its head, and that of no other command
 abbrev pub Notes : ImplLines → ImplLines → ℕ → Command → Type 0

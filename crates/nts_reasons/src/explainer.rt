@@ -8,7 +8,7 @@ ghost use Rattle.nts_terms.specs.Rest.{Grows};
 ghost use Rattle.nts_text.specs.Lines.{IsPassedOver};
 ghost use Rattle.nts_wording.specs.Growing.{Begins};
 ghost use Rattle.nts_wording.specs.Statuses.{is_refusal};
-ghost use Rattle.nts_reasons.specs.Obeying.{trait_of, lines_for, IsNewExplainer, DoesCommand, IsObeyed, Notes};
+ghost use Rattle.nts_reasons.specs.Obeying.{trait_of, lines_for, IsNewExplainer, HasLines, DoesCommand, IsObeyed, Notes};
 ghost use Rattle.nts_reasons.specs.Running.{is_yes, HasMoreTerms, HasReasons, AreReasonsOf, IsReasonedPut, IsTold};
 
 use crate::impl_lines::ImplLines;
@@ -44,6 +44,7 @@ impl Explainer {
     pub fn new(alloc: Global) -> Self
         ensures ready { AreClausesReady result.program.cx.nodes result.program.clauses }
         ensures new { IsNewExplainer result }
+        ensures lines { HasLines result }
     {
         Explainer {
             program: Program::new(alloc),
@@ -59,6 +60,7 @@ impl Explainer {
         ensures passed { IfOk result (λ o. IsPassedOver line.now → IsNone o) }
         ensures refused { OnErr result (IsPassedOver line.now → ⊥) }
         ensures obeyed { IfOk result (IsObeyed number line.now self.old self.new) }
+        ensures lines { OnOk result (HasLines self.old → HasLines self.new) }
     {
         let program = &mut self.program;
         match read_command(program.alloc, line, &mut program.names, &mut program.scope)? {

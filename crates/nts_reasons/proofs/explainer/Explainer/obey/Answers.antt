@@ -1,6 +1,7 @@
 use Rattle.std.proofs.Common.{refl, inl}
 use Rattle.std.specs.Prelude.{Result, Ok, Err, IfOk, OnErr}
 use Rattle.nts_reasons.proofs.Does.{obeyed}
+use Rattle.nts_reasons.proofs.Lining.{lines_kept}
 use Rattle.nts_reasons.proofs.explainer.Explainer.obey.Goals as goal
 
 never_passed : {X E : Type 0} (P : Type 0) (Q : X → Type 0) (r : Result X E) → (P → ⊥) → IfOk r (λ o. P → Q o)
@@ -32,3 +33,6 @@ returns-in-None-clause-obeyed c =
       passes = record { passed = passed.0 refl; cx = refl; rules = record { clauses = refl; mode = refl; env = refl }; names = names refl; parameters = e.parameters; silent = refl };
       lines = refl;
     })
+
+pub returns-in-Some-clause-lines : goal.returns-in-Some-clause-lines
+returns-in-Some-clause-lines c = lines_kept c.follow.result c.args.number c.args.line.now c.args.self.now c.follow.new.self (returns-in-Some-clause-obeyed c)
