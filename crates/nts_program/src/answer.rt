@@ -7,7 +7,7 @@ ghost use Rattle.nts_terms.specs.Handles.{HoldsGoal};
 ghost use Rattle.nts_delegate.specs.Clauses.{AreClausesReady};
 ghost use Rattle.nts_asking.specs.Evaluation.{IsAdmitted, AreOfSorts};
 ghost use Rattle.nts_certainty.specs.declared.certainty.Certainty.TheVariants as certainty;
-ghost use Rattle.nts_program.specs.Proving.{IsTypingMode, IsProvedGoal, IsJustifiedAnswer};
+ghost use Rattle.nts_program.specs.Proving.{IsTypingMode, IsProvedGoal, IsJustifiedAnswer, IsPosedLine};
 ghost use Rattle.nts_wording.specs.Found.{IsKnownValue};
 ghost use Rattle.nts_wording.specs.Meaning.{AreVariablesFrom};
 ghost use Rattle.nts_store.specs.Growth.{tree_at};
@@ -37,6 +37,46 @@ fn typing_mode(alloc: Global, mode: Mode) -> TypingMode
     }
 }
 
+/// The goal that a line asks, in a table of its own.
+#[derive(Drop)]
+pub struct Posed {
+    /// The variables of the line.
+    pub variables: LineVariables,
+    /// A table that knows nothing but variables, one for each of the line's.
+    pub table: InferCtxt,
+    /// What the line's variables stand for, each at the variable's place.
+    pub values: Vec<GenericArg>,
+    pub goal: Goal,
+}
+
+/// The goal that these nodes say in this environment, or in the empty one, of new variables in a new table.
+#[tactic(auto, using(crate::proofs::Asking::asking))]
+pub fn pose(
+    cx: &mut Cx,
+    env: Option<ParamEnv>,
+    mode: Mode,
+    nodes: &[Resolved],
+) -> Result<Posed, Stop>
+    ensures posed { IfOk result (IsPosedLine mode env nodes.now cx.new.nodes) }
+    ensures grows { Grows cx.old cx.new }
+{
+    let mut variables = LineVariables::new(cx.alloc);
+    variables.see(nodes)?;
+    let mut table = InferCtxt::new(cx.alloc, typing_mode(cx.alloc, mode));
+    let values = fresh_values(&mut table, cx, &variables.sorts)?;
+    let terms = Terms {
+        variables: &variables,
+        values: &values,
+    };
+    let goal = goal_of(cx, env, nodes, terms)?;
+    Ok(Posed {
+        variables,
+        table,
+        values,
+        goal,
+    })
+}
+
 /// Asks a goal in this environment, or in the empty one, with its clauses and these as the rules.
 #[tactic(auto, using(crate::proofs::Asking::asking))]
 pub fn ask(
@@ -51,18 +91,12 @@ pub fn ask(
         clauses.now) }
     ensures grows { Grows cx.old cx.new }
 {
-    let mut variables = LineVariables::new(cx.alloc);
-    variables.see(nodes)?;
-    let mut table = InferCtxt::new(cx.alloc, typing_mode(cx.alloc, mode));
-    let values = fresh_values(&mut table, cx, &variables.sorts)?;
-    let terms = Terms {
-        variables: &variables,
-        values: &values,
-    };
-    let goal = goal_of(cx, env, nodes, terms)?;
-    match evaluated(&mut table, cx, clauses, goal, &values)? {
+    let posed = pose(cx, env, mode, nodes)?;
+    let mut table = posed.table;
+    let values = posed.values;
+    match evaluated(&mut table, cx, clauses, posed.goal, &values)? {
         None => Ok(Answer::No),
-        Some(Certainty::Yes) => answer_of(&table, cx, variables, &values),
+        Some(Certainty::Yes) => answer_of(&table, cx, posed.variables, &values),
         Some(Certainty::Maybe(info)) => match info.cause {
             MaybeCause::Ambiguity => Ok(Answer::Ambiguity),
             MaybeCause::Overflow { .. } => Ok(Answer::Overflow),

@@ -10,6 +10,7 @@ mod answer;
 mod program;
 mod running;
 
+pub use answer::{Posed, pose};
 pub use nts_wording::{Status, Stop};
 pub use program::Program;
 pub use running::run;

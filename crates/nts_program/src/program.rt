@@ -65,7 +65,7 @@ impl Program {
         ensures step { OnOk result (IsInStep self.old → IsInStep self.new) }
     {
         match read_command(self.alloc, line, &mut self.names, &mut self.scope)? {
-            Some(command) => self.follow(command),
+            Some(command) => self.follow(&command),
             None => Ok(None),
         }
     }
@@ -88,45 +88,45 @@ impl Program {
         )
     }
 
-    /// Does what a command says, likewise.
+    /// Does what a command says, likewise. Its names are those that are declared, and its variables those of the last line.
     #[tactic(auto, using(crate::proofs::Asking::keeping))]
-    fn follow(&mut self, command: Command) -> Result<Option<Answer>, Stop>
+    pub fn follow(&mut self, command: &Command) -> Result<Option<Answer>, Stop>
         requires ready { AreClausesReady self.old.cx.nodes self.old.clauses }
         ensures ready { OnOk result (AreClausesReady self.new.cx.nodes self.new.clauses) }
         ensures names { self.new.names ≡ self.old.names }
         ensures scope { self.new.scope ≡ self.old.scope }
-        ensures follows { IfOk result (Follows self.old self.new command) }
+        ensures follows { IfOk result (Follows self.old self.new command.now) }
     {
         match command {
             Command::Mode(mode) => {
-                self.mode = mode;
+                self.mode = *mode;
                 Ok(None)
             }
             Command::Depth(depth) => {
-                self.cx.set_recursion_limit(usize::from(depth));
+                self.cx.set_recursion_limit(usize::from(*depth));
                 Ok(None)
             }
             Command::Type { params, .. } => {
-                self.declare_type(&params)?;
+                self.declare_type(params)?;
                 Ok(None)
             }
             Command::Trait {
                 number,
                 coinductive,
             } => {
-                self.declare_trait(number, coinductive)?;
+                self.declare_trait(*number, *coinductive)?;
                 Ok(None)
             }
             Command::Impl { head, body } => {
-                self.add_impl(&head, &body)?;
+                self.add_impl(head, body)?;
                 Ok(None)
             }
             Command::Goal(nodes) => {
-                let answer = ask(&mut self.cx, &self.clauses, self.env, self.mode, &nodes)?;
+                let answer = ask(&mut self.cx, &self.clauses, self.env, self.mode, nodes)?;
                 Ok(Some(answer))
             }
             Command::Env(nodes) => {
-                self.assume(&nodes)?;
+                self.assume(nodes)?;
                 Ok(None)
             }
         }

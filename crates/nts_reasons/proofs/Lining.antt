@@ -1,0 +1,87 @@
+-- Lines are in step with clauses.
+use Rattle.std.proofs.Common.{◌≡◌, ◌⊎◌, ℕ, ◌==◌, ◌+◌, Bool, true, false, if◌then◌else◌, List, [], ◌∷◌, ◌++◌, length, length-append, Option, None, Some, Result, Ok, Err, inl, inr, refl, sym, ap, subst, ◌∙◌, arith}
+use Rattle.std.specs.Prelude.{IfOk, OnOk}
+use Rattle.nts_model.specs.declared.labels.ClauseHead.TheVariants as clause
+use Rattle.nts_model.specs.declared.labels.Label.TheVariants as label
+use Rattle.nts_model.specs.declared.labels.Sort.{Sort}
+use Rattle.nts_model.specs.Terms.Trees.{Tree, node}
+use Rattle.nts_delegate.specs.Adding.{AddsClause}
+use Rattle.nts_delegate.specs.Clauses.{clauses_of}
+use Rattle.nts_delegate.specs.declared.clauses.Clause.{Clause}
+use Rattle.nts_text.specs.declared.commands.Command.{Command}
+use Rattle.nts_text.specs.declared.commands.Command.TheVariants as commands
+use Rattle.nts_text.specs.declared.resolver.Resolved.{Resolved}
+use Rattle.nts_text.specs.declared.resolver.Resolved.TheVariants as nodes
+use Rattle.nts_wording.specs.Meaning.{Values, BoundStatement, binding_first, binding_nothing, nodes_meaning, head_of, values_in, IsRuleOf}
+use Rattle.nts_program.specs.Obeying.{Follows}
+use Rattle.nts_reasons.specs.declared.explainer.Asked.{Asked}
+use Rattle.nts_reasons.specs.declared.explainer.Explainer.{Explainer}
+use Rattle.nts_reasons.specs.ImplLines.{lines_of, NotesLine}
+use Rattle.nts_reasons.specs.Obeying.{trait_of, answer_of, HasLines, Notes, IsObeyed}
+
+-- the number of the trait that a statement is about
+abbrev number_of : Tree → ℕ
+number_of (node (label.Clause (clause.Trait n)) ts) = n
+number_of t = 0
+
+-- what is bound first is bound in the first predicate
+record HasFirst (ps : List BoundStatement) (b : BoundStatement) : Type 0 where
+  first : BoundStatement
+  others : List BoundStatement
+  are : ps ≡ first ∷ others
+  same : first.statement ≡ b.statement
+
+first_bound : (s : Sort) (ps : List BoundStatement) (b : BoundStatement) (bs : List BoundStatement) → binding_first s ps ≡ b ∷ bs → HasFirst ps b
+first_bound s [] b bs e = cc
+first_bound s (p ∷ ps) b bs e =
+    let same : record p { binds = s ∷ p.binds } ≡ b = cc in
+    record { first = p; others = ps; are = refl; same = ap (λ x. x.statement) same }
+
+-- the first predicate is about the first trait that nodes name
+first_named : (v : Values) (rs : List Resolved) (b : BoundStatement) (bs : List BoundStatement) → (nodes_meaning v rs).predicates ≡ b ∷ bs → trait_of rs ≡ Some (number_of b.statement)
+first_named v [] b bs e = cc
+first_named v (nodes.Binds s ∷ rs) b bs e =
+    let h = first_bound s (nodes_meaning v rs).predicates b bs e in
+    first_named v rs h.first h.others h.are ∙ ap (λ t. Some (number_of t)) h.same
+first_named v (nodes.Trait i n ∷ rs) b bs e = ap (λ ps. first_number ps) e
+  where
+    first_number : List BoundStatement → Option ℕ
+    first_number [] = None
+    first_number (p ∷ ps) = Some (number_of p.statement)
+first_named v (r ∷ rs) b bs e = first_named v rs b bs e
+
+-- the trait of a clause is the one that the words of its head name
+trait_of-rule : (ts : List Tree) (head body : List Resolved) (c : Clause) → IsRuleOf ts head body c → trait_of head ≡ Some c.trait_id.number
+trait_of-rule ts head body c h = first_named (values_in ts h.variables h.values) head (binding_nothing (head_of ts c)) [] h.head
+
+one_more : {A : Type 0} (b : Bool) (ls : List ℕ) (cs : List A) (l : ℕ) (c : A) → length ls ≡ length cs → length (if b then ls ++ l ∷ [] else ls) ≡ length (if b then cs ++ c ∷ [] else cs)
+one_more true ls cs l c h = omega (arith, h, length-append ls (l ∷ []), length-append cs (c ∷ []))
+one_more false ls cs l c h = h
+
+same_lines : (a b : Explainer) → b.lines ≡ a.lines → ((i : ℕ) → clauses_of b.program.clauses i ≡ clauses_of a.program.clauses i) → HasLines a → HasLines b
+same_lines a b l c h = λ i. ap (λ x. length (lines_of x i)) l ∙ h i ∙ sym (ap length (c i))
+
+module _ (a b : Explainer) (n : ℕ) where
+  by_rule : (c : Clause) (t : ℕ) → t ≡ c.trait_id.number → AddsClause a.program.clauses b.program.clauses c → NotesLine a.lines b.lines t n → HasLines a → HasLines b
+  by_rule c t same adds notes h = λ i.
+      ap length (notes i) ∙ ap (λ k. length (if i == k then lines_of a.lines i ++ n ∷ [] else lines_of a.lines i)) same
+      ∙ one_more (i == c.trait_id.number) (lines_of a.lines i) (clauses_of a.program.clauses i) n c (h i) ∙ sym (ap length (adds.clauses i))
+
+  by_command : (command : Command) (o : Option Asked) → Follows a.program b.program command (answer_of o) → Notes a.lines b.lines n command → HasLines a → HasLines b
+  by_command (commands.Mode m) o f k h = same_lines a b k (λ i. ap (λ x. clauses_of x i) f.2) h
+  by_command (commands.Depth d) o f k h = same_lines a b k (λ i. ap (λ x. clauses_of x i) f.1.clauses) h
+  by_command (commands.Type t ps) o f k h = same_lines a b k (λ i. ap (λ x. clauses_of x i) f.1.clauses) h
+  by_command (commands.Trait t true) o f k h = same_lines a b k f.1.clauses h
+  by_command (commands.Trait t false) o f k h = same_lines a b k (λ i. ap (λ x. clauses_of x i) f.1.clauses) h
+  by_command (commands.Impl head body) o f k h =
+      let e : Some k.0 ≡ Some f.0.trait_id.number = sym k.1 ∙ trait_of-rule b.program.cx.nodes head.items body.items f.0 f.2 in
+      let same : k.0 ≡ f.0.trait_id.number = cc in
+      by_rule f.0 k.0 same f.1 k.2 h
+  by_command (commands.Goal rs) o f k h = same_lines a b k (λ i. ap (λ x. clauses_of x i) f.4.clauses) h
+  by_command (commands.Env rs) o f k h = same_lines a b k (λ i. ap (λ x. clauses_of x i) f.2) h
+
+-- a line that is obeyed keeps the step
+pub lines_kept : {E : Type 0} (r : Result (Option Asked) E) (number : ℕ) (line : List ℕ) (old new : Explainer) → IfOk r (IsObeyed number line old new) → OnOk r (HasLines old → HasLines new)
+lines_kept (Err e) number line old new h = tt
+lines_kept (Ok o) number line old new (inl h) = same_lines old new h.lines (λ i. ap (λ x. clauses_of x i) h.passes.rules.clauses)
+lines_kept (Ok o) number line old new (inr h) = by_command old new number h.command o h.does.follows h.does.notes

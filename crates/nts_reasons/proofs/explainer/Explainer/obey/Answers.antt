@@ -1,0 +1,38 @@
+use Rattle.std.proofs.Common.{refl, inl}
+use Rattle.std.specs.Prelude.{Result, Ok, Err, IfOk, OnErr}
+use Rattle.nts_reasons.proofs.Does.{obeyed}
+use Rattle.nts_reasons.proofs.Lining.{lines_kept}
+use Rattle.nts_reasons.proofs.explainer.Explainer.obey.Goals as goal
+
+never_passed : {X E : Type 0} (P : Type 0) (Q : X → Type 0) (r : Result X E) → (P → ⊥) → IfOk r (λ o. P → Q o)
+never_passed P Q (Ok o) n = λ p. absurd (n p)
+never_passed P Q (Err e) n = tt
+
+on_error : {X E : Type 0} (P : Type 0) (r : Result X E) → P → OnErr r P
+on_error P (Ok o) p = tt
+on_error P (Err e) p = p
+
+pub returns-in-Some-clause-passed : goal.returns-in-Some-clause-passed
+returns-in-Some-clause-passed c = never_passed _ _ c.follow.result (λ p. (let e = c.in_ok-command.ensures in let passed = rw c.in-Some.is at e.passed in let different = passed.1 p in cc different))
+
+pub returns-in-Some-clause-refused : goal.returns-in-Some-clause-refused
+returns-in-Some-clause-refused c = on_error _ c.follow.result (λ p. (let e = c.in_ok-command.ensures in let passed = rw c.in-Some.is at e.passed in let different = passed.1 p in cc different))
+
+pub returns-in-Some-clause-obeyed : goal.returns-in-Some-clause-obeyed
+returns-in-Some-clause-obeyed c =
+    let e = c.in_ok-command.ensures in
+    obeyed c.args.number c.args.self.now c.follow.new.self c.read_command.new.names c.read_command.new.scope c.args.line.now c.in-Some.command c.follow.result
+    c.follow.ensures.names c.follow.ensures.scope (rw c.in-Some.is at e.said) e.parameters c.follow.ensures.does
+
+pub returns-in-None-clause-obeyed : goal.returns-in-None-clause-obeyed
+returns-in-None-clause-obeyed c =
+    let e = c.in_ok-command.ensures in
+    let passed = rw c.in-None.is at e.passed in
+    let names = rw c.in-None.is at e.names in
+    inl (record {
+      passes = record { passed = passed.0 refl; cx = refl; rules = record { clauses = refl; mode = refl; env = refl }; names = names refl; parameters = e.parameters; silent = refl };
+      lines = refl;
+    })
+
+pub returns-in-Some-clause-lines : goal.returns-in-Some-clause-lines
+returns-in-Some-clause-lines c = lines_kept c.follow.result c.args.number c.args.line.now c.args.self.now c.follow.new.self (returns-in-Some-clause-obeyed c)

@@ -1,0 +1,17 @@
+use Rattle.nts_table.specs.TableLaws.{IsTable-extended}
+use Rattle.nts_delegate.specs.ClausesKept.{AreClausesReady-kept}
+use Rattle.nts_reasons.proofs.explainer.reasons_of.Goals as goal
+
+pub explain-requires-clause-table : goal.explain-requires-clause-table
+explain-requires-clause-table c = IsTable-extended c.in_ok-admitted.ensures.grows.extends c.requires.table
+
+pub explain-requires-clause-ready : goal.explain-requires-clause-ready
+explain-requires-clause-ready c =
+    rw c.new-rules.ensures (AreClausesReady-kept c.args.cx.now.nodes c.goal_is_admitted.new.cx.nodes c.args.clauses.now c.requires.ready c.in_ok-admitted.ensures.grows.extends)
+
+pub returns-in-Ok-clause-reasons : goal.returns-in-Ok-clause-reasons
+returns-in-Ok-clause-reasons c = record {
+  store = c.goal_is_admitted.new.cx.nodes;
+  extends = c.in_ok-admitted.ensures.grows.extends;
+  gives = rw c.new-rules.ensures at c.in-Ok.ensures.reasons;
+}

@@ -1,0 +1,6 @@
+pub mod Held
+pub mod ImplLines
+pub mod Obeying
+pub mod Origins
+pub mod Reasons
+pub mod Running
