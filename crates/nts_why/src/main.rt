@@ -6,6 +6,8 @@
 #![tactic(auto)]
 
 #[cfg(test)]
+mod failing_tests;
+#[cfg(test)]
 mod tests;
 
 use nts_program::Status;
