@@ -54,7 +54,7 @@ for row in "$@"; do
     after=0
     while :; do
         : > "$work/reached"
-        echo "$row" | REFUSED=$n LD_PRELOAD="$work/refuse.so" timeout 60 "$program" > "$work/got" 9> "$work/reached"
+        echo "$row" | timeout 60 env REFUSED="$n" LD_PRELOAD="$work/refuse.so" "$program" > "$work/got" 9> "$work/reached"
         status=$?
         got=$(cat "$work/got")
         [ -s "$work/reached" ] || break

@@ -30,6 +30,16 @@ pub enum Rule {
     Condition,
 }
 
+/// Declares the traits.
+pub fn traits_of(fixture: &mut Fixture) -> Result<Traits, EvalError>
+    requires { IsTable fixture.old.cx.nodes fixture.old.table }
+    ensures { IsTable fixture.new.cx.nodes fixture.new.table }
+{
+    let only = fixture.cx.declare_trait(&[Sort::Ty])?;
+    let over = fixture.cx.declare_trait(&[Sort::Ty])?;
+    Ok(Traits { only, over })
+}
+
 /// Adds a rule: over variables of these sorts the trait holds for the argument where the conditions hold.
 #[tactic(auto, using(nts_asking::proofs::Asking::asking))]
 fn add_rule(
@@ -150,16 +160,15 @@ pub fn ask(fixture: &mut Fixture, rule: Rule, argument: GenericArg) -> Result<Ca
     requires { IsTable fixture.old.cx.nodes fixture.old.table }
     ensures { OnOk result (IsTable fixture.new.cx.nodes fixture.new.table) }
 {
+    let traits = traits_of(fixture)?;
     let before = content_of(fixture)?;
     let (cx, table, one) = (&mut fixture.cx, &mut fixture.table, fixture.one);
-    let only = cx.declare_trait(&[Sort::Ty])?;
-    let over = cx.declare_trait(&[Sort::Ty])?;
     let asked = match rule {
-        Rule::Fact => only,
-        Rule::Condition => over,
+        Rule::Fact => traits.only,
+        Rule::Condition => traits.over,
     };
     let goal = goal_of(cx, asked, argument)?;
-    let rules = rules_of(cx, Traits { only, over }, one)?;
+    let rules = rules_of(cx, traits, one)?;
     let answer = evaluate(table, cx, &rules, goal)?;
     Ok(Called { before, answer })
 }

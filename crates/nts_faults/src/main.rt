@@ -8,6 +8,7 @@
 
 mod asking;
 mod content;
+mod context;
 mod rows;
 
 ghost use Rattle.std.specs.Prelude.{OnOk};
@@ -74,6 +75,7 @@ fn call(fixture: &mut Fixture, row: &str) -> Result<Called, EvalError>
         "apply" => rows::apply(fixture),
         "open" => rows::open(fixture),
         "hide" => rows::hide(fixture, alias, variable),
+        "context" => context::context(fixture),
         _ => Err(EvalError::NoSolution),
     }
 }
