@@ -2,8 +2,9 @@
 //!
 //! A line of standard input names a row. It is set up, one call is made, and what can be read of the table is compared
 //! with what could be before: `NAME: done`, `NAME: no, as before` where there is no solution, and `NAME: memory, as
-//! before`, which ends with status 3, and else `NAME: WRONG`, with 4. Where the setting up is refused memory, nothing
-//! is printed, and the status is 3 too. `examples/faults.sh` runs each row with each allocation refused in turn.
+//! before`, which ends with status 3, and else `NAME: WRONG`, with 4. Where the setting up is refused memory, or the second
+//! look at the table, nothing is printed, and the status is 3 too. `examples/faults.sh` runs each row with each allocation
+//! refused in turn.
 #![tactic(auto)]
 
 mod asking;
@@ -40,7 +41,7 @@ impl End {
             End::Done => "done",
             End::No => "no, as before",
             End::Memory => "memory, as before",
-            End::Wrong => "WRONG: the table is not as before",
+            End::Wrong => "WRONG: another error, or another table",
         }
     }
 
