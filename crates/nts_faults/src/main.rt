@@ -1,0 +1,119 @@
+//! The program `nts_faults`: a call that is refused memory leaves the content of the table as it was.
+//!
+//! A line of standard input names a row. It is set up, one call is made, and what can be read of the table is compared
+//! with what could be before: `NAME: done`, `NAME: no, as before` where there is no solution, and `NAME: memory, as
+//! before`, which ends with status 3, and else `NAME: WRONG`, with 4. Where the setting up is refused memory, or the second
+//! look at the table, nothing is printed, and the status is 3 too. `examples/faults.sh` runs each row with each allocation
+//! refused in turn.
+#![tactic(auto)]
+
+mod asking;
+mod content;
+mod context;
+mod rows;
+
+ghost use Rattle.std.specs.Prelude.{OnOk};
+ghost use Rattle.nts_table.specs.Tables.{IsTable};
+
+use asking::{Rule, ask};
+use content::{content_of, fill};
+use nts_fixtures::Fixture;
+use nts_model::UintTy;
+use nts_store::EvalError;
+use rows::Called;
+use std::alloc::Global;
+use std::io;
+use std::process::ExitCode;
+
+/// How a run ends.
+#[derive(Clone, Copy)]
+enum End {
+    Done,
+    No,
+    Memory,
+    Wrong,
+}
+
+impl End {
+    /// What is said of it.
+    fn word(&self) -> &'static str {
+        match self {
+            End::Done => "done",
+            End::No => "no, as before",
+            End::Memory => "memory, as before",
+            End::Wrong => "WRONG: another error, or another table",
+        }
+    }
+
+    fn code(&self) -> u8 {
+        match self {
+            End::Done | End::No => 0,
+            End::Memory => 3,
+            End::Wrong => 4,
+        }
+    }
+}
+
+/// Makes the call of a row, in a table that is filled.
+fn call(fixture: &mut Fixture, row: &str) -> Result<Called, EvalError>
+    requires { IsTable fixture.old.cx.nodes fixture.old.table }
+    ensures { OnOk result (IsTable fixture.new.cx.nodes fixture.new.table) }
+{
+    let alias = fill(fixture)?;
+    let variable = fixture.ty_var()?;
+    match row {
+        "fact" => ask(fixture, Rule::Fact, variable),
+        "condition" => ask(fixture, Rule::Condition, variable),
+        "refused" => {
+            let byte = fixture.uint(UintTy::U8)?;
+            let wrapped = fixture.wrap(byte)?;
+            ask(fixture, Rule::Condition, wrapped)
+        }
+        "relate" => rows::relate(fixture),
+        "equate" => rows::equate(fixture),
+        "canonicalize" => rows::canonicalize(fixture),
+        "instantiate" => rows::instantiate(fixture),
+        "apply" => rows::apply(fixture),
+        "open" => rows::open(fixture),
+        "hide" => rows::hide(fixture, alias, variable),
+        "context" => context::context(fixture),
+        _ => Err(EvalError::NoSolution),
+    }
+}
+
+/// Makes the call of a row, and looks at the table again.
+fn run(alloc: Global, row: &str) -> Result<End, EvalError> {
+    let mut fixture = Fixture::new(alloc)?;
+    let Called { before, answer } = call(&mut fixture, row)?;
+    let same = before == content_of(&fixture)?;
+    Ok(match answer {
+        Ok(()) => End::Done,
+        Err(EvalError::Memory) if same => End::Memory,
+        Err(EvalError::NoSolution) if same => End::No,
+        Err(_) => End::Wrong,
+    })
+}
+
+/// Reads the name of a row, and prints how its run ends: what it answers is the status.
+fn answer(rt: &HostRuntime) -> io::Result<u8> {
+    let alloc = rt.alloc();
+    let Some(row) = rt.lines(alloc).next() else {
+        return Ok(1);
+    };
+    let row = row?;
+    match run(alloc, row.as_str()) {
+        Ok(end) => {
+            println!(rt; "{row}: {}", end.word())?;
+            Ok(end.code())
+        }
+        Err(EvalError::Memory) => Ok(3),
+        Err(_) => Ok(1),
+    }
+}
+
+fn main(rt: HostRuntime) -> ExitCode {
+    match answer(&rt) {
+        Ok(code) => ExitCode::from(code),
+        Err(_) => ExitCode::from(3),
+    }
+}
