@@ -15,8 +15,6 @@ cd "$here/../crates/nts_faults" || exit 1
 work=$(mktemp -d)
 trap 'rm -r "$work"' EXIT
 cat > "$work/refuse.c" <<'C'
-#define _GNU_SOURCE
-#include <dlfcn.h>
 #include <stddef.h>
 #include <stdlib.h>
 #include <unistd.h>

@@ -1,7 +1,7 @@
 //! Goals asked of two rules: the one trait holds for `u32` alone, and the other for the constructor over each type for
 //! which the first one does.
 ghost use Rattle.std.specs.Prelude.{OnOk, IfOk};
-ghost use Rattle.nts_terms.specs.Handles.{HoldsArg, HoldsArgs, HoldsGoal};
+ghost use Rattle.nts_terms.specs.Handles.{HoldsArg, HoldsGoal};
 ghost use Rattle.nts_delegate.specs.Clauses.{AreClausesReady};
 ghost use Rattle.nts_table.specs.Tables.{IsTable};
 ghost use Rattle.nts_terms.specs.Rest.{Grows};
