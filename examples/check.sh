@@ -1,6 +1,7 @@
 #!/usr/bin/env bash
 # Compares the library example of README.md with the crate that it is quoted from. Then runs each program NAME.nts of this
 # folder, over one build and without proof, and compares what it prints with NAME.out; and one whose types are nested 50,000 deep.
+# Where the proved program is built (the gate leaves it), it is then used by hand: each answer comes before the next line is sent.
 set -u
 here=$(cd "$(dirname "$0")" && pwd)
 quoted=$(sed -n '/^```rust$/,/^```$/p' "$here/../README.md" | sed '1d;$d')
@@ -32,5 +33,24 @@ else
     cat "$work.log"
     rm -f "$work.log"
     echo "examples: not all print what they should"
+    exit 1
+fi
+
+by_hand() {
+    coproc nts { "$here/../crates/nts/out/nts"; }
+    local to=${nts[1]} from=${nts[0]} first='' second=''
+    printf 'trait Clone(type)\nimpl Clone(u8)\ngoal Clone(u8)\n' >&"$to"
+    read -r -t 60 first <&"$from"
+    printf 'goal Clone(u32)\n' >&"$to"
+    read -r -t 60 second <&"$from"
+    exec {to}>&-
+    [ "$first $second" = 'yes no' ]
+}
+if [ ! -x out/nts ]; then
+    echo "examples: the proved program is not built, so it was not used by hand"
+elif by_hand; then
+    echo "examples: each answer comes before the next line is sent"
+else
+    echo "examples: an answer waits for the next line"
     exit 1
 fi
