@@ -33,6 +33,7 @@ use Rattle.nts_response.specs.Placing.{JoinsBy, PlacedOrOne}
 use Rattle.nts_response.specs.Replacing.{argument_value}
 use Rattle.nts_response.proofs.Each.{same_views, values_kept}
 use Rattle.nts_response.proofs.MissingSteps.{all_behind, kinds_like}
+use Rattle.nts_response.proofs.StateFits.{missing_trees}
 
 -- originals of the same kinds are named alike
 abbrev kind_or : List (Option NodeKind) → ℕ → Option NodeKind
@@ -66,21 +67,6 @@ over_later a b ss t w e h =
     record { names = subst (NamesFresh ss) (sym same) h.names; leaves = λ l o. h.leaves l (subst (Occurs l) same o); closed = subst IsClosed (sym same) h.closed; well_bound = subst IsWellBound (sym same) h.well_bound }
 
 -- the trees of the missing values
-pub missing_trees : (ts : List Tree) (os vs : List GenericArg) → missing (trees_of ts os) (trees_of ts vs) ≡ trees_of ts (drop (length os) vs)
-missing_trees ts os vs = ap (λ n. drop n (trees_of ts vs)) (length-map os (argument_value ts)) ∙ drop-map (argument_value ts) (length os) vs
-
--- whether a state fits, once its values do
-pub state_fitting : {T : Type 0} (ts : List Tree) (os all : List GenericArg) (s : Canonical (State T)) (ss : List Sort) (b : Bool) → ss ≡ state_sorts s → all ≡ os ++ drop (length os) s.value.var_values.items → length os ≤ length s.value.var_values.items → All (IsArgIn ts ss) s.value.var_values.items
-    → (IsTrue b ↔ All (λ k. IsKindFor s.max_universe (trees_of ts all) (kind_of_var k)) s.var_kinds.items) → IsTrue b ↔ IsInstantiable ts (trees_of ts os) s
-state_fitting ts os all s ss b e q long fit i =
-    let vs = s.value.var_values.items in
-    let trees : trees_of ts all ≡ trees_of ts os ++ missing (trees_of ts os) (trees_of ts vs) = ap (trees_of ts) q ∙ map-append (argument_value ts) os (drop (length os) vs) ∙ ap (λ z. trees_of ts os ++ z) (sym (missing_trees ts os vs)) in
-    let m = length-map os (argument_value ts) in
-    let over = subst (λ z. All (IsArgIn ts z) vs) e fit in (
-      λ t. record { held = λ k d l. (over k d l).0; kinds = subst (λ z. All (λ k. IsKindFor s.max_universe z (kind_of_var k)) s.var_kinds.items) trees (i.0 t); values = λ k d l. (over k d l).1; long = omega (arith, m, long) },
-      λ h. i.1 (subst (λ z. All (λ k. IsKindFor s.max_universe z (kind_of_var k)) s.var_kinds.items) (sym trees) h.kinds),
-    )
-
 module _ {T : Type 0} (a b : Cx) (t u : Table) (os new : List GenericArg) (s : Canonical (State T)) (keeps : StepKeeps a b t u) (args : All (IsArgOf a.nodes t.entries) os) (fits : IsInstantiable a.nodes (trees_of a.nodes os) s)
     (m : AddsMissing a b t u os (drop (length os) s.value.var_values.items) new) where
   -- the originals, new ones too

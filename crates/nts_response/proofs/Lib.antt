@@ -24,6 +24,7 @@ pub mod Readying
 pub mod RecordLemmas
 pub mod RecordSteps
 pub mod Rows
+pub mod StateFits
 pub mod StateSteps
 pub mod Stepping
 pub mod ShownClosed

@@ -1,5 +1,5 @@
 -- What the walk of a replacer still has to do, and what it has found so far.
-use Rattle.std.proofs.Common.{◌≡◌, ℕ, zero, suc, ◌+◌, ◌-◌, ◌*◌, ◌<◌, ◌≤◌, List, [], ◌∷◌, ◌++◌, length, map, take, drop, get_or, Option, Some, Bool, true, false, nat_eq, cond, eqb-true, refl, sym, ap, subst, ◌∙◌, arith, append_assoc, length-append, add-one}
+use Rattle.std.proofs.Common.{◌≡◌, ⊎_elim, ℕ, zero, suc, ◌+◌, ◌-◌, ◌*◌, ◌<◌, ◌≤◌, List, [], ◌∷◌, ◌++◌, length, map, take, drop, get_or, Option, Some, Bool, true, false, nat_eq, cond, eqb-true, refl, sym, ap, subst, ◌∙◌, arith, append_assoc, length-append, add-one}
 use Rattle.std.proofs.lemmas.List.{append-nil, length-map, take-map, drop-map}
 use Rattle.std.proofs.Math.Seq.{take-append_seam, drop-append_seam}
 use Rattle.nts_model.specs.declared.labels.Label.{Label}
@@ -10,7 +10,7 @@ use Rattle.nts_store.specs.declared.replacement.Task.{Task}
 use Rattle.nts_store.specs.declared.replacement.Task.TheVariants as task
 use Rattle.nts_store.specs.Growth.{tree_at, trees_at, IsIn, AllIn, Extends}
 use Rattle.nts_store.specs.Kept.{map-kept}
-use Rattle.nts_store.specs.Replacement.{GoesDown, IsStep, Job, enter, build, job, jobs, TaskIn, TasksIn, entered, building, IsFormedNode}
+use Rattle.nts_store.specs.Replacement.{GoesDown, IsStep, Job, enter, build, job, jobs, TaskIn, TasksIn, entered, building, IsFormedNode, MayHold}
 use Rattle.nts_store.proofs.Growing.{IsIn-extended, AllIn-extended, AllIn-push}
 
 -- tasks by their trees
@@ -327,8 +327,8 @@ module _ (C : Tree → Type 0) (f : Tree → Tree) where
       subst (λ (z : NodeId). IsKnown C f ts k z) is (subst (λ (m : ℕ). IsKnown C f ts m d) same w)
   known_cases ts old n k d r h w false e q = h k r q
 
-  pub known_more : (ts : List Tree) (old new : ℕ → Option NodeId) (n : ℕ) (d : NodeId) → Known C f ts old → IsKnown C f ts n d → ((k : ℕ) → new k ≡ cond (nat_eq n k) (Some d) (old k)) → Known C f ts new
-  known_more ts old new n d h w is = λ k r q. known_cases ts old n k d r h w (nat_eq n k) refl (sym (is k) ∙ q)
+  pub known_more : (ts : List Tree) (old new : ℕ → Option NodeId) (n : ℕ) (d : NodeId) → Known C f ts old → IsKnown C f ts n d → MayHold old new n d → Known C f ts new
+  known_more ts old new n d h w is = λ k r q. ⊎_elim (λ e. h k r (sym e ∙ q)) (λ e. known_cases ts old n k d r h w (nat_eq n k) refl (sym e ∙ q)) (is k)
 
   split_jobs : (ts : List Tree) (xs ys : List Task) (k : Task) → ys ≡ xs ++ k ∷ [] → jobs ts ys ≡ jobs ts xs ++ job ts k ∷ []
   split_jobs ts xs ys k e = rw e (jobs-push ts xs k)

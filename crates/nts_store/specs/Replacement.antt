@@ -1,7 +1,8 @@
 -- What a replacer says of a tree, and what a walk still has to do.
-use Rattle.std.specs.Prelude.{◌≡◌, ℕ, List, [], ◌∷◌, ◌++◌}
+use Rattle.std.specs.Prelude.{◌≡◌, ◌⊎◌, ℕ, List, [], ◌∷◌, ◌++◌, Option, Some, cond, nat_eq}
 use Rattle.nts_model.specs.declared.labels.Label.{Label}
 use Rattle.nts_model.specs.Terms.Trees.{Tree, empty, more, node, row_length, shape, Meets}
+use Rattle.nts_store.specs.declared.nodes.NodeId.{NodeId}
 use Rattle.nts_store.specs.declared.replacement.Step.{Step}
 use Rattle.nts_store.specs.declared.replacement.Step.TheVariants as step
 use Rattle.nts_store.specs.declared.replacement.Task.{Task}
@@ -58,3 +59,7 @@ abbrev pub IsFormedNode : Tree → Type 0
 IsFormedNode empty = Unit {0}
 IsFormedNode (more a b) = Unit {0}
 IsFormedNode (node l c) = Meets (shape l) c
+
+-- a memory is as it was, or holds this term for this number too
+abbrev pub MayHold : (ℕ → Option NodeId) → (ℕ → Option NodeId) → ℕ → NodeId → Type 0
+MayHold old new n r = (k : ℕ) → (new k ≡ old k) ⊎ (new k ≡ cond (nat_eq n k) (Some r) (old k))

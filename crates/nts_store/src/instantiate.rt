@@ -66,5 +66,9 @@ pub fn instantiate_canonical(
     ensures tree { IfOk result (λ r. tree_at nodes.new r ≡ filled
         (map (tree_at nodes.old) values.now) (tree_at nodes.old t)) }
 {
+    // Most terms hold no such variable, and then nothing is allocated for a walk.
+    if !nodes.flags(t).has_canonical {
+        return Ok(t);
+    }
     replace(alloc, nodes, &Filler { values }, t)
 }

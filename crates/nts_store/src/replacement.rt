@@ -3,7 +3,7 @@ ghost use Rattle.std.specs.Prelude.{◌≡◌, ◌++◌, ◌∷◌, [], ℕ, Lis
 ghost use Rattle.std.specs.HashMap.{get};
 ghost use Rattle.nts_model.specs.Terms.Trees.{Tree, empty, more, kind_of};
 ghost use Rattle.nts_store.specs.Growth.{tree_at, IsIn, Extends};
-ghost use Rattle.nts_store.specs.Replacement.{IsStep, jobs, TasksIn, building, IsFormedNode};
+ghost use Rattle.nts_store.specs.Replacement.{IsStep, jobs, TasksIn, building, IsFormedNode, MayHold};
 
 use crate::nodes::{NodeId, Nodes};
 use nts_model::Label;
@@ -110,28 +110,52 @@ fn walk<R: Replacer>(
     ensures tree { IfOk result (λ r. tree_at nodes.new r ≡ R.image
         (R.meaning nodes.old replacer.now) (tree_at nodes.old t)) }
 {
+    // How many terms are still to be entered.
+    let mut waiting: usize = 1;
     tasks.push(Task::Enter(t))?;
     while let Some(task) = tasks.pop() {
         match task {
             Task::Enter(term) => {
+                waiting = waiting.saturating_sub(1);
                 match replacer.step(nodes, term)? {
                     Step::Done(result) => found.push(result)?,
                     Step::Down(node) => match known.get(&node.number) {
                         Some(result) => found.push(*result)?,
-                        None => push_node(nodes, node, tasks)?,
+                        None => {
+                            waiting = waiting.saturating_add(nodes.child_count(node));
+                            push_node(nodes, node, tasks)?;
+                        }
                     },
                 }
             }
             Task::Build(node, label, count) => {
                 let first = found.len().saturating_sub(count);
                 let made = nodes.make(label, &found[first..])?;
-                known.insert(node.number, made)?;
+                remember(known, node, made, waiting)?;
                 found.truncate(first);
                 found.push(made)?;
             }
         }
     }
     Ok(found[0])
+}
+
+/// Notes what stands for a node, if that node may come again.
+///
+/// What is made while no term waits to be entered can't come again, so it costs no memory.
+fn remember(
+    known: &mut HashMap<usize, NodeId>,
+    node: NodeId,
+    made: NodeId,
+    waiting: usize,
+) -> Result<(), AllocError>
+    ensures held { OnOk result (MayHold (get nat_eq known.old) (get nat_eq known.new)
+        node.number made) }
+{
+    if waiting > 0 {
+        known.insert(node.number, made)?;
+    }
+    Ok(())
 }
 
 /// What is left to do for a node: first its children from left to right, and then the node.

@@ -2,7 +2,7 @@ use Rattle.std.proofs.Common.{◌≡◌, ◌≤◌, length, rules, ap, ◌∙◌
 use Rattle.std.specs.Prelude.{All, drop, IsTrue, ◌++◌}
 use Rattle.nts_response.specs.Instantiated.{state_sorts}
 use Rattle.nts_response.specs.OverSorts.{IsArgIn}
-use Rattle.nts_response.proofs.InstantiateSteps.{state_fitting}
+use Rattle.nts_response.proofs.StateFits.{state_fitting}
 use Rattle.nts_response.proofs.fitting.state_fits.Goals as goal
 
 pub returns-clause-fits : goal.returns-clause-fits

@@ -39,8 +39,8 @@ returns-in_err-push_node-in-None g c = ends_early _ _ _ _ c.from_residual-in_err
 pub returns-in_err-made-in-Build : goal.returns-in_err-made-in-Build
 returns-in_err-made-in-Build g c = ends_early _ _ _ _ c.from_residual-in_err-made-in-Build.result c.from_residual-in_err-made-in-Build.ensures.1 (Extends-trans c.loop-task.invariant.extends c.make.ensures.extends)
 
-pub returns-in_err-insert-in-Build : goal.returns-in_err-insert-in-Build
-returns-in_err-insert-in-Build g c = ends_early _ _ _ _ c.from_residual-in_err-insert-in-Build.result c.from_residual-in_err-insert-in-Build.ensures.1 (Extends-trans c.loop-task.invariant.extends c.make.ensures.extends)
+pub returns-in_err-remember-in-Build : goal.returns-in_err-remember-in-Build
+returns-in_err-remember-in-Build g c = ends_early _ _ _ _ c.from_residual-in_err-remember-in-Build.result c.from_residual-in_err-remember-in-Build.ensures.1 (Extends-trans c.loop-task.invariant.extends c.make.ensures.extends)
 
 pub returns-in_err-push-in-Build : goal.returns-in_err-push-in-Build
 returns-in_err-push-in-Build g c = ends_early _ _ _ _ c.from_residual-in_err-push-in-Build.result c.from_residual-in_err-push-in-Build.ensures.1 (Extends-trans c.loop-task.invariant.extends c.make.ensures.extends)
@@ -170,5 +170,5 @@ loop-task-preserved g c =
     record {
       extends = Extends-trans c.loop-task.invariant.extends made.extends;
       ends = ends_build (g.R.Replacer.covers m) (g.R.Replacer.image m) _ _ _ _ _ _ _ _ _ _ _ _ _ c.loop-task.invariant.ends (rw c.in-Build.is at c.in-Some.ensures.items) made.extends first last made.within made.tree new;
-      known = known_more C f c.make.new.self (λ k. get nat_eq c.loop-task.known k) (λ k. get nat_eq c.insert.new.self k) c.in-Build.node.number c.in_ok-made-in-Build.made later one (λ k. c.in_ok-insert-in-Build.ensures.updates.0 k);
+      known = known_more C f c.make.new.self (λ k. get nat_eq c.loop-task.known k) (λ k. get nat_eq c.remember.new.known k) c.in-Build.node.number c.in_ok-made-in-Build.made later one c.in_ok-remember-in-Build.ensures.held;
     }
