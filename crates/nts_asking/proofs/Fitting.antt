@@ -22,7 +22,7 @@ use Rattle.nts_canonical.specs.Kinds.{AreInputKinds, count_of, kind_of_position,
 use Rattle.nts_response.specs.declared.types.Response.{Response}
 use Rattle.nts_response.specs.Forms.{response_at, HoldsResponse}
 use Rattle.nts_response.specs.Applicable.{left_place, IsApplicable}
-use Rattle.nts_response.proofs.Answered.{table_places, answered_applicable}
+use Rattle.nts_applying.proofs.Answered.{table_places, answered_applicable}
 use Rattle.nts_asking.specs.Asking.{first_values}
 use Rattle.nts_theory.specs.Telling.{without_constraints, IsResponseOf}
 use Rattle.nts_unify.specs.Changing.{HasClosedSides}

@@ -31,7 +31,7 @@ use Rattle.nts_canonical.specs.Building.{kinds_of, values_of, HasNoName}
 use Rattle.nts_canonical.specs.Folds.{HoldsQuery-kept}
 use Rattle.nts_response.specs.declared.types.Response.{Response}
 use Rattle.nts_response.specs.Applicable.{IsOverSorts, IsHiddenOver, IsGoalOver, IsApplicable, response_sorts}
-use Rattle.nts_response.proofs.ApplySteps.{response_kept}
+use Rattle.nts_response.proofs.Each.{response_kept}
 use Rattle.nts_asking.specs.Answering.{IsFormOf, IsQueryInput, IsAnswerTo, TellsNoMore}
 use Rattle.nts_asking.specs.Meant.{IsServed}
 use Rattle.nts_asking.specs.Running.{Stays}

@@ -30,7 +30,7 @@ use Rattle.nts_canonical.specs.declared.types.CanonicalInput.{CanonicalInput}
 use Rattle.nts_canonical.specs.Building.{kinds_of}
 use Rattle.nts_asking.specs.Answering.{IsQueryInput, IsAnswerTo, TellsNoMore}
 use Rattle.nts_theory.specs.Telling.{SaysNothing}
-use Rattle.nts_response.proofs.Answered.{each_view, region_sort}
+use Rattle.nts_applying.proofs.Answered.{each_view, region_sort}
 
 -- the answer that says nothing does so in each universe
 pub nothing_said : (r : Form) (ks : List PositionKind) (u : ℕ) → r ≡ record (unconstrained ks) { max_universe = u } → SaysNothing ks r

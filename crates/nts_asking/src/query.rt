@@ -5,7 +5,8 @@ ghost use Rattle.nts_asking.specs.Evaluation.{IsPosed};
 ghost use Rattle.nts_asking.specs.Answering.{is_kept, IsQueryInput, IsQueryOf};
 ghost use Rattle.nts_asking.specs.Rounds.{BeginsQuery};
 
-use nts_canonical::{CanonicalInput, build_with_canonical, canonicalize_goal};
+use nts_canonical::{CanonicalInput, build_with_canonical};
+use nts_canonicalizer::canonicalize_goal;
 use nts_certainty::{Certainty, MaybeCause};
 use nts_store::Fault;
 use nts_table::InferCtxt;

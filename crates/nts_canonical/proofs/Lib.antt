@@ -1,15 +1,9 @@
 pub mod Adding
-pub mod AddingLeaves
 pub mod Built
-pub mod Canonizing
 pub mod Filled
 pub mod FilledQueries
 pub mod FoldedQueries
-pub mod Gathering
-pub mod Handed
-pub mod Having
 pub mod Kinded
-pub mod Leafless
 pub mod Making
 pub mod Mapped
 pub mod PairLists

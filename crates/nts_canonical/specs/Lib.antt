@@ -1,12 +1,9 @@
 pub mod Alike
 pub mod Building
-pub mod Collecting
 pub mod Folds
 pub mod Forms
 pub mod Kinds
-pub mod LeafLists
 pub mod Mapping
 pub mod Owned
-pub mod Positions
 pub mod Replaced
 pub mod SubRoots

@@ -7,24 +7,15 @@
 
 mod alike;
 mod build;
-mod canonicalize;
-mod collecting;
-mod folding;
 mod instantiate;
-mod leaves;
-mod numbering;
 mod queries;
 mod types;
 mod var_kinds;
 
 pub use alike::{same_input, same_kinds, same_pair};
 pub use build::{build_with_canonical, instantiate_canonical_var, universe_of, value_in};
-pub use canonicalize::canonicalize_goal;
-pub use collecting::{Staying, collect};
-pub use folding::{leaves_of_value, position_value, resolve_value};
 pub use instantiate::instantiate_canonical;
-pub use leaves::Leaves;
-pub use numbering::numbered;
 pub use queries::{fill, fill_hidden, nodes_of};
 pub use types::{Canonical, CanonicalInput, CanonicalVarKind, QueryInput};
 pub use var_kinds::{first_of, sub_root_of, sub_roots};
+pub use var_kinds::kinds_of;

@@ -20,7 +20,7 @@ use std::alloc::{AllocError, Global};
 
 /// The kind of each position, where these are the leaves in the order of positions. All universes are
 /// the root, and a region is a placeholder, a region variable too.
-pub(crate) fn kinds_of(
+pub fn kinds_of(
     alloc: Global,
     table: &InferCtxt,
     leaves: &[Leaf],

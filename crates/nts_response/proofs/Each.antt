@@ -10,7 +10,8 @@ use Rattle.nts_terms.specs.Handles.{HoldsArg}
 use Rattle.nts_canonical.proofs.PairLists.{holds_kept, is_hidden-kept, alias-kept}
 use Rattle.nts_canonical.proofs.VarLists.{map-push}
 use Rattle.nts_response.specs.Replacing.{ReplacesEach, argument_value}
-use Rattle.nts_response.specs.Forms.{StoreHoldsConstraint, HoldsOpen, recorded_at, premise_at}
+use Rattle.nts_response.specs.declared.types.Response.{Response}
+use Rattle.nts_response.specs.Forms.{StoreHoldsConstraint, HoldsOpen, HoldsResponse, recorded_at, premise_at}
 use Rattle.nts_canonical.specs.Forms.{IsHidden}
 use Rattle.nts_delegate.specs.Offered.{hidden_of}
 
@@ -68,3 +69,17 @@ replaced_later holds view image k a b c d xs ys up more h r = record {
   views = same_views holds view k c d ys r.held more ∙ r.views ∙ ap (map image) (same_views holds view k a b xs h up);
   held = list_holds (holds c) (holds d) (λ y q. k.held c d y q more) ys r.held;
 }
+
+-- a response in a store that has grown
+pub response_kept : (a b : List Tree) (r : Response) → Extends a b → HoldsResponse a r → HoldsResponse b r
+response_kept a b r e h =
+    let v = values_kept in
+    let c = constraints_kept in
+    let p = hidden_kept in
+    let g = goals_kept in
+    record {
+      values = list_holds (HoldsArg a) (HoldsArg b) (λ x q. v.held a b x q e) r.var_values.items h.values;
+      constraints = list_holds (StoreHoldsConstraint a) (StoreHoldsConstraint b) (λ x q. c.held a b x q e) r.external_constraints.region_constraints.items h.constraints;
+      hidden = list_holds (IsHidden a) (IsHidden b) (λ x q. p.held a b x q e) r.external_constraints.opaque_types.items h.hidden;
+      open_goals = list_holds (HoldsOpen a) (HoldsOpen b) (λ x q. g.held a b x q e) r.external_constraints.normalization_nested_goals.items h.open_goals;
+    }

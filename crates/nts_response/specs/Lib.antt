@@ -2,7 +2,6 @@ pub mod Applicable
 pub mod Applied
 pub mod Forms
 pub mod Instantiated
-pub mod Kinds
 pub mod Opened
 pub mod Placing
 pub mod OverSorts

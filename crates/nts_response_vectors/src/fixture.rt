@@ -9,11 +9,9 @@ use nts_canonical::{Canonical, CanonicalVarKind};
 use nts_certainty::{Certainty, GoalSource};
 use nts_fixtures::Fixture;
 use nts_model::BoundVarIndexKind;
-use nts_response::{
-    CanonicalResponse, CanonicalState, ExternalConstraintsData, Response, State,
-    instantiate_and_apply_query_response, instantiate_canonical_state, make_canonical_state,
-    response_fits, state_fits,
-};
+use nts_response::{CanonicalResponse, CanonicalState, ExternalConstraintsData, Response, State, response_fits, state_fits};
+use nts_answering::make_canonical_state;
+use nts_applying::{instantiate_and_apply_query_response, instantiate_canonical_state};
 use nts_store::EvalError;
 use nts_terms::{
     BoundConst, BoundRegion, ConstKind, GenericArg, Goal, RegionKind, Span, UniverseIndex,

@@ -8,10 +8,8 @@ use nts_certainty::{Certainty, GoalSource};
 use nts_delegate::RegionConstraint;
 use nts_fixtures::{Fixture, table_in};
 use nts_model::{BoundVarIndexKind, Relation, VariableKind};
-use nts_response::{
-    CanonicalResponse, ExternalConstraintsData, Response, canonicalize_response, clone_response,
-    has_no_inference_or_external_constraints, is_identity, response_no_constraints_raw,
-};
+use nts_response::{CanonicalResponse, ExternalConstraintsData, Response, clone_response, has_no_inference_or_external_constraints, is_identity, response_no_constraints_raw};
+use nts_answering::canonicalize_response;
 use nts_table::InferCtxt;
 use nts_terms::{
     BoundRegion, BoundTy, Cx, GenericArg, Goal, PlaceholderRegion, Predicate, Region, RegionKind,

@@ -15,7 +15,7 @@ use Rattle.nts_response.specs.declared.types.Response.{Response}
 use Rattle.nts_response.specs.Forms.{response_at, recorded_at, premise_at, StoreHoldsConstraint, HoldsOpen, HoldsResponse}
 use Rattle.nts_response.specs.Replacing.{argument_value}
 use Rattle.nts_response.proofs.Each.{same_views, values_kept, constraints_kept, hidden_kept, goals_kept}
-use Rattle.nts_response.proofs.ApplySteps.{response_kept}
+use Rattle.nts_response.proofs.Each.{response_kept}
 use Rattle.nts_search.specs.declared.stack.StackEntry.{StackEntry}
 use Rattle.nts_search.specs.declared.stack.SearchGraph.{SearchGraph}
 use Rattle.nts_search.specs.Searching.{answer_at, certainty_in, entry_at, entries_at, HoldsAnswer, HoldsEntry, IsStack}

@@ -29,7 +29,7 @@ use Rattle.nts_canonical.specs.Kinds.{AreInputKinds}
 use Rattle.nts_canonical.specs.Building.{IsArgOf}
 use Rattle.nts_response.specs.declared.types.Response.{Response}
 use Rattle.nts_response.specs.Forms.{response_at, HoldsResponse}
-use Rattle.nts_response.proofs.ApplySteps.{response_kept}
+use Rattle.nts_response.proofs.Each.{response_kept}
 use Rattle.nts_model.proofs.Tables.Bringing.{only-refl}
 use Rattle.nts_asking.specs.Asking.{first_table, first_values, asked_environment, asked_predicate}
 use Rattle.nts_theory.specs.Telling.{IsResponseOf, Verdict, SaysOf, IsFound}

@@ -1,0 +1,4 @@
+pub mod Found
+pub mod KindLists
+pub mod Rows
+pub mod StateSteps

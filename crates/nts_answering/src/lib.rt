@@ -1,0 +1,11 @@
+//! Answering: what a table found, as a canonical response or a canonical state.
+#![tactic(auto)]
+
+mod answer_kinds;
+mod canonicalize;
+mod leaves;
+mod numbered;
+mod states;
+
+pub use canonicalize::canonicalize_response;
+pub use states::make_canonical_state;

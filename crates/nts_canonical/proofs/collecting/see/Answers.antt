@@ -1,7 +1,0 @@
-use Rattle.std.proofs.Common.{sym, ◌∙◌}
-use Rattle.nts_canonical.specs.Collecting.{stays_where}
-use Rattle.nts_canonical.proofs.Gathering.{leaf_added}
-use Rattle.nts_canonical.proofs.collecting.see.Goals as goal
-
-pub returns : goal.returns
-returns c = leaf_added (stays_where c.args.staying) c.args.leaves.now c.add.new.self c.args.leaf (sym c.stays.ensures ∙ c.if-stays.false) c.in_ok-add.ensures
