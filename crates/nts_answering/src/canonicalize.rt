@@ -11,9 +11,9 @@ ghost use Rattle.nts_response.specs.Forms.{findings_at, response_at, HoldsRespon
 use crate::answer_kinds::{answer_kinds, greatest};
 use crate::leaves::leaves_of;
 use crate::numbered::{numbered_constraints, numbered_goals, numbered_hidden, numbered_values};
-use nts_response::{CanonicalResponse, ExternalConstraintsData, Response};
 use nts_canonical::Canonical;
 use nts_canonicalizer::Leaves;
+use nts_response::{CanonicalResponse, ExternalConstraintsData, Response};
 use nts_store::{Fault, Nodes};
 use nts_table::InferCtxt;
 use nts_terms::{Cx, UniverseIndex};

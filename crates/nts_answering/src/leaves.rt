@@ -9,10 +9,10 @@ ghost use Rattle.nts_delegate.specs.Offered.{hidden_of};
 ghost use Rattle.nts_canonical.specs.Forms.{trees_of, IsHidden};
 ghost use Rattle.nts_response.specs.Forms.{recorded_at, premise_at, findings_at, StoreHoldsConstraint, HoldsOpen, HoldsResponse};
 
-use nts_response::Response;
 use nts_canonicalizer::{Leaves, Staying, collect};
 use nts_certainty::GoalSource;
 use nts_delegate::RegionConstraint;
+use nts_response::Response;
 use nts_store::NodeId;
 use nts_terms::{AliasTerm, Cx, GenericArg, Goal, Ty, VisibleForLeakCheck};
 use std::alloc::AllocError;

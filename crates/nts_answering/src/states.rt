@@ -11,10 +11,10 @@ ghost use Rattle.nts_response.specs.States.{state_at, resolved_state_of};
 ghost use Rattle.nts_response.specs.StateTrees.{state_row};
 
 use crate::answer_kinds::{answer_kinds, greatest};
-use nts_response::{CanonicalState, State};
 use nts_canonical::Canonical;
 use nts_canonicalizer::{leaves_of_value, position_value, resolve_value};
 use nts_folding::TypeFoldable;
+use nts_response::{CanonicalState, State};
 use nts_store::Fault;
 use nts_table::InferCtxt;
 use nts_terms::{Cx, GenericArg, UniverseIndex};

@@ -18,11 +18,13 @@ ghost use Rattle.nts_theory.specs.Telling.{IsResponseOf};
 ghost use Rattle.nts_asking.specs.Answering.{told_in, AreTold, KnowsSides, TellsNoMore, IfAnswered};
 
 use crate::terms::resolve_term;
-use nts_certainty::{Certainty, HasChanged};
-use nts_delegate::RegionConstraint;
-use nts_response::{CanonicalResponse, ExternalConstraintsData, Response, has_only_region_constraints};
 use nts_answering::canonicalize_response;
 use nts_applying::instantiate_and_apply_query_response;
+use nts_certainty::{Certainty, HasChanged};
+use nts_delegate::RegionConstraint;
+use nts_response::{
+    CanonicalResponse, ExternalConstraintsData, Response, has_only_region_constraints,
+};
 use nts_store::{EvalError, Fault};
 use nts_table::{Constraint, InferCtxt};
 use nts_terms::{Cx, GenericArg, ParamEnv, Region, Span, VisibleForLeakCheck};

@@ -17,5 +17,4 @@ pub use build::{build_with_canonical, instantiate_canonical_var, universe_of, va
 pub use instantiate::instantiate_canonical;
 pub use queries::{fill, fill_hidden, nodes_of};
 pub use types::{Canonical, CanonicalInput, CanonicalVarKind, QueryInput};
-pub use var_kinds::{first_of, sub_root_of, sub_roots};
-pub use var_kinds::kinds_of;
+pub use var_kinds::{first_of, kinds_of, sub_root_of, sub_roots};

@@ -4,9 +4,10 @@ ghost use Rattle.nts_terms.specs.Handles.{HoldsArg};
 ghost use Rattle.nts_terms.specs.Rest.{Grows};
 ghost use Rattle.nts_delegate.specs.Clauses.{AreClausesReady};
 
-use crate::evaluation_tests::{evaluated, fact, goal_about, uint};
+use crate::evaluation_tests::evaluated;
 use nts_certainty::{Certainty, HasChanged};
 use nts_delegate::{Clause, Clauses};
+use nts_goal_fixtures::{fact, goal_about, uint};
 use nts_model::{BoundVarIndexKind, Sort, UintTy, Variance};
 use nts_resolve::eager_resolve_vars;
 use nts_table::InferCtxt;

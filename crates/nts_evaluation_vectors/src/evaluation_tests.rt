@@ -1,63 +1,19 @@
 //! Goals asked of the library.
-ghost use Rattle.std.specs.Prelude.{IfOk, OnOk};
+ghost use Rattle.std.specs.Prelude.{OnOk};
 ghost use Rattle.nts_table.specs.Tables.{IsTable};
 ghost use Rattle.nts_terms.specs.Handles.{HoldsGoal};
-ghost use Rattle.nts_delegate.specs.Clauses.{AreClausesReady};
 ghost use Rattle.nts_terms.specs.Rest.{Grows};
 
 use nts_certainty::{Certainty, HasChanged};
-use nts_delegate::{Clause, Clauses, GoalHandler};
+use nts_delegate::{Clauses, GoalHandler};
 use nts_evaluation::{GoalEvaluation, GoalStalledOn, evaluate_root_goal, goal_is_admitted};
+use nts_goal_fixtures::{fact, goal_about, goal_between, rule_of_one, uint};
 use nts_model::{BoundVarIndexKind, Sort, UintTy};
 use nts_resolve::eager_resolve_vars;
 use nts_store::EvalError;
 use nts_table::InferCtxt;
-use nts_terms::{
-    Binder, BoundTy, ClauseKind, Cx, DefId, GenericArg, Goal, PlaceholderType, PredicateKind, Span,
-    TraitId, TraitRef, Ty, TyKind, TypingMode,
-};
+use nts_terms::{BoundTy, Cx, Goal, PlaceholderType, Span, TraitId, Ty, TyKind, TypingMode};
 use std::test::Fail;
-
-pub(crate) fn uint(cx: &mut Cx, int: UintTy) -> Result<Ty, Fail>
-    ensures grows { Grows cx.old cx.new }
-{
-    Ok(cx.mk_ty(TyKind::Uint(int))?)
-}
-
-/// The goal that a trait holds for one argument, in an empty environment.
-pub(crate) fn goal_about(cx: &mut Cx, id: TraitId, argument: GenericArg) -> Result<Goal, Fail>
-    ensures holds { IfOk result (λ g. HoldsGoal cx.new.nodes g) }
-    ensures grows { Grows cx.old cx.new }
-{
-    goal_under(cx, &[], id, argument)
-}
-
-/// The same under a binder of variables of these sorts.
-pub(crate) fn goal_under(
-    cx: &mut Cx,
-    bound: &[Sort],
-    id: TraitId,
-    argument: GenericArg,
-) -> Result<Goal, Fail>
-    ensures holds { IfOk result (λ g. HoldsGoal cx.new.nodes g) }
-    ensures grows { Grows cx.old cx.new }
-{
-    if !cx.holds(argument) {
-        return Err(Fail::new("no argument of the store"));
-    }
-    let args = cx.mk_args(&[argument])?;
-    let param_env = cx.mk_env(&[])?;
-    let vars = cx.mk_bound_vars(bound)?;
-    if !cx.holds(args) || !cx.fits(DefId::Trait(id), args) {
-        return Err(Fail::new("the trait takes other arguments"));
-    }
-    let value = PredicateKind::Clause(ClauseKind::Trait(TraitRef { def_id: id, args }));
-    let predicate = cx.mk_predicate(Binder { vars, value })?;
-    Ok(Goal {
-        param_env,
-        predicate,
-    })
-}
 
 /// How sure it is that a goal holds, and whether its variables changed, or nothing where it has no solution; asked through the bound.
 #[tactic(auto, using(nts_asking::proofs::Asking::asking))]
@@ -81,85 +37,6 @@ pub(crate) fn evaluated<H: GoalHandler>(
         Err(EvalError::NoSolution) => Ok(None),
         Err(error) => Err(Fail::new(error)),
     }
-}
-
-/// Adds the fact that a trait holds for an argument.
-#[tactic(auto, using(nts_asking::proofs::Asking::asking))]
-pub(crate) fn fact(
-    cx: &mut Cx,
-    handler: &mut Clauses,
-    id: TraitId,
-    argument: GenericArg,
-) -> Result<(), Fail>
-    requires { AreClausesReady cx.old.nodes handler.old }
-    ensures ready { OnOk result (AreClausesReady cx.new.nodes handler.new) }
-    ensures grows { Grows cx.old cx.new }
-{
-    if !cx.holds(argument) {
-        return Err(Fail::new("no argument of the store"));
-    }
-    let head = cx.mk_args(&[argument])?;
-    let clause = Clause {
-        fresh: Vec::new(cx.alloc),
-        trait_id: id,
-        head,
-        body: Vec::new(cx.alloc),
-    };
-    if !Clauses::clause_fits(cx, &clause)? {
-        return Err(Fail::new("the clause does not fit"));
-    }
-    handler.add_clause(cx, clause)?;
-    Ok(())
-}
-
-/// The goal that a trait holds between two arguments, in an empty environment.
-pub(crate) fn goal_between(
-    cx: &mut Cx,
-    id: TraitId,
-    left: GenericArg,
-    right: GenericArg,
-) -> Result<Goal, Fail>
-    ensures holds { IfOk result (λ g. HoldsGoal cx.new.nodes g) }
-    ensures grows { Grows cx.old cx.new }
-{
-    if !cx.holds(left) || !cx.holds(right) {
-        return Err(Fail::new("no arguments of the store"));
-    }
-    let args = cx.mk_args(&[left, right])?;
-    let param_env = cx.mk_env(&[])?;
-    let vars = cx.mk_bound_vars(&[])?;
-    if !cx.holds(args) || !cx.fits(DefId::Trait(id), args) {
-        return Err(Fail::new("the trait takes other arguments"));
-    }
-    let value = PredicateKind::Clause(ClauseKind::Trait(TraitRef { def_id: id, args }));
-    let predicate = cx.mk_predicate(Binder { vars, value })?;
-    Ok(Goal {
-        param_env,
-        predicate,
-    })
-}
-
-/// Adds the rule that a trait holds between a type and itself.
-#[tactic(auto, using(nts_asking::proofs::Asking::asking))]
-pub(crate) fn rule_of_one(cx: &mut Cx, handler: &mut Clauses, id: TraitId) -> Result<(), Fail>
-    requires { AreClausesReady cx.old.nodes handler.old }
-    ensures ready { OnOk result (AreClausesReady cx.new.nodes handler.new) }
-    ensures grows { Grows cx.old cx.new }
-{
-    let position = cx.mk_ty(TyKind::Bound(BoundVarIndexKind::Canonical, BoundTy { var: 0 }))?;
-    let argument = position.into();
-    let head = cx.mk_args(&[argument, argument])?;
-    let clause = Clause {
-        fresh: vec![in cx.alloc; Sort::Ty]?,
-        trait_id: id,
-        head,
-        body: Vec::new(cx.alloc),
-    };
-    if !Clauses::clause_fits(cx, &clause)? {
-        return Err(Fail::new("the clause does not fit"));
-    }
-    handler.add_clause(cx, clause)?;
-    Ok(())
 }
 
 #[test]

@@ -7,7 +7,3 @@ mod assumed_tests;
 mod doubt_tests;
 #[cfg(test)]
 mod evaluation_tests;
-#[cfg(test)]
-mod leak_tests;
-#[cfg(test)]
-mod may_hold_tests;

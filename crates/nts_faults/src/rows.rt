@@ -7,6 +7,7 @@ ghost use Rattle.nts_terms.specs.Rest.{Grows};
 ghost use Rattle.nts_canonical.specs.Forms.{query_tree, trees_of, HoldsQuery};
 
 use crate::content::{Content, content_of};
+use nts_applying::instantiate_and_apply_query_response;
 use nts_canonical::{Canonical, CanonicalVarKind, QueryInput, instantiate_canonical};
 use nts_canonicalizer::canonicalize_goal;
 use nts_certainty::Certainty;
@@ -14,7 +15,6 @@ use nts_fixtures::Fixture;
 use nts_model::{Sort, UintTy, VariableKind, Variance};
 use nts_placeholder::BoundVarReplacer;
 use nts_response::{CanonicalResponse, ExternalConstraintsData, Response, response_fits};
-use nts_applying::instantiate_and_apply_query_response;
 use nts_solver_relating::RelateExt;
 use nts_store::{EvalError, Fault};
 use nts_terms::{

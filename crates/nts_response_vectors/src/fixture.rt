@@ -5,13 +5,16 @@ ghost use Rattle.nts_store.specs.Growth.{tree_at};
 ghost use Rattle.nts_table.specs.Tables.{IsTable};
 ghost use Rattle.nts_canonical.specs.Building.{IsArgOf};
 
+use nts_answering::make_canonical_state;
+use nts_applying::{instantiate_and_apply_query_response, instantiate_canonical_state};
 use nts_canonical::{Canonical, CanonicalVarKind};
 use nts_certainty::{Certainty, GoalSource};
 use nts_fixtures::Fixture;
 use nts_model::BoundVarIndexKind;
-use nts_response::{CanonicalResponse, CanonicalState, ExternalConstraintsData, Response, State, response_fits, state_fits};
-use nts_answering::make_canonical_state;
-use nts_applying::{instantiate_and_apply_query_response, instantiate_canonical_state};
+use nts_response::{
+    CanonicalResponse, CanonicalState, ExternalConstraintsData, Response, State, response_fits,
+    state_fits,
+};
 use nts_store::EvalError;
 use nts_terms::{
     BoundConst, BoundRegion, ConstKind, GenericArg, Goal, RegionKind, Span, UniverseIndex,

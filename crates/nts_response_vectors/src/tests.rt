@@ -3,13 +3,16 @@ ghost use Rattle.nts_table.specs.Tables.{IsTable};
 ghost use Rattle.nts_response.specs.Forms.{HoldsResponse};
 
 use crate::fixture::certain;
+use nts_answering::canonicalize_response;
 use nts_canonical::CanonicalVarKind;
 use nts_certainty::{Certainty, GoalSource};
 use nts_delegate::RegionConstraint;
 use nts_fixtures::{Fixture, table_in};
 use nts_model::{BoundVarIndexKind, Relation, VariableKind};
-use nts_response::{CanonicalResponse, ExternalConstraintsData, Response, clone_response, has_no_inference_or_external_constraints, is_identity, response_no_constraints_raw};
-use nts_answering::canonicalize_response;
+use nts_response::{
+    CanonicalResponse, ExternalConstraintsData, Response, clone_response,
+    has_no_inference_or_external_constraints, is_identity, response_no_constraints_raw,
+};
 use nts_table::InferCtxt;
 use nts_terms::{
     BoundRegion, BoundTy, Cx, GenericArg, Goal, PlaceholderRegion, Predicate, Region, RegionKind,

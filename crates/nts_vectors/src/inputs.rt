@@ -8,7 +8,10 @@ ghost use Rattle.nts_terms.specs.Rest.{Grows};
 ghost use Rattle.nts_canonical.specs.Forms.{query_tree, trees_of, HoldsQuery};
 ghost use Rattle.nts_canonical.specs.Building.{IsInputOf};
 
-use nts_canonical::{Canonical, CanonicalInput, CanonicalVarKind, QueryInput, build_with_canonical, instantiate_canonical, instantiate_canonical_var, same_input};
+use nts_canonical::{
+    Canonical, CanonicalInput, CanonicalVarKind, QueryInput, build_with_canonical,
+    instantiate_canonical, instantiate_canonical_var, same_input,
+};
 use nts_canonicalizer::canonicalize_goal;
 use nts_fixtures::Fixture;
 use nts_model::{Sort, Variance};

@@ -1,7 +1,7 @@
 //! A leak check beside a list of clauses.
-use crate::evaluation_tests::{fact, goal_about, goal_under};
 use crate::may_hold_tests::may_hold;
 use nts_delegate::Clauses;
+use nts_goal_fixtures::{fact, goal_about, goal_under};
 use nts_leak_check::LeakChecked;
 use nts_model::{BoundVarIndexKind, Sort};
 use nts_table::InferCtxt;

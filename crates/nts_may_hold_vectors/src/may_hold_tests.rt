@@ -4,12 +4,12 @@ ghost use Rattle.nts_table.specs.Tables.{IsTable};
 ghost use Rattle.nts_terms.specs.Handles.{HoldsGoal};
 ghost use Rattle.nts_terms.specs.Rest.{Grows};
 
-use crate::evaluation_tests::{fact, goal_about, goal_between, rule_of_one, uint};
 use nts_certainty::{Certainty, MaybeCause, MaybeInfo, OpaqueTypesJank};
 use nts_delegate::{Clauses, GoalHandler};
 use nts_evaluation::{
     goal_is_admitted, root_goal_may_hold_opaque_types_jank, root_goal_may_hold_with_depth,
 };
+use nts_goal_fixtures::{fact, goal_about, goal_between, rule_of_one, uint};
 use nts_marker::{Circular, Marker};
 use nts_model::{Sort, UintTy};
 use nts_table::InferCtxt;

@@ -1,5 +1,5 @@
 use Rattle.nts_table.specs.TableLaws.{IsTable-extended}
-use Rattle.nts_evaluation_vectors.proofs.may_hold_tests.may_hold.Goals as goal
+use Rattle.nts_may_hold_vectors.proofs.may_hold_tests.may_hold.Goals as goal
 
 -- src/may_hold_tests.rt:35:16
 pub root_goal_may_hold_with_depth-requires-clause-table :

@@ -1,7 +1,7 @@
 use Rattle.std.proofs.Common.{true}
 use Rattle.nts_store.proofs.Growing.{Extends-trans}
 use Rattle.nts_delegate.specs.ClausesKept.{AreClausesReady-kept}
-use Rattle.nts_evaluation_vectors.proofs.evaluation_tests.rule_of_one.Goals as goal
+use Rattle.nts_goal_fixtures.proofs.rules.rule_of_one.Goals as goal
 
 pub returns-clause-ready : goal.returns-clause-ready
 returns-clause-ready c =

@@ -1,6 +1,6 @@
 use Rattle.nts_store.proofs.Growing.{Extends-trans}
 use Rattle.nts_delegate.specs.ClausesKept.{AreClausesReady-kept}
-use Rattle.nts_evaluation_vectors.proofs.leak_tests.not_each_region_is_static.Goals as goal
+use Rattle.nts_may_hold_vectors.proofs.leak_tests.not_each_region_is_static.Goals as goal
 
 pub may_hold-requires-2-clause-ready : goal.may_hold-requires-2-clause-ready
 may_hold-requires-2-clause-ready g c =
