@@ -15,8 +15,8 @@ use Rattle.nts_table.specs.TableLaws.{IsTable-extended}
 use Rattle.nts_delegate.specs.ClausesKept.{AreClausesReady-kept}
 use Rattle.nts_terms.specs.declared.cx.Cx.{Cx}
 use Rattle.nts_asking.specs.Evaluation.{Goes, Runs, AreValues, AllKnown, AreOfSorts}
-use Rattle.nts_wording.specs.Found.{IsKnownValue}
-use Rattle.nts_wording.proofs.Telling.{values-extended}
+use Rattle.nts_printing.specs.Found.{IsKnownValue}
+use Rattle.nts_printing.proofs.Telling.{values-extended}
 use Rattle.nts_asking.proofs.Asking.{IsAdmitted-extended}
 use Rattle.nts_asking.proofs.Evaluating.{Knows-goes}
 

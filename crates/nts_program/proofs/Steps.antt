@@ -1,6 +1,6 @@
 -- How names and declarations stay in step.
 use Rattle.std.proofs.Common.{◌≡◌, ℕ, zero, suc, true, false, List, [], ◌∷◌, ◌++◌, inl, inr, Option, Some, length, map, slice_get, refl, sym, ap, ◌∙◌}
-use Rattle.nts_wording.specs.declared.answer.Answer.{Answer}
+use Rattle.nts_printing.specs.declared.answer.Answer.{Answer}
 use Rattle.std.specs.Option.{option_map_or}
 use Rattle.std.specs.Prelude.{vec_len, Result, Ok, Err, IfOk, OnOk}
 use Rattle.std.proofs.lemmas.List.{map-append, length-map}

@@ -19,7 +19,7 @@ use Rattle.nts_text.specs.declared.parser.Mode.TheVariants as modes
 use Rattle.nts_text.specs.declared.parser.Param.{Param}
 use Rattle.nts_text.specs.declared.resolver.Resolved.{Resolved}
 use Rattle.nts_program.specs.declared.program.Program.{Program}
-use Rattle.nts_wording.specs.declared.answer.Answer.{Answer}
+use Rattle.nts_printing.specs.declared.answer.Answer.{Answer}
 use Rattle.nts_wording.specs.Meaning.{IsRuleOf, IsEnvironmentFor}
 use Rattle.nts_program.specs.Proving.{IsJustifiedAnswer}
 

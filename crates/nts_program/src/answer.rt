@@ -8,7 +8,7 @@ ghost use Rattle.nts_delegate.specs.Clauses.{AreClausesReady};
 ghost use Rattle.nts_asking.specs.Evaluation.{IsAdmitted, AreOfSorts};
 ghost use Rattle.nts_certainty.specs.declared.certainty.Certainty.TheVariants as certainty;
 ghost use Rattle.nts_program.specs.Proving.{IsTypingMode, IsProvedGoal, IsJustifiedAnswer, IsPosedLine};
-ghost use Rattle.nts_wording.specs.Found.{IsKnownValue};
+ghost use Rattle.nts_printing.specs.Found.{IsKnownValue};
 ghost use Rattle.nts_wording.specs.Meaning.{AreVariablesFrom};
 ghost use Rattle.nts_store.specs.Growth.{tree_at};
 ghost use Rattle.nts_terms.specs.Rest.{Grows};
@@ -17,11 +17,12 @@ use nts_certainty::{Certainty, MaybeCause};
 use nts_delegate::{Assembly, Clauses};
 use nts_evaluation::{evaluate_root_goal, goal_is_admitted};
 use nts_model::Sort;
+use nts_printing::{Answer, answer_of};
 use nts_store::{EvalError, NodeId};
 use nts_table::InferCtxt;
 use nts_terms::{Cx, GenericArg, Goal, ParamEnv, Span, TypingMode};
 use nts_text::{Mode, Resolved};
-use nts_wording::{Answer, LineVariables, MISFIT, Stop, Terms, answer_of, goal_of};
+use nts_wording::{LineVariables, MISFIT, Stop, Terms, goal_of};
 use std::alloc::{AllocError, Global};
 
 /// What a goal may know of hidden types in this mode: there are none.

@@ -6,8 +6,8 @@ ghost use Rattle.nts_delegate.specs.declared.clauses.Clause.{Clause};
 ghost use Rattle.nts_text.specs.Lines.{IsPassedOver};
 ghost use Rattle.nts_text.specs.Resolution.{trait_sorts};
 ghost use Rattle.nts_wording.specs.Meaning.{IsRuleOf};
-ghost use Rattle.nts_wording.specs.Answers.{IsAnswerPut};
-ghost use Rattle.nts_wording.specs.Growing.{Begins};
+ghost use Rattle.nts_printing.specs.Answers.{IsAnswerPut};
+ghost use Rattle.nts_printing.specs.Growing.{Begins};
 ghost use Rattle.nts_wording.specs.Statuses.{is_refusal};
 ghost use Rattle.nts_program.specs.Obeying.{IsNewProgram, DeclaresType, DeclaresTrait, Follows, KeepsRules, AssumesNodes, IsObeyed, IsInStep};
 ghost use Rattle.nts_terms.specs.Rest.{Grows};
@@ -15,9 +15,10 @@ ghost use Rattle.nts_terms.specs.Rest.{Grows};
 use crate::answer::ask;
 use nts_delegate::Clauses;
 use nts_model::{Sort, Variance};
+use nts_printing::{Answer, write_answer};
 use nts_terms::{Cx, ParamEnv, are_variances};
 use nts_text::{Command, Mode, NameTable, Param, Resolved, Scope, read_command};
-use nts_wording::{Answer, MISFIT, Stop, clause_of, environment_of, write_answer};
+use nts_wording::{MISFIT, Stop, clause_of, environment_of};
 use std::alloc::{AllocError, Global};
 use std::io::Write;
 
@@ -71,7 +72,7 @@ impl Program {
     }
 
     /// Writes the answer to the last line, and lets it out. Whatever happens, what was written before stays.
-    #[tactic(auto, using(nts_wording::proofs::Growths::writes))]
+    #[tactic(auto, using(nts_printing::proofs::Growths::writes))]
     pub fn write_answer<W: Write>(&self, output: &mut W, answer: &Answer) -> Result<(), Stop>
         ensures told { OnOk result (IsAnswerPut self.now.cx.nodes self.now.names self.now.scope
             answer.now (W.contents output.old) (W.contents output.new)) }

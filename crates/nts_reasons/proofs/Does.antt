@@ -7,7 +7,7 @@ use Rattle.nts_text.specs.declared.commands.Command.{Command}
 use Rattle.nts_text.specs.declared.commands.Command.TheVariants as commands
 use Rattle.nts_text.specs.declared.names.NameTable.{NameTable}
 use Rattle.nts_text.specs.declared.names.Scope.{Scope}
-use Rattle.nts_wording.specs.declared.answer.Answer.{Answer}
+use Rattle.nts_printing.specs.declared.answer.Answer.{Answer}
 use Rattle.nts_program.specs.declared.program.Program.{Program}
 use Rattle.nts_program.specs.Obeying.{KeepsRules, Follows}
 use Rattle.nts_reasons.specs.declared.explainer.Asked.{Asked}

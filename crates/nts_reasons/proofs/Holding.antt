@@ -2,7 +2,7 @@
 use Rattle.std.proofs.Common.{◌≡◌, ℕ, List, [], ◌++◌, Option, refl, sym, ap, ◌∙◌, append_assoc}
 use Rattle.std.proofs.lemmas.List.{append-nil}
 use Rattle.std.specs.Prelude.{Result, Ok, Err, OnOk}
-use Rattle.nts_wording.proofs.Growths.{Appends-trans, Appends-none}
+use Rattle.nts_printing.proofs.Growths.{Appends-trans, Appends-none}
 use Rattle.nts_reasons.specs.Held.{Says, IsAny, IsNothing, Lengthens}
 
 pub Lengthens-refl : {a : List ℕ} → Lengthens a a

@@ -7,7 +7,7 @@ use Rattle.nts_text.specs.declared.commands.Command.{Command}
 use Rattle.nts_text.specs.declared.commands.Command.TheVariants as commands
 use Rattle.nts_text.specs.declared.resolver.Resolved.{Resolved}
 use Rattle.nts_text.specs.declared.resolver.Resolved.TheVariants as nodes
-use Rattle.nts_wording.specs.declared.answer.Answer.{Answer}
+use Rattle.nts_printing.specs.declared.answer.Answer.{Answer}
 use Rattle.nts_program.specs.Obeying.{IsNewProgram, PassesOver, Follows}
 use Rattle.nts_reasons.specs.ImplLines.{lines_of, NotesLine}
 use Rattle.nts_reasons.specs.declared.explainer.Asked.{Asked}

@@ -11,10 +11,10 @@ use Rattle.nts_text.specs.Input.{lines_of}
 use Rattle.nts_text.specs.Lines.{IsPassedOver}
 use Rattle.nts_text.specs.declared.refusals.Refusal.{Refusal}
 use Rattle.nts_text.specs.declared.resolver.Resolved.{Resolved}
-use Rattle.nts_wording.specs.declared.answer.Answer.{Answer}
-use Rattle.nts_wording.specs.declared.answer.Answer.TheVariants as answers
-use Rattle.nts_wording.specs.Answers.{IsAnswerText}
-use Rattle.nts_wording.specs.Growing.{refusal_line}
+use Rattle.nts_printing.specs.declared.answer.Answer.{Answer}
+use Rattle.nts_printing.specs.declared.answer.Answer.TheVariants as answers
+use Rattle.nts_printing.specs.Answers.{IsAnswerText}
+use Rattle.nts_printing.specs.Growing.{refusal_line}
 use Rattle.nts_explaining.specs.Explaining.{GivesReasons}
 use Rattle.nts_explaining.specs.declared.kinds.Reason.{Reason}
 use Rattle.nts_program.specs.Proving.{rules_with, IsPosedLine}

@@ -6,7 +6,7 @@ ghost use Rattle.nts_table.specs.Tables.{IsTable};
 ghost use Rattle.nts_terms.specs.Handles.{HoldsGoal};
 ghost use Rattle.nts_terms.specs.Rest.{Grows};
 ghost use Rattle.nts_text.specs.Lines.{IsPassedOver};
-ghost use Rattle.nts_wording.specs.Growing.{Begins};
+ghost use Rattle.nts_printing.specs.Growing.{Begins};
 ghost use Rattle.nts_wording.specs.Statuses.{is_refusal};
 ghost use Rattle.nts_reasons.specs.Obeying.{trait_of, lines_for, IsNewExplainer, HasLines, DoesCommand, IsObeyed, Notes};
 ghost use Rattle.nts_reasons.specs.Running.{is_yes, HasMoreTerms, HasReasons, AreReasonsOf, IsReasonedPut, IsTold};
@@ -16,11 +16,12 @@ use crate::wording::write_reasons;
 use nts_delegate::{Assembly, Clauses};
 use nts_evaluation::goal_is_admitted;
 use nts_explaining::{Reason, explain};
+use nts_printing::Answer;
 use nts_program::{Program, Stop, pose};
 use nts_table::InferCtxt;
 use nts_terms::{Cx, Goal};
 use nts_text::{Command, Resolved, read_command};
-use nts_wording::{Answer, LineVariables, MISFIT};
+use nts_wording::{LineVariables, MISFIT};
 use std::alloc::Global;
 use std::io::Write;
 
@@ -105,7 +106,7 @@ impl Explainer {
 
     /// Writes the answer to the goal of the last line, and behind it what its candidates came to, if the answer is not yes. Each
     /// is let out. Whatever happens, what was written before stays.
-    #[tactic(auto, using(nts_wording::proofs::Growths::writes))]
+    #[tactic(auto, using(nts_printing::proofs::Growths::writes))]
     pub fn tell<W: Write>(&mut self, output: &mut W, asked: &Asked) -> Result<(), Stop>
         requires ready { AreClausesReady self.old.program.cx.nodes self.old.program.clauses }
         ensures ready { AreClausesReady self.new.program.cx.nodes self.new.program.clauses }
@@ -123,7 +124,7 @@ impl Explainer {
     }
 
     /// Writes what the candidates for the goal that these nodes say come to.
-    #[tactic(auto, using(nts_wording::proofs::Growths::writes))]
+    #[tactic(auto, using(nts_printing::proofs::Growths::writes))]
     fn tell_reasons<W: Write>(&mut self, output: &mut W, nodes: &[Resolved]) -> Result<(), Stop>
         requires ready { AreClausesReady self.old.program.cx.nodes self.old.program.clauses }
         ensures ready { AreClausesReady self.new.program.cx.nodes self.new.program.clauses }

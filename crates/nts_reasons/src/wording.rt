@@ -3,7 +3,7 @@ ghost use Rattle.std.specs.Prelude.{◌≡◌, ◌++◌, false, length, All, IfE
 ghost use Rattle.nts_store.specs.Growth.{IsIn};
 ghost use Rattle.nts_terms.specs.Handles.{HoldsArgs, HoldsGoal, HoldsVars};
 ghost use Rattle.nts_explaining.specs.Explaining.{HoldsReason};
-ghost use Rattle.nts_wording.specs.Growing.{Begins};
+ghost use Rattle.nts_printing.specs.Growing.{Begins};
 ghost use Rattle.nts_wording.specs.Statuses.{is_refusal};
 ghost use Rattle.nts_reasons.specs.Held.{Says, IsAny, IsNothing, Lengthens};
 ghost use Rattle.nts_reasons.specs.Reasons.{IsReasonsPut, IsReasonLine, IsAskedText, origin_words, reason_words, outcome_words, doubt_words};
@@ -16,11 +16,12 @@ use nts_explaining::Reason;
 use nts_model::{
     BoundVarIndexKind, Constant, FreeRegion, IntTy, Label, Leaf, Sort, TyHead, UintTy, VariableKind,
 };
+use nts_printing::put_answer;
 use nts_program::{Program, Stop};
 use nts_store::NodeId;
 use nts_terms::{BoundVars, ClauseKind, Cx, Goal, PredicateKind, TraitRef};
 use nts_text::{NameTable, Scope, Signature};
-use nts_wording::{LineVariables, put_answer};
+use nts_wording::LineVariables;
 use std::alloc::{AllocError, Global};
 use std::io::Write;
 
@@ -49,7 +50,7 @@ struct Wording<'a> {
 
 /// Writes a line for each of the reasons, and lets them out, if these are the lines of the impls of the goal's trait. Whatever
 /// happens, what was written before stays.
-#[tactic(auto, using(nts_wording::proofs::Growths::writes))]
+#[tactic(auto, using(nts_printing::proofs::Growths::writes))]
 pub(crate) fn write_reasons<W: Write>(
     output: &mut W,
     program: &Program,
@@ -100,7 +101,7 @@ fn place_numbers(numbers: &mut [usize], places: &[usize]) {
 
 impl Wording<'_> {
     /// The line of a candidate.
-    #[tactic(auto, using(nts_wording::proofs::Growths::writes))]
+    #[tactic(auto, using(nts_printing::proofs::Growths::writes))]
     fn reason<W: Write>(
         &mut self,
         output: &mut W,
@@ -122,7 +123,7 @@ impl Wording<'_> {
     }
 
     /// The condition that a reason names, if it names one.
-    #[tactic(auto, using(nts_wording::proofs::Growths::writes))]
+    #[tactic(auto, using(nts_printing::proofs::Growths::writes))]
     fn asked<W: Write>(&mut self, output: &mut W, reason: Reason) -> Result<(), Stop>
         requires { HoldsReason self.old.cx.now.nodes reason }
         ensures says { OnOk result (Says (IsAskedText reason) (W.contents output.old)
@@ -159,7 +160,7 @@ impl Wording<'_> {
     }
 
     /// What a condition asks for.
-    #[tactic(auto, using(nts_wording::proofs::Growths::writes))]
+    #[tactic(auto, using(nts_printing::proofs::Growths::writes))]
     fn goal<W: Write>(&mut self, output: &mut W, goal: Goal) -> Result<(), Stop>
         requires { HoldsGoal self.old.cx.now.nodes goal }
         ensures says { OnOk result (Says IsAny (W.contents output.old)
@@ -200,7 +201,7 @@ impl Wording<'_> {
     }
 
     /// A trait with its arguments.
-    #[tactic(auto, using(nts_wording::proofs::Growths::writes))]
+    #[tactic(auto, using(nts_printing::proofs::Growths::writes))]
     fn trait_goal<W: Write>(&mut self, output: &mut W, trait_ref: TraitRef) -> Result<(), Stop>
         requires { HoldsArgs self.old.cx.now.nodes trait_ref.args }
         ensures says { OnOk result (Says IsAny (W.contents output.old)
@@ -340,7 +341,7 @@ impl Wording<'_> {
     }
 
     /// Lets out what is held, if it is much.
-    #[tactic(auto, using(nts_wording::proofs::Growths::writes))]
+    #[tactic(auto, using(nts_printing::proofs::Growths::writes))]
     fn put_much<W: Write>(&mut self, output: &mut W) -> Result<(), Stop>
         ensures says { OnOk result (Says IsNothing (W.contents output.old)
             (W.contents output.new) self.old.text.items self.new.text.items) }
@@ -355,7 +356,7 @@ impl Wording<'_> {
     }
 
     /// Lets out what is held.
-    #[tactic(auto, using(nts_wording::proofs::Growths::writes))]
+    #[tactic(auto, using(nts_printing::proofs::Growths::writes))]
     fn put_out<W: Write>(&mut self, output: &mut W) -> Result<(), Stop>
         ensures says { OnOk result (Says IsNothing (W.contents output.old)
             (W.contents output.new) self.old.text.items self.new.text.items) }

@@ -1,10 +1,4 @@
 pub mod Stores
-pub mod Growths
-pub mod Printed
-pub mod Writing
-mod Answered
-pub mod Lines
-pub mod Telling
 pub mod Meant
 pub mod Places
 pub mod Rules

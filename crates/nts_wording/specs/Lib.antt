@@ -1,7 +1,2 @@
 pub mod Statuses
-pub mod Growing
-pub mod Printing
-pub mod Pieces
-pub mod Answers
-pub mod Found
 pub mod Meaning

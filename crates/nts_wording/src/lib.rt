@@ -6,18 +6,12 @@
 //! the nesting of a type.
 #![tactic(auto)]
 
-mod answer;
 mod build;
-mod output;
-mod printer;
 mod sentences;
 mod status;
 mod variables;
 
-pub use answer::{Answer, Found, answer_of};
 pub use build::{MISFIT, Terms};
-pub use output::{put_answer, put_refusal};
-pub use printer::write_answer;
 pub use sentences::{clause_of, environment_of, goal_of};
 pub use status::{Status, Stop};
 pub use variables::LineVariables;

@@ -1,5 +1,5 @@
 use Rattle.std.proofs.Common.{length, ap, ◌∙◌}
-use Rattle.nts_wording.proofs.Growths.{Begins-trans}
+use Rattle.nts_printing.proofs.Growths.{Begins-trans}
 use Rattle.nts_reasons.specs.Origins.{origins_of}
 use Rattle.nts_reasons.proofs.Worded.{with_text_of, get_here, lines_next}
 use Rattle.nts_reasons.proofs.wording.write_reasons.Goals as goal

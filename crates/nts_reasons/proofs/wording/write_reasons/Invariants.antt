@@ -1,5 +1,5 @@
 use Rattle.std.proofs.Common.{◌≡◌, take, length}
-use Rattle.nts_wording.specs.Growing.{Begins}
+use Rattle.nts_printing.specs.Growing.{Begins}
 use Rattle.nts_reasons.specs.Held.{Says}
 use Rattle.nts_reasons.specs.Origins.{origins_of}
 use Rattle.nts_reasons.specs.Reasons.{AreReasonLines}

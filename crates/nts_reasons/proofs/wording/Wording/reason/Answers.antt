@@ -1,4 +1,4 @@
-use Rattle.nts_wording.proofs.Growths.{Begins-trans}
+use Rattle.nts_printing.proofs.Growths.{Begins-trans}
 use Rattle.nts_reasons.proofs.Holding.{on_ok}
 use Rattle.nts_reasons.proofs.Worded.{line_said}
 use Rattle.nts_reasons.proofs.wording.Wording.reason.Goals as goal

@@ -1,5 +1,5 @@
 use Rattle.std.proofs.Common.{ap, ◌∙◌}
-use Rattle.nts_wording.proofs.Growths.{Begins-refl, Begins-trans}
+use Rattle.nts_printing.proofs.Growths.{Begins-refl, Begins-trans}
 use Rattle.nts_reasons.proofs.Holding.{Lengthens-trans, Lengthens-append, Says-more, Says-any}
 use Rattle.nts_reasons.proofs.Worded.{with_text_of}
 use Rattle.nts_reasons.proofs.wording.Wording.trait_goal.Goals as goal

@@ -1,5 +1,5 @@
 use Rattle.std.proofs.Common.{◌≡◌}
-use Rattle.nts_wording.specs.Growing.{Begins}
+use Rattle.nts_printing.specs.Growing.{Begins}
 use Rattle.nts_reasons.specs.Held.{Says, IsAny}
 use Rattle.nts_reasons.proofs.wording.Wording.trait_goal.Given as goal
 

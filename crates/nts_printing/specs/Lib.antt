@@ -1,0 +1,5 @@
+pub mod Growing
+pub mod Printing
+pub mod Pieces
+pub mod Answers
+pub mod Found
