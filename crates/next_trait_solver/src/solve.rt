@@ -9,5 +9,8 @@ pub use nts_evaluation::{
     root_goal_may_hold_opaque_types_jank, root_goal_may_hold_with_depth,
 };
 pub use nts_merging::{MergeCandidateInfo, bail_with_ambiguity, flounder, try_merge_candidates};
+pub use nts_reruns::{
+    AccessedOpaques, RerunDecision, should_rerun_after_erased_canonicalization,
+};
 pub use nts_search::{CurrentGoalKind, initial_provisional_result, step_kind_for_source};
 pub use nts_terms::{TypingMode, VisibleForLeakCheck};

@@ -53,7 +53,8 @@ use Rattle.nts_delegate.specs.declared.delegate.CandidateGoal.{CandidateGoal}
 use Rattle.nts_delegate.specs.declared.delegate.CandidateData.{CandidateData}
 use Rattle.nts_terms.specs.declared.handles.Goal.{Goal}
 use Rattle.nts_delegate.specs.Candidates.{AreEquations, AreRegionConstraints, AreNested, IsCandidate, AreCandidates}
-use Rattle.nts_delegate.specs.Offered.{certainty_of, access_of, source_of, equation_as, equation_of, hidden_of, constraint_of, premise_of, candidate_of, candidates_of}
+use Rattle.nts_certainty.specs.Accesses.{access_of}
+use Rattle.nts_delegate.specs.Offered.{certainty_of, source_of, equation_as, equation_of, hidden_of, constraint_of, premise_of, candidate_of, candidates_of}
 use Rattle.nts_asking.specs.Meant.{IsServed}
 use Rattle.nts_asking.specs.Running.{Stays, EquationHolds, ConstraintHolds, PremiseHolds, EachStays, EquatesEach, Constrains}
 use Rattle.nts_theory.specs.Telling.{IsTermTable}

@@ -3,7 +3,9 @@
 #![tactic(auto)]
 
 mod certainty;
+mod reruns;
 mod sources;
 
 pub use certainty::{Certainty, MaybeCause, MaybeInfo, OpaqueTypesJank};
-pub use sources::{GoalSource, HasChanged, PathKind, RerunCondition};
+pub use reruns::{RerunCondition, is_listed};
+pub use sources::{GoalSource, HasChanged, PathKind};

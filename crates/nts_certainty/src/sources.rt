@@ -1,6 +1,4 @@
-//! Where goals come from, what changes, and when a goal is asked again.
-
-use nts_terms::AliasId;
+//! Where goals come from, and what changes.
 
 /// How a cycle through a step counts.
 #[derive(Clone, Copy, PartialEq, Eq)]
@@ -30,14 +28,4 @@ pub enum GoalSource {
 pub enum HasChanged {
     Yes,
     No,
-}
-
-/// When a goal must be asked again, since its answer rests on hidden types.
-#[derive(Drop)]
-pub enum RerunCondition {
-    Never,
-    OpaqueInStorage(Vec<AliasId>),
-    AnyOpaqueHasInferAsHidden,
-    OpaqueInStorageOrAnyOpaqueHasInferAsHidden(Vec<AliasId>),
-    Always,
 }

@@ -29,7 +29,7 @@ use Rattle.nts_model.specs.Tables.Worlds.{World, inst, Agrees, Solves}
 use Rattle.nts_model.specs.Tables.Worlds.{World, inst, IsTrueOf, IsMet}
 use Rattle.nts_model.specs.Terms.Substitutions.{leaf_tree, Occurs, filled}
 use Rattle.nts_model.specs.Terms.Substitutions.{leaf_tree, Occurs, filled}
-use Rattle.nts_model.specs.Terms.Trees.{Tree, empty, more, node, IsFormed, kind_of_label, kind_of, of_sort}
+use Rattle.nts_model.specs.Terms.Trees.{Tree, empty, more, node, kind_of_label, kind_of, of_sort}
 use Rattle.nts_model.specs.Terms.Trees.{Tree}
 use Rattle.nts_model.specs.declared.labels.BoundVarIndexKind.TheVariants as index
 use Rattle.nts_model.specs.declared.labels.FreeRegion.TheVariants as region
@@ -40,11 +40,11 @@ use Rattle.nts_model.specs.declared.labels.Leaf.{Leaf}
 use Rattle.nts_model.specs.declared.labels.Relation.TheVariants as relation
 use Rattle.nts_model.specs.declared.labels.Relation.{Relation}
 use Rattle.nts_model.specs.declared.labels.Sort.{Sort}
-use Rattle.nts_theory.proofs.Refutation.Choosing.{fresh_known, AreOfTable, equations_known}
-use Rattle.nts_theory.proofs.Refutation.Freshening.{filled_agree, knows_leaf}
-use Rattle.nts_theory.proofs.Refutation.Freshening.{freshened_world, filled_agree}
+use Rattle.nts_theory.proofs.Refutation.Choosing.{fresh_known, AreOfTable, equations_known, read_later}
+use Rattle.nts_theory.proofs.Refutation.Freshening.{knows_leaf}
+use Rattle.nts_theory.proofs.Refutation.Freshening.{freshened_world}
 use Rattle.nts_theory.proofs.Refutation.Trying.{KnowsEquations, equated_world}
-use Rattle.nts_theory.specs.Telling.{FailsToAdd, IsBegun, BreaksOff}
+use Rattle.nts_theory.specs.Telling.{IsBegun}
 use Rattle.std.proofs.Common.{ℕ, ◌≡◌, inl, inr, List, [], ◌∷◌, length, refl, sym, ap, subst, ◌∙◌, arith, Some, slice_get, true}
 use Rattle.std.proofs.Common.{◌≡◌, inl, inr, ℕ, zero, suc, List, [], ◌∷◌, map, get_or, length, refl, sym, ap, ◌∙◌, subst}
 use Rattle.std.specs.Prelude.{◌⊎◌}
@@ -97,10 +97,6 @@ no_list list.Binder e = absurd (cc e)
 
 some_kind : (l : Label) (c : Tree) → kind_of (node l c) ≡ Some (of_sort sort.Region) → kind_of_label l ≡ of_sort sort.Region
 some_kind l c e = cc e
-
--- a term over positions is read alike in a world that agrees
-read_later : (c : Content) (w v : World) (vs : List Tree) (t : Tree) → Agrees (length c.slots) w v → IsFormed t → ((l : Leaf) → Occurs l t → Knows c (leaf_tree l)) → read_in v vs t ≡ read_in w vs t
-read_later c w v vs t a f k = filled_agree (λ l. inst v (leaf_tree l)) (λ l. inst w (leaf_tree l)) vs t f (λ l o. inst-agrees c w v (leaf_tree l) a (k l o))
 
 module _ (q : Content) (w : World) (s : Solves q w) (e g : Tree) (known : Knows q (pair e g)) (y : Candidate) (over : IsCandidateFor e g y) (us : List Tree) (fit : AreValuesOf y.fresh us) (one : (t : Tree) → Among us t → HasOneRegion t) (named : AreNamedValues term_level q.universe us)
     (equal : (x : Equation) → Among y.equations x → read_in (blurred_world w) us (left_of x) ≡ read_in (blurred_world w) us (right_of x)) (proper : IsProperContent q) where
@@ -238,13 +234,3 @@ module _ (q : Content) (w : World) (s : Solves q w) (e g : Tree) (known : Knows 
       same : (zs : List Tree) (v : GoesOn met chosen) → ((t : Tree) → Among zs t → Knows q t) → map (λ t. merged (inst v.world t)) zs ≡ map (λ t. merged (inst w t)) zs
       same [] v h = refl
       same (z ∷ zs) v h = cc (ap merged (inst-agrees q (blurred_world w) v.world z v.agrees (h z (inl refl)) ∙ sym (inst_blurred w z)) ∙ merged_same (merged (inst w z)) (merged_one (inst w z)), same zs v (λ t i. h t (inr i)))
-
-  -- .. and no equality of its constraints fails
-  adds_never_fail : (xs : List Constraint) (d : Content) (chosen : List Tree) → ((x : Constraint) → Among xs x → Among y.constraints x) → GoesOn d chosen → FailsToAdd chosen xs d → ⊥
-  adds_never_fail [] d chosen h v a = a
-  adds_never_fail (x ∷ xs) d chosen h v (inl (is, u)) = u.none v.world v.solves (one_equal x d chosen v (h x (inl refl)) is)
-  adds_never_fail (x ∷ xs) d chosen h v (inr (b, first, rest)) =
-      adds_never_fail xs b chosen (λ z i. h z (inr i)) (added_by x.relation (constraint_by (filled chosen) x) d b chosen refl v first (λ is. one_equal x d chosen v (h x (inl refl)) is)) rest
-
-  pub never_breaks : BreaksOff q y → ⊥
-  never_breaks b = adds_never_fail y.constraints b.equal b.values (λ z i. i) (equated_there b.values b.made b.equal b.freshens b.equates) b.fails

@@ -1,6 +1,6 @@
 -- What a query's answer says of a world with one region: it is found in the table, and granted to the caller.
 use Rattle.std.proofs.Common.{◌≡◌, inl, inr, ℕ, zero, suc, false, List, [], ◌∷◌, map, get_or, Option, Some, None, refl, sym, ap, subst, ◌∙◌, arith}
-use Rattle.std.specs.Prelude.{slice_get, Contains, ◌-◌}
+use Rattle.std.specs.Prelude.{slice_get, ◌-◌}
 use Rattle.std.specs.List.{position_or_len}
 use Rattle.nts_model.specs.declared.labels.Sort.{Sort}
 use Rattle.nts_model.specs.declared.labels.Sort.TheVariants as sort
@@ -11,7 +11,7 @@ use Rattle.nts_model.specs.declared.labels.Constant.TheVariants as constant
 use Rattle.nts_model.specs.declared.labels.Leaf.{Leaf}
 use Rattle.nts_model.specs.declared.labels.Leaf.TheVariants as leaf
 use Rattle.nts_model.specs.Terms.Trees.{Tree, empty}
-use Rattle.nts_model.specs.Tables.Contents.{Content, Slot, Recorded, map_slot, universe_of, kind_at}
+use Rattle.nts_model.specs.Tables.Contents.{Content, Slot, map_slot, universe_of, kind_at}
 use Rattle.nts_model.specs.Tables.Resolving.{Knows, deeply_resolved}
 use Rattle.nts_model.specs.Tables.Levels.{NamesAll}
 use Rattle.nts_model.specs.Tables.Worlds.{World, inst}
@@ -23,7 +23,6 @@ use Rattle.nts_model.specs.Answers.Responses.{Findings, AreFindings, own_leaves,
 use Rattle.nts_model.specs.Terms.Placeholders.{leaf_level}
 use Rattle.nts_model.specs.Refutation.Containing.{IsOwnValue}
 use Rattle.nts_model.proofs.Tables.Worlds.{inst-deeply_resolved}
-use Rattle.nts_theory.proofs.Derivations.ProvedLater.{contains_first, contains_later}
 use Rattle.nts_model.proofs.Canonical.Positioned.{get_or-map, inst-filled}
 use Rattle.nts_theory.proofs.Responses.Answering.{AllTrees, AreSeen, IsPlainTerm, filled-positioned, all_found_seen, positioned_over, own_loose}
 use Rattle.nts_theory.proofs.Responses.Querying.{all_plain, own_in}
@@ -32,17 +31,16 @@ use Rattle.nts_model.specs.Terms.Trees.{IsFormed}
 use Rattle.nts_model.specs.Tables.Worlds.{Solves}
 use Rattle.nts_model.specs.Terms.Substitutions.{filled_under}
 use Rattle.nts_model.specs.Canonical.Inputs.{type_variable, integer_variable, float_variable, const_variable, region_variable}
-use Rattle.nts_model.specs.Answers.Responses.{Response, row_of, value_row, constraint_row}
-use Rattle.nts_model.proofs.Tables.Open.{Knows-deeply_resolved}
-use Rattle.nts_model.proofs.Canonical.Moving.{among-seen}
+use Rattle.nts_model.specs.Answers.Responses.{Response}
 use Rattle.nts_model.proofs.Canonical.Positioned.{replace-filled}
 use Rattle.nts_theory.specs.Telling.{IsResponseOf}
 use Rattle.nts_theory.proofs.Refutation.Responding.{ArePlaced}
-use Rattle.nts_theory.proofs.Refutation.Freshening.{filled_agree, knows_leaf}
+use Rattle.nts_theory.proofs.Refutation.Freshening.{filled_agree}
 use Rattle.nts_decisions.specs.Deciding.{blurred_leaf, blurred}
 use Rattle.nts_decisions.proofs.BlurredWorlds.{merged, blurred_world, solves_blurred, inst_blurred}
 use Rattle.nts_decisions.proofs.OneRegion.{merged_one, blurred_same, names_regions}
 use Rattle.nts_decisions.proofs.FactWorlds.{MergedWorld, leaf_one}
+use Rattle.nts_theory.proofs.Refutation.Queried.{own_known}
 
 -- a value for a position of a response, but for regions
 abbrev pub IsMergedValue : List Tree → PositionKind → Tree → Type 0
@@ -76,40 +74,9 @@ fixed_blurred w (leaf.ConstConstant a) i = absurd i
 pub blurred_filled : (own : List Tree) (t : Tree) → map blurred own ≡ own → blurred (filled own t) ≡ filled_under blurred_leaf own t
 blurred_filled own t e = replace-filled blurred_leaf own t ∙ ap (λ z. filled_under blurred_leaf z t) e
 
--- the leaves of a response are of its table
-knows_values : (q : Content) (ts : List Tree) (r : Tree) → ((t : Tree) → Among ts t → Knows q t) → Knows q r → Knows q (value_row ts r)
-knows_values q [] r h k = k
-knows_values q (t ∷ ts) r h k = (h t (inl refl), knows_values q ts r (λ x i. h x (inr i)) k)
-
-knows_sides : (q : Content) (xs : List Recorded) (r : Tree) → ((x : Recorded) → Contains xs x → Knows q x.left × Knows q x.right) → Knows q r → Knows q (constraint_row xs r)
-knows_sides q [] r h k = k
-knows_sides q (x ∷ xs) r h k = (let a = h x (contains_first x xs) in (a.0, (a.1, knows_sides q xs r (λ y i. h y (contains_later x xs y i)) k)))
-
-among_read : (f : Tree → Tree) (ts : List Tree) (t : Tree) → Among (map f ts) t → (s : Tree) × Among ts s × (t ≡ f s)
-among_read f [] t i = absurd i
-among_read f (x ∷ xs) t (inl e) = (x, inl refl, e)
-among_read f (x ∷ xs) t (inr i) = (let r = among_read f xs t i in (r.0, inr r.1, r.2))
-
 module _ (ks : List PositionKind) (q : Content) (qs ts : List Tree) (x : Findings) (table : IsQueryTable ks q qs) (found : AreFindings q qs x) (no_hidden : x.hidden ≡ []) (no_goals : x.open_goals ≡ []) (placed : ArePlaced ks qs) (m : MergedWorld q qs ts) where
-  own_known : (l : Leaf) → Among (own_leaves x) l → Knows q (leaf_tree l)
-  own_known l i =
-      let row : Knows q (row_of x) = knows_values q x.values (constraint_row x.constraints _) value_known (knows_sides q x.constraints _ side_known (rw (no_hidden, no_goals) tt)) in
-      elim (among-seen is_fixed [] (row_of x) l i) [ inl j ↦ absurd j | inr o ↦ knows_leaf q l (row_of x) o.1 row ]
-    where
-      value_known : (t : Tree) → Among x.values t → Knows q t
-      value_known t j =
-          let r = among_read (deeply_resolved q) qs t (subst (λ z. Among z t) found.values j) in
-          let k = table.terms r.0 r.1 in
-          subst (Knows q) (sym r.2) (Knows-deeply_resolved q r.0 table.sound k.0.knows)
-
-      side_known : (y : Recorded) → Contains x.constraints y → Knows q y.left × Knows q y.right
-      side_known y j =
-          let r = found.found y j in
-          let k = table.constraints in
-          subst (λ z. Knows q z.left × Knows q z.right) (sym r.2) (
-            Knows-deeply_resolved q r.0.left table.sound (k.left r.0 r.1).knows,
-            Knows-deeply_resolved q r.0.right table.sound (k.right r.0 r.1).knows,
-          )
+  known_here : (l : Leaf) → Among (own_leaves x) l → Knows q (leaf_tree l)
+  known_here l i = own_known ks q qs x table found no_hidden no_goals l i
 
   abbrev world : World
   world = blurred_world m.world
@@ -128,7 +95,7 @@ module _ (ks : List PositionKind) (q : Content) (qs ts : List Tree) (x : Finding
 
   own_one : (ls : List Leaf) → ((l : Leaf) → Among ls l → Among (own_leaves x) l) → map blurred (own_trees ls) ≡ own_trees ls
   own_one [] h = refl
-  own_one (l ∷ ls) h = cc (blurred_same (inst (blurred_world m.world) (leaf_tree l)) (leaf_one m.world l) (leaf_formed l (own_known l (h l (inl refl)))), own_one ls (λ k i. h k (inr i)))
+  own_one (l ∷ ls) h = cc (blurred_same (inst (blurred_world m.world) (leaf_tree l)) (leaf_one m.world l) (leaf_formed l (known_here l (h l (inl refl)))), own_one ls (λ k i. h k (inr i)))
 
   all_one : map blurred (own_trees (own_leaves x)) ≡ own_trees (own_leaves x)
   all_one = own_one (own_leaves x) (λ l i. i)
@@ -188,7 +155,7 @@ module _ (ks : List PositionKind) (q : Content) (qs ts : List Tree) (x : Finding
   own_values sub all [] h = tt
   own_values sub all (l ∷ ls) h =
       let i = h l (inl refl) in (
-        own_value (position_or_len (share sub l) all) l (own_known l i) (own_in ks q qs x table found no_hidden [] no_goals (λ y j. absurd j) l i) (own_loose x l i),
+        own_value (position_or_len (share sub l) all) l (known_here l i) (own_in ks q qs x table found no_hidden [] no_goals (λ y j. absurd j) l i) (own_loose x l i),
         own_values sub all ls (λ k j. h k (inr j)),
       )
 

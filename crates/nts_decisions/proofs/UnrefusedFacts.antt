@@ -18,7 +18,7 @@ use Rattle.nts_model.specs.Canonical.Inputs.{Input, PositionKind, type_variable,
 use Rattle.nts_model.specs.Canonical.Numbered.{numbered, no_leaf}
 use Rattle.nts_model.specs.Refutation.Opening.{binds, opened_in, entered_table}
 use Rattle.nts_model.specs.Answers.Responses.{Response, IsResponseTo, IsQueryTable, read_in, RefusesResponse}
-use Rattle.nts_theory.specs.Telling.{Verdict, Queries, IsInputFor, IsReady, StandsForAll, SaysOf, without_constraints, IsPlainResponse, goals_with, Tells, tells_nothing, says_nothing, tells_one, Refutes, all_fail, Outcomes, no_outcome, then_fails, then_replies, Replies, replies, Fails, is_unmet, breaks_off, is_refused, is_leaky, Reaches, asks_nothing, then_asks, RefusesOne, refuses_one, cuts_one, Refused, by_query, by_response}
+use Rattle.nts_theory.specs.Telling.{Verdict, Queries, IsInputFor, IsReady, StandsForAll, SaysOf, without_constraints, IsPlainResponse, goals_with, Tells, tells_nothing, says_nothing, tells_one, Refutes, all_fail, Outcomes, no_outcome, then_fails, then_replies, Replies, replies, Fails, is_unmet, is_refused, is_leaky, Reaches, asks_nothing, then_asks, Refused, by_query, by_response}
 use Rattle.nts_theory.proofs.Refutation.Queried.{IsFirst, BeginsEach, IsQuery, first_query, IsTried, tried, tried_knows, found_table, says_long}
 use Rattle.nts_theory.proofs.Refutation.QueryLabels.{query_without}
 use Rattle.nts_theory.proofs.Refutation.Answered.{among_split}
@@ -30,7 +30,7 @@ use Rattle.nts_decisions.proofs.FactWorlds.{MergedWorld, entered_merged, asked_t
 use Rattle.nts_decisions.proofs.GrantedFacts.{ContainsMerged, says_merged}
 use Rattle.nts_decisions.proofs.MergedAnswers.{identity_merged, merged_granted}
 use Rattle.nts_decisions.proofs.MetFacts.{is_offered_there, IsOfferedThere, values_there, fit_there, one_there, named_there, equal_there, met_there, asks_nothing_there, made_alike}
-use Rattle.nts_decisions.proofs.BegunFacts.{begun_there, never_breaks}
+use Rattle.nts_decisions.proofs.BegunFacts.{begun_there}
 use Rattle.nts_model.specs.Answers.Applying.{IsProperContent}
 use Rattle.nts_model.specs.Refutation.Choosing.{IsCandidateMet, AreNamedValues, left_of, right_of}
 use Rattle.nts_model.proofs.Tables.Slots.{KeepsKinds}
@@ -38,6 +38,8 @@ use Rattle.nts_theory.proofs.Derivations.Flattening.{among_left, among_right}
 use Rattle.nts_model.specs.Refutation.Containing.{AreInputValues, IsInputValue}
 use Rattle.nts_decisions.specs.Deciding.{blurred}
 use Rattle.nts_model.specs.Searching.Driving.{positions_from}
+use Rattle.nts_theory.proofs.Refutation.Witnesses.{outcome_long}
+use Rattle.nts_theory.proofs.Examples.ToldExamples.{no_refusal}
 
 -- leaves stand for the positions of a query, which have the kinds of any input
 pub record HasLeavesEach (Q : Queries) : Type 0 where
@@ -55,11 +57,6 @@ without q qs ts m =
       images = m.images;
     }
 
-no_refusal : (Q : Queries) (h : Handler) (mode : Mode) (c : Content) (vs : List Tree) (gs : List Premise) → gs ≡ [] → RefusesOne Q h mode (goals_with vs gs) c → ⊥
-no_refusal Q h mode c vs [] e (refuses_one d p r i k q) = i
-no_refusal Q h mode c vs [] e (cuts_one d p r i s k) = i
-no_refusal Q h mode c vs (g ∷ gs) e r = cc e
-
 nothing_reached : (Q : Queries) (h : Handler) (mode : Mode) (c d : Content) (vs : List Tree) (gs : List Premise) → gs ≡ [] → Reaches Q h mode (goals_with vs gs) c d → d ≡ c
 nothing_reached Q h mode c d vs [] e asks_nothing = refl
 nothing_reached Q h mode c d vs [] e (then_asks b p r i can a) = absurd i
@@ -70,15 +67,6 @@ reply_long : (c found : Content) (qs : List Tree) (v : Verdict) → SaysOf c fou
 reply_long c found qs v (inl (y, r)) = says_long found qs v.response r
 reply_long c found qs v (inr (y, inl r)) = says_long (without_constraints found) qs v.response r
 reply_long c found qs v (inr (y, inr r)) = says_long (without_constraints c) qs v.response r
-
-outcome_long : {Q : Queries} {h : Handler} {mode : Mode} {c : Content} {e g : Tree} {qs : List Tree} {xs : List Candidate} {vs : List Verdict} → Outcomes Q h mode c e g qs xs vs → (v : Verdict) → Among vs v → (let r = v.response in let x = r.findings in length x.values ≡ length qs)
-outcome_long no_outcome v i = absurd i
-outcome_long (then_fails before fails) v i = outcome_long before v i
-outcome_long {c = c} {qs = qs} (then_replies {vs = vs} {v = u} before (replies values met found begun reach is says)) v i =
-    elim (among_split vs (u ∷ []) v i) [
-      | inl j ↦ outcome_long before v j
-      | inr j ↦ (elim j [ inl e ↦ subst (λ (z : Verdict). (let r = z.response in let x = r.findings in length x.values ≡ length qs)) (sym e) (reply_long c found qs u says) | inr k ↦ absurd k ])
-    ]
 
 module _ (Q : Queries) (h : Handler) (law : IsLawfulHandler h) (mode : Mode) (tight : HasNoLeaks h) (c : Content) (i : Input) (from : IsAskedAs c i.environment i.predicate i) (fact : IsFactIn h mode c i.environment i.predicate)
     (q : Content) (u : List Leaf) (roots : ℕ → ℕ) (have : HaveKinds (canonical_of i) u roots) (first : IsFirst (canonical_of i) q (map leaf_tree u)) where
@@ -165,7 +153,6 @@ module _ (Q : Queries) (h : Handler) (law : IsLawfulHandler h) (mode : Mode) (ti
     -- the query's fact does not fail
     never_fails : Fails Q h mode q y → ⊥
     never_fails (is_unmet n) = n is_met
-    never_fails (breaks_off b) = (let v = entered in never_breaks q v.world v.solves e' g' first.knows y over us fit one named equal proper b)
     never_fails (is_refused values met begun refused) = no_refusal Q h mode met values y.goals no_goals refused
     never_fails (is_leaky values met found begun reach leaks) = tight found 0 leaks
 

@@ -15,7 +15,7 @@ use Rattle.nts_model.specs.Tables.Resolving.{Knows, IsSound}
 use Rattle.nts_model.specs.Tables.Worlds.{IsValue}
 use Rattle.nts_model.specs.Refutation.Choosing.{left_of, right_of, IsCandidateMet}
 use Rattle.nts_model.specs.Refutation.Opening.{binds}
-use Rattle.nts_model.specs.Canonical.Inputs.{Input, canonical_of, CanonicalInput}
+use Rattle.nts_model.specs.Canonical.Inputs.{Input}
 use Rattle.nts_theory.specs.Telling.{IsInputFor, IsTraitGoal}
 use Rattle.nts_decisions.specs.Deciding.{blurred, blurred_environment, IsUniform}
 

@@ -4,7 +4,7 @@ use Rattle.nts_model.specs.Terms.Trees.{Tree}
 use Rattle.nts_model.specs.Derivations.Related.{Constraint}
 use Rattle.nts_model.specs.Derivations.Sequents.{PathKind, coinductive, unknown, inductive, forced_ambiguity, Source, misc, type_relating, impl_where_bound, alias_bound_const, alias_well_formed, normalize_goal, Premise, Hidden}
 use Rattle.nts_model.specs.Derivations.Rules.{Equation, related, alike}
-use Rattle.nts_model.specs.Derivations.Handlers.{Cause, ambiguity, overflow, Certainty, certain, perhaps, Access, never, always, any_infer, in_storage, in_storage_or_infer, Candidate}
+use Rattle.nts_model.specs.Derivations.Handlers.{Cause, ambiguity, overflow, Certainty, certain, perhaps, Candidate}
 use Rattle.nts_certainty.specs.declared.certainty.Certainty.{Certainty as CertaintyData}
 use Rattle.nts_certainty.specs.declared.certainty.Certainty.TheVariants as certainty_data
 use Rattle.nts_certainty.specs.declared.certainty.MaybeCause.{MaybeCause}
@@ -15,8 +15,7 @@ use Rattle.nts_certainty.specs.declared.sources.PathKind.{PathKind as PathKindDa
 use Rattle.nts_certainty.specs.declared.sources.PathKind.TheVariants as path_data
 use Rattle.nts_certainty.specs.declared.sources.GoalSource.{GoalSource}
 use Rattle.nts_certainty.specs.declared.sources.GoalSource.TheVariants as source_data
-use Rattle.nts_certainty.specs.declared.sources.RerunCondition.{RerunCondition}
-use Rattle.nts_certainty.specs.declared.sources.RerunCondition.TheVariants as rerun_data
+use Rattle.nts_certainty.specs.Accesses.{access_of}
 use Rattle.nts_terms.specs.declared.handles.AliasTerm.{AliasTerm}
 use Rattle.nts_store.specs.Growth.{tree_at}
 use Rattle.nts_terms.specs.Kinds.{tree_of_alias}
@@ -41,14 +40,6 @@ may_be_error jank_data.ErrorIfRigidSelfTy = true
 abbrev pub certainty_of : CertaintyData → Certainty
 certainty_of certainty_data.Yes = certain
 certainty_of (certainty_data.Maybe m) = perhaps (cause_of m.cause) (may_be_error m.opaque_types_jank)
-
--- when a goal is asked again
-abbrev pub access_of : RerunCondition → Access
-access_of rerun_data.Never = never
-access_of (rerun_data.OpaqueInStorage ids) = in_storage (numbers_of ids.items)
-access_of rerun_data.AnyOpaqueHasInferAsHidden = any_infer
-access_of (rerun_data.OpaqueInStorageOrAnyOpaqueHasInferAsHidden ids) = in_storage_or_infer (numbers_of ids.items)
-access_of rerun_data.Always = always
 
 -- why a goal is asked
 abbrev pub path_kind_of : PathKindData → PathKind

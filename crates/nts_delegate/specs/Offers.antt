@@ -6,7 +6,7 @@ use Rattle.nts_model.specs.declared.labels.Label.TheVariants as label
 use Rattle.nts_model.specs.Terms.Trees.{Tree, empty, more, node, children, row_length, kind_of, any_argument, FitsPlace}
 use Rattle.nts_certainty.specs.declared.certainty.Certainty.TheVariants as certainty
 use Rattle.nts_certainty.specs.declared.sources.GoalSource.TheVariants as source
-use Rattle.nts_certainty.specs.declared.sources.RerunCondition.TheVariants as rerun
+use Rattle.nts_certainty.specs.declared.reruns.RerunCondition.TheVariants as rerun
 use Rattle.nts_terms.specs.declared.handles.Goal.{Goal}
 use Rattle.nts_terms.specs.declared.handles.Predicate.{Predicate}
 use Rattle.nts_terms.specs.declared.handles.TraitRef.{TraitRef}

@@ -2,7 +2,7 @@
 ghost use Rattle.std.specs.Prelude.{◌≡◌, ◌↔◌, ◌≤◌, [], length, take, IsTrue, IfOk, IsOkUnless};
 ghost use Rattle.nts_model.specs.Refutation.Choosing.{IsCandidateMet};
 ghost use Rattle.nts_unify.specs.Reading.{content_of};
-ghost use Rattle.nts_certainty.specs.declared.sources.RerunCondition.TheVariants.{Never};
+ghost use Rattle.nts_certainty.specs.declared.reruns.RerunCondition.TheVariants.{Never};
 ghost use Rattle.nts_delegate.specs.Candidates.{IsCandidate};
 ghost use Rattle.nts_delegate.specs.Offered.{candidate_of};
 ghost use Rattle.nts_asking.specs.Evaluation.{IsPosed};

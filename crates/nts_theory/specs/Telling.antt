@@ -1,7 +1,6 @@
 -- What the answers to goals rest on: the candidates of a goal, each tried to its end, and below them the goals that they ask
 -- for, each in a query of its own. A cycle is answered what an earlier round of its head found, which is told likewise, or nothing.
 use Rattle.std.specs.Prelude.{◌≡◌, ◌⊎◌, ◌↔◌, ℕ, ◌+◌, ◌≤◌, Bool, true, false, List, [], ◌∷◌, ◌++◌, map, length, get_or, Some}
-use Rattle.nts_model.specs.declared.labels.Relation.TheVariants as relation
 use Rattle.nts_model.specs.declared.labels.Sort.{Sort}
 use Rattle.nts_model.specs.declared.labels.VariableKind.TheVariants as variable
 use Rattle.nts_model.specs.declared.labels.Leaf.{Leaf}
@@ -13,19 +12,18 @@ use Rattle.nts_model.specs.Terms.Trees.{Tree, empty, node, label_of, any_label, 
 use Rattle.nts_model.specs.Tables.Contents.{Content}
 use Rattle.nts_model.specs.Tables.Resolving.{Knows, IsSound, deeply_resolved}
 use Rattle.nts_model.specs.Tables.Levels.{AreCurrent}
-use Rattle.nts_model.specs.Tables.Equations.{AreUnrelated}
 use Rattle.nts_model.specs.Tables.Passing.{BringsOnly}
 use Rattle.nts_model.specs.Tables.SubUnifying.{SharesSubRoot}
 use Rattle.nts_model.specs.Tables.Recording.{resolved_constraints, AreNews}
-use Rattle.nts_model.specs.Derivations.Related.{Constraint, pair}
+use Rattle.nts_model.specs.Derivations.Related.{pair}
 use Rattle.nts_model.specs.Lists.{Among}
 use Rattle.nts_model.specs.Derivations.Sequents.{Source, type_relating, normalize_goal, inductive, Premise}
 use Rattle.nts_model.specs.Derivations.Rules.{Mode, coherence, statement_of}
 use Rattle.nts_model.specs.Terms.Substitutions.{leaf_tree, filled}
 use Rattle.nts_model.specs.Canonical.Numbered.{position}
-use Rattle.nts_model.specs.Derivations.Handlers.{Handler, Candidate, IsAsked, constraint_by, premise_by}
+use Rattle.nts_model.specs.Derivations.Handlers.{Handler, Candidate, IsAsked, premise_by}
 use Rattle.nts_model.specs.Refutation.Choosing.{Freshens, EquatesAll, IsCandidateMet}
-use Rattle.nts_model.specs.Refutation.Forcing.{Adds, AddsAll}
+use Rattle.nts_model.specs.Refutation.Forcing.{AddsAll}
 use Rattle.nts_model.specs.Refutation.Opening.{entered_table, opened_in, placeholder_in}
 use Rattle.nts_model.specs.Searching.Driving.{unconstrained}
 use Rattle.nts_model.specs.Canonical.Inputs.{Input, IsInput, CanonicalInput, PositionKind, type_variable, integer_variable, float_variable, const_variable, region_variable, placeholder, canonical_of, originals}
@@ -118,13 +116,6 @@ pub record ChangesNothing (qs : List Tree) (v : Verdict) : Type 0 where
 abbrev pub StandsForAll : List Tree → List Verdict → Verdict → Type 0
 StandsForAll qs vs v = Among vs v × (ChangesNothing qs v ⊎ ((w : Verdict) → Among vs w → w ≡ v))
 
--- constraint by constraint, until the sides of an equality are not related
-abbrev pub FailsToAdd : List Tree → List Constraint → Content → Type 0
-FailsToAdd xs [] c = ⊥
-FailsToAdd xs (x ∷ ys) c =
-    (x.relation ≡ relation.Equal) × AreUnrelated c (filled xs x.left) (filled xs x.right)
-    ⊎ ((e : Content) × Adds (constraint_by (filled xs) x) c e × FailsToAdd xs ys e)
-
 -- a candidate's goals, with the values in place of its positions
 abbrev pub goals_with : List Tree → List Premise → List Premise
 goals_with vs ps = map (premise_by (filled vs)) ps
@@ -136,15 +127,6 @@ pub record IsBegun (c : Content) (x : Candidate) (vs : List Tree) (met : Content
   pub freshens : Freshens c.universe x.fresh vs c made
   pub equates : EquatesAll vs x.equations made equal
   pub adds : AddsAll vs x.constraints equal met
-
--- .. until an equality of regions can't be
-pub record BreaksOff (c : Content) (x : Candidate) : Type 0 where
-  pub values : List Tree
-  pub made : Content
-  pub equal : Content
-  pub freshens : Freshens c.universe x.fresh values c made
-  pub equates : EquatesAll values x.equations made equal
-  pub fails : FailsToAdd values x.constraints equal
 
 -- a source of goals the steps to which are inductive, unless they start from a goal that normalizes an alias
 abbrev pub IsInductive : Source → Type 0
@@ -220,11 +202,10 @@ mutual
     replies : {c : Content} {e g : Tree} {qs : List Tree} {x : Candidate} {v : Verdict} (values : List Tree) (met found : Content) → IsBegun c x values met → Reaches Q h mode (goals_with values x.goals) met found → IsFound c e g found → SaysOf c found qs v
         → Replies Q h mode c e g qs x v
 
-  -- a candidate fails: no world of the table meets its equations, or a constraint can't be, or a goal is refused; or the handler's
+  -- a candidate fails: no world of the table meets its equations, or a goal is refused; or the handler's
   -- leak check says of what was found that nothing which the root names meets its region constraints
   pub data Fails (Q : Queries) (h : Handler) (mode : Mode) : Content → Candidate → Type 0 where
     is_unmet : {c : Content} {x : Candidate} → (IsCandidateMet c x → ⊥) → Fails Q h mode c x
-    breaks_off : {c : Content} {x : Candidate} → BreaksOff c x → Fails Q h mode c x
     is_refused : {c : Content} {x : Candidate} (values : List Tree) (met : Content) → IsBegun c x values met → RefusesOne Q h mode (goals_with values x.goals) met → Fails Q h mode c x
     is_leaky : {c : Content} {x : Candidate} (values : List Tree) (met found : Content) → IsBegun c x values met → Reaches Q h mode (goals_with values x.goals) met found → h.leaks found 0 → Fails Q h mode c x
 

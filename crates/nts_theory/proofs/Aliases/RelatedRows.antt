@@ -1,5 +1,5 @@
 -- Rows of arguments whose pairs are related, each invariantly.
-use Rattle.std.proofs.Common.{◌≡◌, ℕ, List, [], refl, sym, arith, subst}
+use Rattle.std.proofs.Common.{◌≡◌, ℕ, List, [], sym, arith, subst}
 use Rattle.nts_model.specs.declared.labels.Variance.{Variance}
 use Rattle.nts_model.specs.declared.labels.Variance.TheVariants as variance
 use Rattle.nts_model.specs.Terms.Trees.{Tree, empty, more, node, row_length, IsRow}

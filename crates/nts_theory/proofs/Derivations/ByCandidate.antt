@@ -5,7 +5,6 @@ use Rattle.nts_model.specs.declared.labels.Sort.{Sort}
 use Rattle.nts_model.specs.declared.labels.Variance.{Variance}
 use Rattle.nts_model.specs.declared.labels.Relation.{Relation}
 use Rattle.nts_model.specs.declared.labels.Relation.TheVariants as relation
-use Rattle.nts_model.specs.declared.labels.BoundVarIndexKind.TheVariants as index
 use Rattle.nts_model.specs.declared.labels.ClauseHead.TheVariants as clause
 use Rattle.nts_model.specs.declared.labels.PredicateHead.TheVariants as predicate
 use Rattle.nts_model.specs.declared.labels.Label.{Label}
@@ -18,25 +17,23 @@ use Rattle.nts_model.specs.Tables.Alike.{Alike, one_tree, two_regions, one_label
 use Rattle.nts_model.specs.Terms.Substitutions.{put, Instance, instance_of, filled, filled_under, position_of, value_or}
 use Rattle.nts_model.specs.Derivations.Related.{Constraint, unbound}
 use Rattle.nts_model.specs.Lists.{Among}
-use Rattle.nts_model.specs.Derivations.Sequents.{Premise, Hidden, HasClosedStatement, HasClosedStatements, IsOfTerms, constraint_under, IsTrivial, Grants, Hides}
-use Rattle.nts_model.specs.Derivations.Rules.{Mode, Equation, related, alike, HoldsEquation, GoalKind, goal_kind, IsTerm, Stands, IsHandlers, IsApplied, IsRule}
-use Rattle.nts_model.specs.Derivations.Proofs.{by_rule}
-use Rattle.nts_model.specs.Derivations.Handlers.{Handler, meaning, Candidate, certain, equation_by, constraint_by, hidden_by, premise_by, kind_of_sort, AreValuesOf, use_of, IsAsked, InstancesAreRules, IsCandidateFor, IsLawfulHandler}
+use Rattle.nts_model.specs.Derivations.Sequents.{Premise, HasClosedStatement, HasClosedStatements, IsOfTerms, constraint_under, IsTrivial, Grants}
+use Rattle.nts_model.specs.Derivations.Rules.{Mode, Equation, related, alike, HoldsEquation, GoalKind, IsTerm, Stands, IsHandlers}
+use Rattle.nts_model.specs.Derivations.Handlers.{Handler, meaning, Candidate, equation_by, constraint_by, kind_of_sort, AreValuesOf, IsAsked}
 use Rattle.nts_model.specs.Derivations.Proving.{HoldsTerms, IsTermOf, AreConstraintsOf, read_constraint, recorded_as, turned, read_constraints, sequent_at, AreEquated, IsHeldAt, HoldsButForGoals}
 use Rattle.nts_model.specs.Terms.Scoping.{IsWellBound}
 use Rattle.nts_model.proofs.Tables.Fitting.{IsClosed-under}
 use Rattle.nts_model.proofs.Tables.Resolved.{deeply_resolved-node, deeply_resolved-deeply_resolved}
 use Rattle.nts_model.proofs.Tables.Kept.{kind_of-deeply_resolved}
-use Rattle.nts_theory.proofs.Derivations.Monotone.{related_more, equation_more, stands_more, rule_more}
+use Rattle.nts_theory.proofs.Derivations.Monotone.{related_more, equation_more, stands_more}
 use Rattle.nts_model.proofs.Terms.Composing.{IsFormed-instance, IsClosed-instance, Fits-instance, itself, instance_of-itself}
 use Rattle.nts_model.proofs.Tables.ResolvedTerms.{IsFormed-deeply_resolved, IsClosed-deeply_resolved}
 use Rattle.nts_model.proofs.Tables.TableInstances.{reading_of, instance_of-reading, deeply_resolved-more}
 use Rattle.nts_theory.proofs.Derivations.ProvedLater.{read_from, read_recorded, read_turned}
-use Rattle.nts_model.proofs.Terms.Identified.{one_itself, one_trans}
 use Rattle.nts_model.proofs.Tables.Open.{Knows-deeply_resolved}
-use Rattle.nts_model.proofs.Terms.Unpositioned.{or_false, known_no_positions, known_well_bound, pair_no_positions, IsFormedTerm, formed_term}
+use Rattle.nts_model.proofs.Terms.Unpositioned.{known_no_positions, known_well_bound, pair_no_positions, IsFormedTerm, formed_term}
 use Rattle.nts_theory.proofs.Derivations.ClosedStatements.{closed_unbound, closed_statements_instance}
-use Rattle.nts_theory.proofs.Derivations.Served.{IsClosedEnvironment, IsServed, derive_all, Owes, Grows, owes_none, owes_then, owes_both}
+use Rattle.nts_theory.proofs.Derivations.Served.{IsClosedEnvironment, Owes, Grows, owes_none, owes_then}
 use Rattle.nts_theory.proofs.Derivations.Relating.{Relates, alike_related}
 
 -- values under an instance

@@ -1,5 +1,5 @@
 -- The statements of an instance are closed where those of the goal or the environment are.
-use Rattle.std.proofs.Common.{◌≡◌, inl, inr, [], ◌∷◌, Some, refl, sym, ap, ◌∙◌, subst, List, false, rules, ℕ, ◌+◌}
+use Rattle.std.proofs.Common.{◌≡◌, inl, inr, [], ◌∷◌, Some, refl, sym, ap, ◌∙◌, subst, false, rules, ℕ, ◌+◌}
 use Rattle.nts_model.specs.declared.labels.ListHead.TheVariants as list
 use Rattle.nts_model.specs.declared.labels.Label.TheVariants as label
 use Rattle.nts_model.specs.Terms.Trees.{Tree, empty, more, node, IsInRow, kind_of, bound_predicate, environment, sort_list, statement, is, HavePlaces, AllFit, IsClosed, IsFormed, IsBoundBelow, IsClosedUnder, binders}
@@ -9,7 +9,7 @@ use Rattle.nts_model.specs.Derivations.Sequents.{HasClosedStatement, HasClosedSt
 use Rattle.nts_model.proofs.Terms.Substituting.{kind_of-replace, no_children}
 use Rattle.nts_model.proofs.Terms.Composing.{instance_kinds, IsClosed-instance}
 use Rattle.nts_model.specs.Derivations.Rules.{opened, opened_at}
-use Rattle.std.specs.Prelude.{◌<◌, ◌==◌, ◌⊎◌}
+use Rattle.std.specs.Prelude.{◌<◌, ◌==◌}
 use Rattle.nts_model.specs.declared.labels.Sort.{Sort}
 use Rattle.nts_model.specs.declared.labels.Leaf.{Leaf}
 use Rattle.nts_model.specs.declared.labels.BoundVarIndexKind.TheVariants as index

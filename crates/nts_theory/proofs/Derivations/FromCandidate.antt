@@ -12,7 +12,7 @@ use Rattle.nts_model.specs.Terms.Substitutions.{instance_of, Instance, filled}
 use Rattle.nts_model.specs.Derivations.Related.{unbound}
 use Rattle.nts_model.specs.Lists.{Among}
 use Rattle.nts_model.specs.Derivations.Sequents.{Source, misc, type_relating, impl_where_bound, alias_bound_const, alias_well_formed, normalize_goal, Premise, Hidden, IsOfTerms, Grants, Hides}
-use Rattle.nts_model.specs.Derivations.Rules.{Mode, Equation, HoldsEquation, GoalKind, coinductive_trait, normalization, other_goal, goal_kind, statement_kind, step_kind, proof_kind, Stands, statement_of, choice, IsHandlers, IsApplied, IsRule}
+use Rattle.nts_model.specs.Derivations.Rules.{Mode, Equation, HoldsEquation, GoalKind, coinductive_trait, normalization, other_goal, goal_kind, statement_kind, step_kind, proof_kind, Stands, statement_of, IsHandlers, IsApplied, IsRule}
 use Rattle.nts_model.specs.Derivations.Proofs.{Assumed, passed, by_rule}
 use Rattle.nts_model.specs.Derivations.Handlers.{Handler, meaning, Candidate, certain, equation_by, constraint_by, hidden_by, premise_by, AreValuesOf, use_of, IsAsked, IsHandlersSource, InstancesAreRules, IsCandidateFor, IsLawfulHandler}
 use Rattle.nts_model.specs.Derivations.Proving.{HoldsTerms, IsTermOf, AreConstraintsOf, read_constraints, sequent_at, HoldsButForGoals}

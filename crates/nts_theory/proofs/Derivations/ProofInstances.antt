@@ -8,8 +8,6 @@ use Rattle.nts_model.specs.Terms.Substitutions.{Instance, instance_of}
 use Rattle.nts_model.specs.Derivations.Related.{Constraint}
 use Rattle.nts_model.specs.Lists.{Among}
 use Rattle.nts_model.specs.Derivations.Sequents.{Premise, Hidden, Sequent, constraint_under, hidden_under, premise_under, AreOneBy, HasOneSide, IsTrivial, Grants, AreOneHidden, Hides, IsInstance}
-use Rattle.nts_model.specs.Derivations.Rules.{Meaning, Mode}
-use Rattle.nts_model.specs.Derivations.Proofs.{HasProof}
 use Rattle.nts_model.proofs.Terms.Composing.{after, instance_of-after}
 use Rattle.nts_model.proofs.Terms.Identified.{one_turned, one_trans, one_under}
 

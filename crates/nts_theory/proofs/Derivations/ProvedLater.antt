@@ -1,24 +1,18 @@
 -- A goal that is proved under a table is proved under each later one, from constraints that the table holds.
-use Rattle.std.proofs.Common.{◌≡◌, ◌⊎◌, inl, inr, ⊎_elim, zero, suc, List, [], ◌∷◌, refl, sym, ap, ◌∙◌, arith, subst}
+use Rattle.std.proofs.Common.{◌≡◌, ◌⊎◌, inl, inr, ⊎_elim, suc, List, [], ◌∷◌, refl, sym, ap, ◌∙◌, arith, subst}
 use Rattle.std.specs.Prelude.{Contains}
 use Rattle.nts_model.specs.declared.labels.Relation.{Relation}
 use Rattle.nts_model.specs.declared.labels.Relation.TheVariants as relation
 use Rattle.nts_model.specs.Terms.Trees.{Tree}
 use Rattle.nts_model.specs.Tables.Contents.{Content, Recorded}
-use Rattle.nts_model.specs.Tables.Resolving.{IsSound, deeply_resolved}
+use Rattle.nts_model.specs.Tables.Resolving.{IsSound}
 use Rattle.nts_model.specs.Tables.Holding.{HasSides, HoldsConstraint, Continues}
 use Rattle.nts_model.specs.Derivations.Related.{Constraint}
 use Rattle.nts_model.specs.Lists.{Among}
-use Rattle.nts_model.specs.Derivations.Sequents.{Premise, constraint_under, premise_under, IsInstance}
-use Rattle.nts_model.specs.Derivations.Rules.{Meaning, Mode}
-use Rattle.nts_model.specs.Derivations.Proofs.{HasProof}
-use Rattle.nts_model.specs.Derivations.Proving.{HoldsTerms, IsTermOf, AreConstraintsOf, read_constraint, turned, in_either_order, read_constraints, recorded_as, sequent_at, read_goals, sequent_with, HasFallingProofUnder}
-use Rattle.nts_model.specs.Derivations.Handlers.{premise_by}
+use Rattle.nts_model.specs.Derivations.Sequents.{constraint_under, IsInstance}
+use Rattle.nts_model.specs.Derivations.Proving.{HoldsTerms, IsTermOf, AreConstraintsOf, read_constraint, turned, in_either_order, read_constraints, recorded_as, sequent_at}
 use Rattle.nts_model.proofs.Tables.Resolved.{deeply_resolved-deeply_resolved}
-use Rattle.nts_model.proofs.Terms.Composing.{after}
 use Rattle.nts_model.proofs.Terms.Identified.{one_itself}
-use Rattle.nts_theory.proofs.Derivations.Flattening.{derivation_proof}
-use Rattle.nts_theory.proofs.Derivations.ProofInstances.{IsInstance-after}
 use Rattle.nts_model.proofs.Tables.TableInstances.{reading_of, instance_of-later}
 use Rattle.nts_model.proofs.Lists.{contains_none, first_or_later}
 

@@ -17,13 +17,13 @@ use Rattle.nts_model.specs.Derivations.Related.{arguments as arguments_of}
 use Rattle.nts_model.specs.Derivations.Related.{one_tree as same_tree}
 use Rattle.nts_model.specs.Lists.{Among}
 use Rattle.nts_model.specs.Derivations.Sequents.{Premise, constraint_under, Grants}
-use Rattle.nts_model.specs.Derivations.Rules.{Meaning, Mode, GoalKind, statement_of, choice, IsTerm, Replaced, chosen, kept_empty, kept_more, kept_node, relating, Stands}
+use Rattle.nts_model.specs.Derivations.Rules.{Meaning, Mode, GoalKind, choice, IsTerm, Replaced, chosen, kept_empty, kept_more, kept_node, relating}
 use Rattle.nts_model.proofs.Terms.Substituting.{no_children}
 use Rattle.nts_theory.proofs.Derivations.Monotone.{related_more, are_related_more, replaced_more}
 use Rattle.nts_model.proofs.Terms.Composing.{itself}
 use Rattle.nts_model.proofs.Terms.Unpositioned.{IsFormedTerm, term_formed, term_no_positions, term_well_bound}
 use Rattle.nts_model.proofs.Terms.Closed.{closed_or_not}
-use Rattle.nts_theory.proofs.Derivations.Served.{keeps_or_not, sequent_of, IsServed, Owes, Grows, owes_none, owes_then, owes_both, owes_one, OfAliases, IsClosedEnvironment, aliases_served}
+use Rattle.nts_theory.proofs.Derivations.Served.{sequent_of, IsServed, Owes, Grows, owes_none, owes_then, owes_both, owes_one, OfAliases, IsClosedEnvironment, aliases_served}
 use Rattle.nts_model.proofs.Tables.AlikeNodes.{arguments_in, alias_or_not, alias_places, IsNodeLike, that_node, that_region, that_label, node_like, IsRowLike, that_row, that_first, row_like, empty_like, arguments_like, sort_list_like, alike_closed, alike_closed_back}
 
 module _ (m : Meaning) (mode : Mode) (e : Tree) (cs : List Constraint) (formed : IsFormed e) (closed : IsClosedEnvironment e)

@@ -1,15 +1,13 @@
 -- What follows from premises of which each has a derivation, and aliases that stand for themselves.
-use Rattle.std.proofs.Common.{◌≡◌, ◌⊎◌, inl, inr, ⊎_elim, ℕ, zero, suc, ◌+◌, ◌<◌, false, List, [], ◌∷◌, refl, sym, ◌∙◌, arith, subst}
+use Rattle.std.proofs.Common.{◌≡◌, ◌⊎◌, inl, inr, ⊎_elim, false, List, [], ◌∷◌, refl, sym, ◌∙◌, arith, subst}
 use Rattle.nts_model.specs.declared.labels.Variance.TheVariants as variance
 use Rattle.nts_model.specs.declared.labels.AliasRelationDirection.TheVariants as direction
-use Rattle.nts_model.specs.declared.labels.BoundVarIndexKind.TheVariants as index
 use Rattle.nts_model.specs.declared.labels.ClauseHead.TheVariants as clause
 use Rattle.nts_model.specs.declared.labels.PredicateHead.TheVariants as predicate
 use Rattle.nts_model.specs.declared.labels.AliasHead.{AliasHead}
 use Rattle.nts_model.specs.declared.labels.AliasHead.TheVariants as alias_of
-use Rattle.nts_model.specs.declared.labels.Label.{Label}
 use Rattle.nts_model.specs.declared.labels.Label.TheVariants as label
-use Rattle.nts_model.specs.Terms.Trees.{Tree, empty, more, node, kind_of, any_label, is_canonical, binders, IsBoundBelow, IsClosedUnder, IsClosed, any_term, FitsPlace, IsFormed}
+use Rattle.nts_model.specs.Terms.Trees.{Tree, empty, node, kind_of, any_label, is_canonical, IsClosed, any_term, FitsPlace, IsFormed}
 use Rattle.nts_model.specs.Terms.Substitutions.{Instance, instance_of}
 use Rattle.nts_model.specs.Derivations.Related.{Constraint, pair, alias_goal, alias, AreRelatedByArgument}
 use Rattle.nts_model.specs.Lists.{Among}

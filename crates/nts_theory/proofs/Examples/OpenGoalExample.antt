@@ -9,7 +9,7 @@ use Rattle.nts_model.specs.Terms.Trees.{Tree, empty, node, IsInRow}
 use Rattle.nts_model.specs.Terms.Substitutions.{instance_of}
 use Rattle.nts_model.specs.Derivations.Related.{constructor, alias, pair, unbound, IsAlias, one_tree}
 use Rattle.nts_model.specs.Lists.{Among}
-use Rattle.nts_model.specs.Derivations.Sequents.{impl_where_bound, Premise, Sequent, IsOfTerms}
+use Rattle.nts_model.specs.Derivations.Sequents.{Premise, Sequent, IsOfTerms}
 use Rattle.nts_model.specs.Derivations.Rules.{coherence, Application, Meaning, meaning_of, relating, normalization_goal, aliases_relate, normalization, Stands, IsTerm}
 use Rattle.nts_model.specs.Derivations.Proofs.{IsNormalization, Serves, HasProof, Derives, by_rule, all_derived, by_derivation}
 use Rattle.nts_model.proofs.Terms.Composing.{itself, instance_of-itself}

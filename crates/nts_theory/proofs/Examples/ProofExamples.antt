@@ -7,9 +7,6 @@ use Rattle.nts_model.specs.declared.labels.ClauseHead.TheVariants as clause
 use Rattle.nts_model.specs.declared.labels.PredicateHead.TheVariants as predicate
 use Rattle.nts_model.specs.declared.labels.ListHead.TheVariants as list
 use Rattle.nts_model.specs.declared.labels.Leaf.{Leaf}
-use Rattle.nts_model.specs.declared.labels.AliasHead.{AliasHead}
-use Rattle.nts_model.specs.declared.labels.AliasHead.TheVariants as alias_of
-use Rattle.nts_model.specs.declared.labels.Label.{Label}
 use Rattle.nts_model.specs.declared.labels.Label.TheVariants as label
 use Rattle.nts_model.specs.Terms.Trees.{Tree, empty, more, node, IsInRow, kind_of, any_label, is_alias}
 use Rattle.nts_model.specs.Terms.Substitutions.{Instance, instance_of}

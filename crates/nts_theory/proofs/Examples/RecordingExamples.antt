@@ -1,5 +1,5 @@
 -- Which region constraints are told: those that say something, in the order of recording, each once.
-use Rattle.std.proofs.Common.{◌≡◌, subst, sym, ap, ℕ, ◌≤◌, ◌+◌, List, [], ◌∷◌, ◌++◌, length, refl, inl, inr, arith}
+use Rattle.std.proofs.Common.{◌≡◌, subst, sym, ap, ◌≤◌, List, [], ◌∷◌, ◌++◌, length, refl, inl, inr, arith}
 use Rattle.std.specs.Prelude.{◌⊎◌, true, false}
 use Rattle.std.proofs.lemmas.List.{same_from_push, length_push}
 use Rattle.nts_model.specs.declared.labels.Relation.TheVariants as relation
@@ -8,7 +8,7 @@ use Rattle.nts_model.specs.declared.labels.Leaf.TheVariants as leaf
 use Rattle.nts_model.specs.Terms.Trees.{Tree}
 use Rattle.nts_model.specs.Terms.Substitutions.{leaf_tree}
 use Rattle.nts_model.specs.Tables.Contents.{Recorded}
-use Rattle.nts_model.specs.Tables.Recording.{RelatesSame, SaysNothingNew, AreNews, none, passed, told}
+use Rattle.nts_model.specs.Tables.Recording.{SaysNothingNew, AreNews, none, passed, told}
 
 abbrev static_region : Tree
 static_region = leaf_tree (leaf.Region region.Static)

@@ -1,5 +1,5 @@
 -- What is told binds: responses that say nothing, verdicts that stand for others, and goals that are refuted, with what is none.
-use Rattle.std.proofs.Common.{subst, zero, suc, ◌≡◌, inl, inr, ℕ, zero, ◌+◌, ◌≤◌, true, false, List, [], ◌∷◌, ◌++◌, length, Some, refl, sym, ap, ◌∙◌, arith}
+use Rattle.std.proofs.Common.{subst, zero, suc, ◌≡◌, inl, inr, ℕ, zero, true, false, List, [], ◌∷◌, ◌++◌, length, Some, refl, sym, ap, arith}
 use Rattle.std.specs.Prelude.{◌⊎◌}
 use Rattle.nts_model.specs.declared.labels.Sort.{Sort}
 use Rattle.nts_model.specs.declared.labels.Sort.TheVariants as sort
@@ -18,11 +18,11 @@ use Rattle.nts_model.specs.Refutation.Choosing.{IsCandidateMet}
 use Rattle.nts_model.specs.Refutation.Opening.{entered_table, opened_in}
 use Rattle.nts_model.specs.Searching.Driving.{unconstrained}
 use Rattle.nts_model.specs.Canonical.Numbered.{position}
-use Rattle.nts_model.specs.Canonical.Inputs.{PositionKind, type_variable, integer_variable, placeholder}
+use Rattle.nts_model.specs.Canonical.Inputs.{PositionKind, type_variable, integer_variable}
 use Rattle.nts_model.specs.Answers.Responses.{Response}
 use Rattle.nts_model.specs.Terms.Substitutions.{leaf_tree}
 use Rattle.nts_theory.proofs.Refutation.Agreeing.{nothing_is_identity}
-use Rattle.nts_theory.specs.Telling.{Verdict, Queries, IsReady, SaysNothing, ChangesNothing, StandsForAll, FailsToAdd, goals_with, Refutes, all_fail, Outcomes, no_outcome, then_fails, then_replies, Fails, is_unmet, breaks_off, is_refused, is_leaky, RefusesOne, refuses_one, cuts_one}
+use Rattle.nts_theory.specs.Telling.{Verdict, Queries, IsReady, SaysNothing, ChangesNothing, StandsForAll, goals_with, Refutes, all_fail, Outcomes, no_outcome, then_fails, then_replies, Fails, is_unmet, is_refused, is_leaky, RefusesOne, refuses_one, cuts_one}
 
 -- the answer without constraints says nothing, in each universe
 unconstrained_says_nothing : (ks : List PositionKind) → SaysNothing ks (unconstrained ks)
@@ -46,17 +46,13 @@ two_made_one_say_something : SaysNothing two_variables both_one → ⊥
 two_made_one_say_something e = (let many : 1 ≡ 2 = ap (λ (r : Response). length r.kinds) e in omega (arith, many))
 
 -- a candidate without constraints and goals that is met does not fail, where the handler reports no leak
-no_refusal : (Q : Queries) (h : Handler) (mode : Mode) (c : Content) (vs : List Tree) (gs : List Premise) → gs ≡ [] → RefusesOne Q h mode (goals_with vs gs) c → ⊥
+pub no_refusal : (Q : Queries) (h : Handler) (mode : Mode) (c : Content) (vs : List Tree) (gs : List Premise) → gs ≡ [] → RefusesOne Q h mode (goals_with vs gs) c → ⊥
 no_refusal Q h mode c vs [] e (refuses_one d p r i k q) = i
 no_refusal Q h mode c vs [] e (cuts_one d p r i s k) = i
 no_refusal Q h mode c vs (g ∷ gs) e r = cc e
 
-no_break : (xs : List Tree) (x : Candidate) (c : Content) → x.constraints ≡ [] → FailsToAdd xs x.constraints c → ⊥
-no_break xs x c e f = (let z : FailsToAdd xs [] c = rw e at f in z)
-
 pub fact_never_fails : (Q : Queries) (h : Handler) (mode : Mode) (c : Content) (x : Candidate) → HasNoLeaks h → IsCandidateMet c x → x.constraints ≡ [] → x.goals ≡ [] → Fails Q h mode c x → ⊥
 fact_never_fails Q h mode c x tight met constraints goals (is_unmet n) = n met
-fact_never_fails Q h mode c x tight met constraints goals (breaks_off b) = no_break b.values x b.equal constraints b.fails
 fact_never_fails Q h mode c x tight met constraints goals (is_refused values there begun refused) = no_refusal Q h mode there values x.goals goals refused
 fact_never_fails Q h mode c x tight met constraints goals (is_leaky values there found begun reach leaks) = tight found 0 leaks
 

@@ -7,7 +7,7 @@ use Rattle.nts_model.specs.declared.labels.VariableKind.{VariableKind}
 use Rattle.nts_model.specs.declared.labels.FreeRegion.{FreeRegion}
 use Rattle.nts_model.specs.declared.labels.FreeRegion.TheVariants as region
 use Rattle.nts_model.specs.declared.labels.Leaf.{Leaf}
-use Rattle.nts_model.specs.Terms.Trees.{Tree, empty, more, IsFormed}
+use Rattle.nts_model.specs.Terms.Trees.{Tree, empty, IsFormed}
 use Rattle.nts_model.specs.Tables.Contents.{Content, kind_at}
 use Rattle.nts_model.specs.Tables.Resolving.{Knows}
 use Rattle.nts_model.specs.Terms.Placeholders.{CanName, free_region_level, leaf_level}

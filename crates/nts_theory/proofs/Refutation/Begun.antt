@@ -1,6 +1,5 @@
 -- A caller of a query, and candidates that are begun in its table.
-use Rattle.std.proofs.Common.{ℕ, ◌≡◌, inl, inr, zero, ◌+◌, ◌≤◌, true, List, [], ◌∷◌, ◌++◌, Option, Some, None, refl, sym, subst, ◌∙◌}
-use Rattle.std.specs.Prelude.{◌⊎◌}
+use Rattle.std.proofs.Common.{ℕ, ◌≡◌, inl, inr, ◌≤◌, List, [], ◌∷◌, Option, Some, None, refl, sym, subst}
 use Rattle.nts_model.specs.declared.labels.Leaf.{Leaf}
 use Rattle.nts_model.specs.declared.labels.Leaf.TheVariants as leaf
 use Rattle.nts_model.specs.Terms.Trees.{Tree}
@@ -20,14 +19,14 @@ use Rattle.nts_theory.specs.Refutation.Refutation.{IsFair, IsTheory}
 use Rattle.nts_model.proofs.Tables.Instances.{inst-agrees}
 use Rattle.nts_model.proofs.Tables.Worlds.{inst-deeply_resolved}
 use Rattle.nts_model.proofs.Tables.Open.{Knows-deeply_resolved}
-use Rattle.nts_model.proofs.Tables.Slots.{Knows-kept, KeepsKinds, KeepsKinds-trans}
+use Rattle.nts_model.proofs.Tables.Slots.{Knows-kept, KeepsKinds-trans}
 use Rattle.nts_theory.proofs.Refutation.Freshening.{knows_leaf}
 use Rattle.nts_model.proofs.Canonical.CanonicalForms.{originals_are_leaves}
 use Rattle.nts_theory.proofs.Refutation.Answered.{IsAskedFrom, AreTermsOf, still_proved, kept_trans}
 use Rattle.nts_theory.proofs.Refutation.Trying.{Reaches as ReachesWorld, reaches_trans, equated_reaches}
 use Rattle.nts_theory.proofs.Refutation.Carriers.{moved, moved_carrying, back_to, back_carrying, carrier}
-use Rattle.nts_theory.proofs.Refutation.Opening.{IsBegunAt, CanBegin, AreTrueIn, added_all, added_never_fails}
-use Rattle.nts_theory.specs.Telling.{IsInputFor, IsBegun, BreaksOff, goals_with, CanAsk}
+use Rattle.nts_theory.proofs.Refutation.Opening.{IsBegunAt, CanBegin, AreTrueIn, added_all}
+use Rattle.nts_theory.specs.Telling.{IsInputFor, IsBegun, goals_with, CanAsk}
 use Rattle.nts_theory.proofs.Refutation.Queried.{Leads, Reached}
 
 -- the caller and its query
@@ -122,12 +121,6 @@ module _ (truth : Truth) (Proves : Tree → Tree → Type 0) where
           predicates = λ q i. (let g = premise_among xs x.goals q i in subst (λ z. Knows met z.predicate) (sym g.2) (Knows-kept b.made met (filled xs g.0.predicate) later.keeps (one.known.predicates g.0 g.1)));
         };
       }
-
-  pub never_breaks : (c : Content) (w : World) (x : Candidate) → BreaksOff c x → CanBegin truth Proves c w x → ⊥
-  never_breaks c w x b k =
-      let one = k.begins b.values b.made b.freshens in
-      let two = equated_reaches truth 0 b.values x.equations b.made b.equal one.reaches.world b.equates one.reaches.solution one.known.equations one.meets.equal in
-      added_never_fails truth 0 b.values x.constraints b.equal two.world b.fails two.solution (true_where c b.made b.equal w b.values x one two)
 
   -- one more goal is asked; all of them stay
   pub asks_more : (c d e : Content) (gs : List Premise) (p : Premise) → Among gs p → AreTermsOf c gs → CanAsk d → Reached truth Proves c d gs → Leads truth Proves d e (deeply_resolved d p.environment) (deeply_resolved d p.predicate) → Reached truth Proves c e gs

@@ -54,7 +54,7 @@ met_when_equated ss qs xs c made d f e sound solvable terms =
     }
 
 -- a term over positions is read alike in a world that agrees
-read_later : (c : Content) (w v : World) (vs : List Tree) (t : Tree) → Agrees (length c.slots) w v → IsFormed t → ((l : Leaf) → Occurs l t → Knows c (leaf_tree l)) → read_in v vs t ≡ read_in w vs t
+pub read_later : (c : Content) (w v : World) (vs : List Tree) (t : Tree) → Agrees (length c.slots) w v → IsFormed t → ((l : Leaf) → Occurs l t → Knows c (leaf_tree l)) → read_in v vs t ≡ read_in w vs t
 read_later c w v vs t a f k = filled_agree (λ l. inst v (leaf_tree l)) (λ l. inst w (leaf_tree l)) vs t f (λ l o. inst-agrees c w v (leaf_tree l) a (k l o))
 
 -- one whose equations failed is not

@@ -1,21 +1,14 @@
 -- A goal that is proved in coherence is met by an offered candidate.
-use Rattle.std.proofs.Common.{◌≡◌, inl, inr, ℕ, ◌+◌, true, false, List, refl, sym, ap, subst, ◌∙◌, rules}
-use Rattle.std.specs.Prelude.{◌⊎◌, ◌<◌, ◌==◌}
-use Rattle.nts_model.specs.declared.labels.Sort.{Sort}
+use Rattle.std.proofs.Common.{◌≡◌, inl, inr, ℕ, true, false, List, refl, sym, ap, subst, ◌∙◌}
+use Rattle.std.specs.Prelude.{◌⊎◌}
 use Rattle.nts_model.specs.declared.labels.Variance.{Variance}
 use Rattle.nts_model.specs.declared.labels.Variance.TheVariants as variance
 use Rattle.nts_model.specs.declared.labels.Relation.TheVariants as relation
-use Rattle.nts_model.specs.declared.labels.Leaf.{Leaf}
-use Rattle.nts_model.specs.declared.labels.BoundVarIndexKind.TheVariants as index
-use Rattle.nts_model.specs.declared.labels.AliasHead.{AliasHead}
-use Rattle.nts_model.specs.declared.labels.AliasHead.TheVariants as alias_of
-use Rattle.nts_model.specs.declared.labels.Label.{Label}
-use Rattle.nts_model.specs.declared.labels.Label.TheVariants as label
-use Rattle.nts_model.specs.Terms.Trees.{Tree, empty, more, node, is_alias, binders, IsBoundBelow, IsClosedUnder, IsClosed}
+use Rattle.nts_model.specs.Terms.Trees.{Tree, empty, more, node, IsClosed}
 use Rattle.nts_model.specs.Tables.Alike.{Alike, one_tree as same_tree, two_regions, one_label, two_rows}
-use Rattle.nts_model.specs.Derivations.Related.{Constraint, unbound, alias_goal, alias, alias_label, IsAlias, Related, AreRelatedByArgument, one_tree, regions, constructors, functions, values, open_aliases, aliases, subtypes, no_more, and_more, times, region_constraint, first_variance}
+use Rattle.nts_model.specs.Derivations.Related.{Constraint, unbound, alias_goal, alias, IsAlias, Related, AreRelatedByArgument, one_tree, regions, constructors, functions, values, open_aliases, aliases, subtypes, no_more, and_more, times, region_constraint, first_variance}
 use Rattle.nts_model.specs.Derivations.Sequents.{Premise, Hidden}
-use Rattle.nts_model.specs.Derivations.Rules.{Mode, Meaning, goal_kind, Replaced, chosen, kept_empty, kept_more, kept_node, Stands, opened, opened_at, IsHandlers, IsBuiltIn, IsApplied, IsPlainRule, bound, IsRule}
+use Rattle.nts_model.specs.Derivations.Rules.{Mode, Meaning, goal_kind, Replaced, chosen, kept_empty, kept_more, kept_node, Stands, opened, IsHandlers, IsBuiltIn, IsApplied, IsPlainRule, bound, IsRule}
 use Rattle.nts_model.specs.Derivations.Rules.{region_lives, type_lives, subtyped, coerced, const_typed, error_typed, allowed, dyn_compatible, formed, constant_evaluated, value_evaluated, error_evaluated, alias_evaluated, aliases_relate}
 use Rattle.nts_model.specs.Refutation.Coherence.{IsAliasFree}
 use Rattle.nts_theory.proofs.Derivations.ClosedStatements.{opened_closed, one_statement as unbound_statement}

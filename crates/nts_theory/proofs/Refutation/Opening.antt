@@ -27,7 +27,6 @@ use Rattle.nts_model.specs.Refutation.Coherence.{IsInstanceIn}
 use Rattle.nts_model.proofs.Tables.Slots.{Knows-kept}
 use Rattle.nts_model.proofs.Tables.Instances.{inst-agrees, Agrees-refl}
 use Rattle.nts_model.proofs.Tables.Solving.{Solves-with_constraint}
-use Rattle.nts_theory.specs.Telling.{FailsToAdd}
 use Rattle.nts_theory.proofs.Refutation.Answered.{solution_later}
 use Rattle.nts_theory.proofs.Refutation.Choosing.{AreFresh, fresh_known, filled_known}
 use Rattle.nts_theory.proofs.Refutation.Trying.{MeetsCandidate, KnowsCandidate, Reaches, reaches_self, reaches_trans, true_there}
@@ -199,10 +198,3 @@ module _ (truth : Truth) (base : ℕ) where
       let r = added (constraint_by (filled xs) y) c e w one s (h.true y (inl refl)) in
       reaches_trans truth base c e d w r (added_all xs ys e d r.world rest r.solution (rest_true c e w xs y ys r h))
 
-  -- .. until an equality fails: it was not true
-  pub added_never_fails : (xs : List Tree) (ys : List Constraint) (c : Content) (w : World) → FailsToAdd xs ys c → IsSolution truth base c w → AreTrueIn c w xs ys → ⊥
-  added_never_fails xs [] c w f s h = f
-  added_never_fails xs (y ∷ ys) c w (inl (e, u)) s h = u.none w s.solves (subst (λ z. IsTrueBy truth z (inst w (filled xs y.left)) (inst w (filled xs y.right))) e (h.true y (inl refl)))
-  added_never_fails xs (y ∷ ys) c w (inr (e, one, rest)) s h =
-      let r = added (constraint_by (filled xs) y) c e w one s (h.true y (inl refl)) in
-      added_never_fails xs ys e r.world rest r.solution (rest_true c e w xs y ys r h)

@@ -1,6 +1,6 @@
 -- The table of a query with its input's kinds, and what a response of such a table contains.
-use Rattle.std.proofs.Common.{ℕ, ◌≡◌, inl, inr, zero, ◌+◌, ◌≤◌, Bool, true, false, List, [], ◌∷◌, ◌++◌, map, length, refl, sym, ap, subst, ◌∙◌, arith}
-use Rattle.std.specs.Prelude.{◌⊎◌, Contains}
+use Rattle.std.proofs.Common.{ℕ, ◌≡◌, inl, inr, ◌+◌, ◌≤◌, Bool, true, false, List, [], ◌∷◌, map, length, refl, sym, ap, subst, ◌∙◌, arith}
+use Rattle.std.specs.Prelude.{Contains}
 use Rattle.nts_model.specs.declared.labels.Leaf.{Leaf}
 use Rattle.nts_model.specs.Terms.Trees.{Tree}
 use Rattle.nts_model.specs.Tables.Contents.{Content, Recorded, in_universe}
@@ -145,7 +145,7 @@ among_read f [] t i = absurd i
 among_read f (x ∷ xs) t (inl e) = (x, inl refl, e)
 among_read f (x ∷ xs) t (inr i) = (let r = among_read f xs t i in (r.0, inr r.1, r.2))
 
-own_known : (ks : List PositionKind) (q : Content) (qs : List Tree) (x : Findings) → IsQueryTable ks q qs → AreFindings q qs x → x.hidden ≡ [] → x.open_goals ≡ [] → (l : Leaf) → Among (own_leaves x) l → Knows q (leaf_tree l)
+pub own_known : (ks : List PositionKind) (q : Content) (qs : List Tree) (x : Findings) → IsQueryTable ks q qs → AreFindings q qs x → x.hidden ≡ [] → x.open_goals ≡ [] → (l : Leaf) → Among (own_leaves x) l → Knows q (leaf_tree l)
 own_known ks q qs x table found a b l i =
     let row : Knows q (row_of x) = knows_values q x.values (constraint_row x.constraints _) value_known (knows_sides q x.constraints _ side_known (rw (a, b) tt)) in
     elim (among-seen is_fixed [] (row_of x) l i) [ inl j ↦ absurd j | inr o ↦ knows_leaf q l (row_of x) o.1 row ]

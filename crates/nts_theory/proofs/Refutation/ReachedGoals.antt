@@ -19,7 +19,7 @@ use Rattle.nts_model.specs.Terms.Substitutions.{put, replace, Instance, instance
 use Rattle.nts_model.specs.Derivations.Related.{Constraint, pair, unbound, alias_goal, alias, IsAlias}
 use Rattle.nts_model.specs.Lists.{Among}
 use Rattle.nts_model.specs.Derivations.Sequents.{Premise, Hidden, HasOneSide, constraint_under}
-use Rattle.nts_model.specs.Derivations.Rules.{Mode, coherence, Application, Meaning, GoalKind, normalization, strictly, statement_kind, goal_kind, Stands, relating, opened, IsHandlers, normalization_goal, IsResult, IsBuiltIn, IsPlainRule, bound, IsRule}
+use Rattle.nts_model.specs.Derivations.Rules.{coherence, Application, Meaning, GoalKind, normalization, strictly, statement_kind, goal_kind, Stands, relating, opened, IsHandlers, normalization_goal, IsResult, IsBuiltIn, IsPlainRule, bound, IsRule}
 use Rattle.nts_model.specs.Derivations.Rules.{region_lives, type_lives, subtyped, coerced, const_typed, error_typed, allowed, dyn_compatible, formed, constant_evaluated, value_evaluated, error_evaluated, alias_evaluated, aliases_relate}
 use Rattle.nts_model.specs.Derivations.Proofs.{Node}
 use Rattle.nts_variance_model.specs.Variances.SettledProofs.{StandsForItself, IsSettledIn, IsReached, start, onward, GrantsAt, HidesAt, RestsOnAt, SettledNode}

@@ -1,6 +1,5 @@
 -- In coherence each answer contains each solution, and what is refused has none.
-use Rattle.std.proofs.Common.{ℕ, ◌≡◌, inl, inr, zero, ◌+◌, ◌≤◌, List, [], ◌∷◌, ◌++◌, map, length, refl, sym, subst, ◌∙◌}
-use Rattle.std.specs.Prelude.{◌⊎◌}
+use Rattle.std.proofs.Common.{ℕ, ◌≡◌, inl, inr, List, [], ◌∷◌, map, length, refl, sym, subst, ◌∙◌}
 use Rattle.nts_model.specs.Terms.Trees.{Tree}
 use Rattle.nts_model.specs.Tables.Contents.{Content}
 use Rattle.nts_model.specs.Tables.Resolving.{Knows}
@@ -19,19 +18,18 @@ use Rattle.nts_model.specs.Refutation.Containing.{Truth, IsSolution, AreInputVal
 use Rattle.nts_model.specs.Refutation.Coherence.{RulesAreOffered}
 use Rattle.nts_theory.specs.Refutation.Refutation.{IsFair, RespectsLeaks, IsTheory}
 use Rattle.nts_model.proofs.Tables.Instances.{Agrees-trans}
-use Rattle.nts_model.proofs.Tables.Slots.{KeepsKinds, KeepsKinds-refl, KeepsKinds-trans}
+use Rattle.nts_model.proofs.Tables.Slots.{KeepsKinds-refl, KeepsKinds-trans}
 use Rattle.nts_theory.proofs.Refutation.AskingWorlds.{image, contained_granted}
 use Rattle.nts_model.proofs.Lists.{among_left, among_right}
 use Rattle.nts_theory.proofs.Refutation.Answered.{AreTermsOf, askable, asked_solution, asked_refuses, asked_extends, kept_same, among_split}
 use Rattle.nts_theory.proofs.Refutation.Entering.{entered as enters}
 use Rattle.nts_theory.proofs.Refutation.Trying.{same_positions}
 use Rattle.nts_theory.proofs.Refutation.Agreeing.{AreNumberedKinds, identity_contains, nothing_contains, kinds_agree, terms_long}
-use Rattle.nts_theory.proofs.Refutation.Carriers.{carrier}
 use Rattle.nts_theory.proofs.Refutation.Opening.{CanBegin}
 use Rattle.nts_theory.proofs.Refutation.Readying.{some_begins}
-use Rattle.nts_theory.specs.Telling.{Verdict, Queries, AreTermsOfKinds, StandsForAll, SaysOf, IsFound, without_constraints, IsPlainResponse, goals_with, Tells, tells_nothing, says_nothing, tells_one, Refutes, all_fail, Outcomes, no_outcome, then_fails, then_replies, Replies, replies, Fails, is_unmet, breaks_off, is_refused, is_leaky, Reaches, asks_nothing, then_asks, RefusesOne, refuses_one, cuts_one, Asked, asked_by, Refused, by_query, by_response}
+use Rattle.nts_theory.specs.Telling.{Verdict, Queries, AreTermsOfKinds, StandsForAll, SaysOf, IsFound, without_constraints, IsPlainResponse, goals_with, Tells, tells_nothing, says_nothing, tells_one, Refutes, all_fail, Outcomes, no_outcome, then_fails, then_replies, Replies, replies, Fails, is_unmet, is_refused, is_leaky, Reaches, asks_nothing, then_asks, RefusesOne, refuses_one, cuts_one, Asked, asked_by, Refused, by_query, by_response}
 use Rattle.nts_theory.proofs.Refutation.Queried.{BeginsEach, Leads, Reached, IsSolved, IsQuery, first_query, IsTried, tried, tried_knows, found_table, solution_without, entered_solution, says_contains, says_long}
-use Rattle.nts_theory.proofs.Refutation.Begun.{asked_from, BegunAt, begun_at, never_breaks, asks_more, goal_known, goal_there}
+use Rattle.nts_theory.proofs.Refutation.Begun.{asked_from, BegunAt, begun_at, asks_more, goal_known, goal_there}
 use Rattle.nts_theory.proofs.Refutation.QueryLabels.{entered_query, query_without}
 
 -- each verdict of candidates has as many values as there are positions
@@ -40,7 +38,7 @@ reply_long c found qs v (inl (y, r)) = says_long found qs v.response r
 reply_long c found qs v (inr (y, inl r)) = says_long (without_constraints found) qs v.response r
 reply_long c found qs v (inr (y, inr r)) = says_long (without_constraints c) qs v.response r
 
-outcome_long : {Q : Queries} {h : Handler} {mode : Mode} {c : Content} {e g : Tree} {qs : List Tree} {xs : List Candidate} {vs : List Verdict} → Outcomes Q h mode c e g qs xs vs → (v : Verdict) → Among vs v → (let r = v.response in let x = r.findings in length x.values ≡ length qs)
+pub outcome_long : {Q : Queries} {h : Handler} {mode : Mode} {c : Content} {e g : Tree} {qs : List Tree} {xs : List Candidate} {vs : List Verdict} → Outcomes Q h mode c e g qs xs vs → (v : Verdict) → Among vs v → (let r = v.response in let x = r.findings in length x.values ≡ length qs)
 outcome_long no_outcome v i = absurd i
 outcome_long (then_fails before fails) v i = outcome_long before v i
 outcome_long {c = c} {qs = qs} (then_replies {vs = vs} {v = u} before (replies values met found begun reach is says)) v i =
@@ -131,7 +129,6 @@ module _ (Q : Queries) (begins : BeginsEach Q) (h : Handler) (truth : Truth) (Pr
 
     fails_never : {c : Content} {x : Candidate} → Fails Q h coherence c x → (w : World) → IsSolution truth 0 c w → CanBegin truth Proves c w x → ⊥
     fails_never (is_unmet n) w s k = n k.is_met
-    fails_never {c} {x} (breaks_off b) w s k = never_breaks truth Proves c w x b k
     fails_never {c} {x} (is_refused values met begun refused) w s k =
         let b = begun_at truth Proves c met w values x begun k in refuses_goals refused b.terms b.reaches.world b.goals
     fails_never {c} {x} (is_leaky values met found begun reach leaks) w s k =

@@ -11,10 +11,10 @@ use Rattle.nts_model.specs.Terms.Scoping.{IsWellBound}
 use Rattle.nts_model.specs.Terms.Substitutions.{leaf_tree, put, replace, Occurs, filled}
 use Rattle.nts_model.specs.Lists.{Among}
 use Rattle.nts_model.specs.Derivations.Sequents.{Hidden, Premise}
-use Rattle.nts_model.specs.Derivations.Handlers.{hidden_by, premise_by, IsFixed}
+use Rattle.nts_model.specs.Derivations.Handlers.{IsFixed}
 use Rattle.nts_model.specs.Canonical.Numbered.{seen, position, number, numbered_leaf, no_leaf, AreDistinct}
 use Rattle.nts_model.specs.Canonical.Inputs.{Input, is_static, after_environment, after_predicate, canonical_of, IsInput}
-use Rattle.nts_model.specs.Answers.Responses.{Findings, recorded_by, findings_by, value_row, constraint_row, hidden_row, goal_row, row_of, is_fixed, own_leaves, positioned, IsOverPositions}
+use Rattle.nts_model.specs.Answers.Responses.{Findings, value_row, constraint_row, hidden_row, goal_row, row_of, is_fixed, own_leaves, positioned, IsOverPositions}
 use Rattle.nts_model.proofs.Terms.Substituting.{replace-leaf, IsFormed-replace}
 use Rattle.nts_model.proofs.Terms.Listed.{either, original, among-added}
 use Rattle.nts_model.proofs.Canonical.Numbering.{AllLeaves, AllLeaves-map, replace-agree, HasNoPositions, filled-replace, IsSeen, all-seen, extends-self, distinct-seen, numbered-replace}

@@ -1,10 +1,10 @@
 -- What a query's table proves from assumptions, its response says from them; and what that says is proved, from them,
 -- where it is applied.
-use Rattle.std.proofs.Common.{◌≡◌, ℕ, List, [], map, subst}
+use Rattle.std.proofs.Common.{◌≡◌, List, [], map, subst}
 use Rattle.nts_model.specs.declared.labels.Leaf.{Leaf}
 use Rattle.nts_model.specs.Terms.Trees.{Tree}
 use Rattle.nts_model.specs.Tables.Contents.{Content}
-use Rattle.nts_model.specs.Tables.Resolving.{deeply_resolved, IsSound, Knows}
+use Rattle.nts_model.specs.Tables.Resolving.{IsSound}
 use Rattle.nts_model.specs.Tables.Levels.{NamesAll, term_level}
 use Rattle.nts_model.specs.Tables.Holding.{Continues}
 use Rattle.nts_model.specs.Terms.Substitutions.{leaf_tree, filled}
@@ -14,15 +14,15 @@ use Rattle.nts_model.specs.Derivations.Rules.{Meaning, Mode}
 use Rattle.nts_model.specs.Derivations.Proofs.{Assumed}
 use Rattle.nts_model.specs.Derivations.Handlers.{premise_by}
 use Rattle.nts_model.specs.Canonical.Inputs.{Input, IsInput, originals, canonical_of}
-use Rattle.nts_model.specs.Derivations.Proving.{HoldsTerms, IsTermOf, AreConstraintsOf, read_constraints, read_goals, sequent_at, sequent_with}
-use Rattle.nts_model.specs.Answers.Responses.{Findings, AreFindings, Response, Applies, response_of, answer_sequent, IsResponseTo, IsQueryTable}
+use Rattle.nts_model.specs.Derivations.Proving.{HoldsTerms, IsTermOf, AreConstraintsOf, sequent_at, sequent_with}
+use Rattle.nts_model.specs.Answers.Responses.{Response, Applies, answer_sequent, IsResponseTo}
 use Rattle.nts_model.specs.Searching.Stacks.{IsDerivedFrom, IsProvedFrom, IsProvedWith}
 use Rattle.nts_model.proofs.Canonical.CanonicalForms.{originals_are_leaves}
 use Rattle.nts_theory.proofs.Responses.Answering.{canonical_environment_over, canonical_predicate_over}
 use Rattle.nts_model.proofs.Tables.TableInstances.{reading_of}
 use Rattle.nts_theory.proofs.Derivations.ProvedLater.{sequent_later}
 use Rattle.nts_theory.proofs.Responses.Granting.{opened_instance_with}
-use Rattle.nts_theory.proofs.Responses.Querying.{AreQueryGoals, all_plain, own_in, response_to_for}
+use Rattle.nts_theory.proofs.Responses.Querying.{response_to_for}
 use Rattle.nts_theory.proofs.Responses.Asked.{given_environment, given_predicate}
 use Rattle.nts_theory.proofs.Derivations.Assuming.{derived_instance}
 

@@ -15,16 +15,15 @@ use Rattle.nts_model.specs.Tables.Resolving.{deeply_resolved, IsSound}
 use Rattle.nts_model.specs.Terms.Substitutions.{leaf_tree, Instance, instance_of, filled}
 use Rattle.nts_model.specs.Derivations.Related.{Constraint}
 use Rattle.nts_model.specs.Lists.{Among}
-use Rattle.nts_model.specs.Derivations.Sequents.{Premise, constraint_under, premise_under, IsTrivial, IsInstance}
-use Rattle.nts_model.specs.Derivations.Rules.{Meaning, Mode}
+use Rattle.nts_model.specs.Derivations.Sequents.{Premise, constraint_under, IsTrivial, IsInstance}
 use Rattle.nts_model.specs.Derivations.Handlers.{premise_by}
 use Rattle.nts_model.specs.Canonical.Numbered.{AreDistinct}
 use Rattle.nts_model.specs.Canonical.Inputs.{CanonicalInput, PositionKind, share}
-use Rattle.nts_model.specs.Derivations.Proving.{read_constraint, turned, in_either_order, read_constraints, sequent_at, read_goals, sequent_with}
+use Rattle.nts_model.specs.Derivations.Proving.{read_constraint, turned, in_either_order, read_constraints, sequent_at}
 use Rattle.nts_model.specs.Answers.Responses.{Findings, said, recorded_by, AreFindings, own_leaves, positioned, is_fixed, Response, answer_kind, response_of, IsOverPositions, IsLeafIn, own_leaf, leaves_of_kinds, closed_by, said_constraints, answer_sequent, IsResponseTo}
-use Rattle.nts_model.proofs.Terms.Composing.{after, fits_itself}
+use Rattle.nts_model.proofs.Terms.Composing.{fits_itself}
 use Rattle.nts_model.proofs.Terms.Listed.{either, map-map}
-use Rattle.nts_theory.proofs.Derivations.ProofInstances.{IsInstance-after, IsTrivial-under}
+use Rattle.nts_theory.proofs.Derivations.ProofInstances.{IsTrivial-under}
 use Rattle.nts_model.proofs.Lists.{contains_none, first_or_later}
 use Rattle.nts_theory.proofs.Derivations.ProvedLater.{contains_first, contains_later, read_from}
 use Rattle.nts_model.proofs.Terms.Identified.{one_itself}

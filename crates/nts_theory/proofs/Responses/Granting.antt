@@ -20,16 +20,13 @@ use Rattle.nts_model.specs.Terms.Substitutions.{leaf_tree, replace, Instance, in
 use Rattle.nts_model.specs.Derivations.Related.{Constraint}
 use Rattle.nts_model.specs.Lists.{Among}
 use Rattle.nts_model.specs.Derivations.Sequents.{Premise, region_by, MakesOne, AreOneBy, constraint_under, premise_under, HasOneSide, IsInstance}
-use Rattle.nts_model.specs.Derivations.Rules.{Meaning, Mode}
 use Rattle.nts_model.specs.Derivations.Handlers.{premise_by}
 use Rattle.nts_model.specs.Canonical.Numbered.{AreDistinct}
 use Rattle.nts_model.specs.Canonical.Inputs.{CanonicalInput, PositionKind, type_variable, integer_variable, float_variable, const_variable, region_variable, placeholder}
-use Rattle.nts_model.specs.Derivations.Proving.{HoldsTerms, read_constraints, recorded_as, turned, sequent_at, read_goals, sequent_with}
+use Rattle.nts_model.specs.Derivations.Proving.{HoldsTerms, read_constraints, recorded_as, turned, read_goals, sequent_with}
 use Rattle.nts_model.specs.Answers.Responses.{said, recorded_by, Response, IsOverPositions, StandsFor, StandForAll, AreAlikeValues, Applies, IsLeafFor, own_leaf, leaves_of_kinds, closed_by, said_constraints, answer_sequent, IsResponseFor}
 use Rattle.nts_model.proofs.Tables.Resolved.{deeply_resolved-deeply_resolved}
-use Rattle.nts_model.proofs.Terms.Composing.{after}
 use Rattle.nts_model.proofs.Terms.Listed.{either, map-map}
-use Rattle.nts_theory.proofs.Derivations.ProofInstances.{IsInstance-after}
 use Rattle.nts_model.proofs.Lists.{contains_none, first_or_later}
 use Rattle.nts_theory.proofs.Derivations.ProvedLater.{contains_first, contains_later, read_from, read_recorded, read_turned}
 use Rattle.nts_theory.proofs.Derivations.ByCandidate.{IsGranted, read_sides, granted, alike_granted}

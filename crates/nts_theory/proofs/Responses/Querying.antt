@@ -15,17 +15,16 @@ use Rattle.nts_model.specs.Terms.Trees.{Tree, empty, is_canonical}
 use Rattle.nts_model.specs.Tables.Contents.{Content, Recorded}
 use Rattle.nts_model.specs.Tables.Resolving.{deeply_resolved}
 use Rattle.nts_model.specs.Terms.Regions.{of_variable, of_free, IsRegion}
-use Rattle.nts_model.specs.Terms.Substitutions.{leaf_tree, filled}
+use Rattle.nts_model.specs.Terms.Substitutions.{leaf_tree}
 use Rattle.nts_model.specs.Lists.{Among}
 use Rattle.nts_model.specs.Derivations.Sequents.{Premise}
-use Rattle.nts_model.specs.Derivations.Rules.{Meaning, Mode}
-use Rattle.nts_model.specs.Canonical.Inputs.{Input, IsInput, PositionKind, placeholder, position_kind, originals, canonical_of}
+use Rattle.nts_model.specs.Canonical.Inputs.{Input, PositionKind, placeholder, position_kind, originals, canonical_of}
 use Rattle.nts_model.specs.Derivations.Proving.{IsTermOf, read_goals}
 use Rattle.nts_model.specs.Tables.Passing.{AllLabels}
-use Rattle.nts_model.specs.Answers.Responses.{Findings, AreFindings, value_row, constraint_row, hidden_row, goal_row, row_of, is_fixed, own_leaves, response_of, answer_sequent, IsLeafFor, IsResponseFor, IsResponseTo, Response, IsLeafIn, IsLabelIn, IsQueryTable}
+use Rattle.nts_model.specs.Answers.Responses.{Findings, AreFindings, value_row, constraint_row, hidden_row, goal_row, row_of, is_fixed, own_leaves, response_of, IsLeafFor, IsResponseFor, IsResponseTo, Response, IsLeafIn, IsLabelIn, IsQueryTable}
 use Rattle.nts_model.proofs.Tables.ResolvedTerms.{IsFormed-deeply_resolved}
 use Rattle.nts_theory.proofs.Derivations.ProvedLater.{contains_first, contains_later}
-use Rattle.nts_theory.proofs.Responses.Answering.{AllTrees, AllSides, AllGoals, AllFound, IsPlainTerm, canonical_environment_over, canonical_predicate_over}
+use Rattle.nts_theory.proofs.Responses.Answering.{AllTrees, AllSides, AllGoals, AllFound, IsPlainTerm}
 use Rattle.nts_theory.proofs.Responses.Closing.{answer_fits}
 use Rattle.nts_model.proofs.Terms.Unpositioned.{known_well_bound}
 use Rattle.nts_model.proofs.Tables.Open.{Knows-deeply_resolved}

@@ -1,29 +1,14 @@
 -- The steps of a search, each by one lemma: reading an entry, ending a round, one nested goal, one candidate.
-use Rattle.std.proofs.Common.{◌≡◌, ℕ, zero, suc, List, [], ◌∷◌, Some, map, refl, sym, ap, ◌∙◌, subst, arith, inl, inr}
+use Rattle.std.proofs.Common.{◌≡◌, ℕ, zero, suc, List, [], ◌∷◌, Some, refl, sym, ap, ◌∙◌, subst}
 use Rattle.std.specs.Prelude.{slice_get}
-use Rattle.nts_model.specs.declared.labels.Leaf.{Leaf}
-use Rattle.nts_model.specs.declared.labels.Variance.{Variance}
-use Rattle.nts_model.specs.Terms.Trees.{Tree}
-use Rattle.nts_model.specs.Tables.Contents.{Content}
-use Rattle.nts_model.specs.Tables.Resolving.{deeply_resolved, IsSound}
-use Rattle.nts_model.specs.Tables.Levels.{NamesAll, term_level}
-use Rattle.nts_model.specs.Tables.Holding.{Continues}
-use Rattle.nts_model.specs.Terms.Substitutions.{leaf_tree, filled}
-use Rattle.nts_model.specs.Lists.{Among}
-use Rattle.nts_model.specs.Derivations.Sequents.{PathKind, coinductive, Premise}
-use Rattle.nts_model.specs.Derivations.Rules.{Meaning, Mode, GoalKind, step_kind}
+use Rattle.nts_model.specs.Derivations.Sequents.{PathKind, coinductive}
+use Rattle.nts_model.specs.Derivations.Rules.{Meaning, Mode}
 use Rattle.nts_model.specs.Derivations.Proofs.{passed}
-use Rattle.nts_model.specs.Derivations.Handlers.{Handler, meaning, Candidate, Certainty, certain, premise_by, IsAsked, IsLawfulHandler}
-use Rattle.nts_model.specs.Canonical.Inputs.{Input, IsInput, originals, canonical_of}
-use Rattle.nts_model.specs.Derivations.Proving.{HoldsTerms, IsTermOf, AreConstraintsOf}
-use Rattle.nts_model.specs.Answers.Responses.{Findings, AreFindings, Response, Applies, response_of, answer_sequent, IsQueryTable}
-use Rattle.nts_model.specs.Searching.Stacks.{IsDerivedFrom, IsProvedWith, IsProvedFromAt, HoldsCandidateFrom, Entry, assumptions, IsReadSince, AreReadSince, stronger, path_kind, IsEntry}
+use Rattle.nts_model.specs.Derivations.Handlers.{Certainty, certain}
+use Rattle.nts_model.specs.Answers.Responses.{Response, answer_sequent}
+use Rattle.nts_model.specs.Searching.Stacks.{IsDerivedFrom, Entry, assumptions, IsReadSince, AreReadSince, stronger, path_kind, IsEntry}
 use Rattle.nts_model.specs.Searching.Driving.{EvaluatesInput, Computes, as_read, marked, MayEnd}
-use Rattle.nts_model.proofs.Tables.Slots.{Knows-kept}
-use Rattle.nts_theory.proofs.Responses.Querying.{query_fits}
-use Rattle.nts_theory.proofs.Derivations.FromCandidate.{lawful_candidate_from}
-use Rattle.nts_theory.proofs.Responses.AskedFrom.{opened_goals, asked_proved_with, proved_from_continues}
-use Rattle.nts_theory.proofs.Searching.Stacks.{back_derived, derived_since, head_closed}
+use Rattle.nts_theory.proofs.Searching.Stacks.{back_derived, head_closed}
 use Rattle.nts_theory.proofs.Searching.Ordered.{no_entry}
 
 -- reading since goes on

@@ -2,7 +2,7 @@
 use Rattle.std.proofs.Common.{◌≡◌, ℕ, zero, suc, ◌+◌, ◌-◌, List, [], ◌∷◌, ◌++◌, length, length-append, Some, refl, ap, ◌∙◌, arith}
 use Rattle.std.specs.Prelude.{slice_get, reverse}
 use Rattle.std.proofs.lemmas.List.{reverse-append}
-use Rattle.nts_model.specs.Searching.Stacks.{Entry, IsReadSince, AreReadSince}
+use Rattle.nts_model.specs.Searching.Stacks.{Entry}
 
 -- .. and the oldest is the last
 oldest_last : (x : Entry) (xs : List Entry) → reverse (x ∷ xs) ≡ reverse xs ++ x ∷ []
