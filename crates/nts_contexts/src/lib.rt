@@ -5,6 +5,7 @@
 mod context;
 mod evaluating;
 mod goals;
+mod modes;
 mod relating;
 mod state;
 

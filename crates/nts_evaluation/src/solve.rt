@@ -19,18 +19,10 @@ use nts_asking::{is_asked, is_root_term, is_settled_env, resolve_goal};
 use nts_certainty::{Certainty, HasChanged, PathKind};
 use nts_delegate::GoalHandler;
 use nts_search::SearchGraph;
+use nts_stalling::GoalStalledOn;
 use nts_store::{EvalError, Fault};
 use nts_table::InferCtxt;
-use nts_terms::{Cx, GenericArg, Goal, Span};
-
-/// What is kept of a goal that stalled, so that it is asked again only when that can help.
-#[derive(Debug, Drop)]
-pub struct GoalStalledOn {
-    pub num_opaques: usize,
-    pub stalled_vars: Vec<GenericArg>,
-    pub sub_roots: Vec<usize>,
-    pub stalled_certainty: Certainty,
-}
+use nts_terms::{Cx, Goal, Span};
 
 /// What an evaluation found out.
 #[derive(Debug, Drop)]

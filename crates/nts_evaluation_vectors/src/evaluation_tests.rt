@@ -166,17 +166,13 @@ fn an_evaluation_is_shown(rt: HostRuntime) -> Result<(), Fail> {
     let clone = cx.declare_trait(&[Sort::Ty])?;
     let word = uint(&mut cx, UintTy::U32)?;
     let goal = goal_about(&mut cx, clone, word.into())?;
-    let stalled_on = GoalStalledOn {
-        num_opaques: 0,
-        stalled_vars: vec![in rt.alloc(); word.into()]?,
-        sub_roots: Vec::new(rt.alloc()),
-        stalled_certainty: Certainty::AMBIGUOUS,
-    };
+    let vars = vec![in rt.alloc(); word.into()]?;
+    let stalled_on = GoalStalledOn::new(0, vars, Vec::new(rt.alloc()), Certainty::AMBIGUOUS);
     let evaluation = GoalEvaluation {
         goal,
         certainty: Certainty::AMBIGUOUS,
         has_changed: HasChanged::No,
-        stalled_on: Some(stalled_on),
+        stalled_on,
     };
     let text = format!(in rt.alloc(); "{evaluation:?}")?;
     assert!(rt; !text.is_empty());

@@ -119,11 +119,7 @@ fn rests_on_open(rerun: &RerunCondition) -> bool
 }
 
 /// Whether the condition names an id that is stored, or asks again in any case.
-fn rests_on_stored(
-    rerun: &RerunCondition,
-    listed: &[AliasId],
-    parents: &[(AliasTerm, Ty)],
-) -> bool
+fn rests_on_stored(rerun: &RerunCondition, listed: &[AliasId], parents: &[(AliasTerm, Ty)]) -> bool
     ensures { result ≡ rests_on_stored (numbers_of listed.now) (keys_of parents.now)
         (access_of rerun.now) }
 {

@@ -6,5 +6,7 @@
 #![tactic(auto)]
 
 mod decision;
+mod rigid;
 
 pub use decision::{AccessedOpaques, RerunDecision, should_rerun_after_erased_canonicalization};
+pub use rigid::opaque_type_is_rigid;

@@ -5,7 +5,10 @@ ghost use Rattle.nts_terms.specs.Handles.{HoldsTy};
 use crate::joining_tests::{ids_of, stored, stored_or_open};
 use nts_certainty::RerunCondition;
 use nts_model::UintTy;
-use nts_reruns::{AccessedOpaques, RerunDecision, should_rerun_after_erased_canonicalization};
+use nts_reruns::{
+    AccessedOpaques, RerunDecision, opaque_type_is_rigid,
+    should_rerun_after_erased_canonicalization,
+};
 use nts_terms::{AliasDefId, AliasId, AliasTerm, Cx, InferTy, Ty, TyKind, TypingMode};
 use std::alloc::Global;
 use std::test::Fail;
@@ -145,5 +148,17 @@ fn a_hidden_type_that_is_open(rt: HostRuntime) -> Result<(), Fail> {
     assert!(rt; on_open(&cx, &mode, &[(alias, open)]) == RerunDecision::Yes);
     let mode = borrowck(rt.alloc(), &[])?;
     assert!(rt; on_open(&cx, &mode, &[(alias, open)]) == RerunDecision::No);
+    Ok(())
+}
+
+#[test]
+fn opaque_types_that_are_rigid(rt: HostRuntime) -> Result<(), Fail> {
+    let listed = AliasId { number: 3 };
+    let other = AliasId { number: 4 };
+    assert!(rt; !opaque_type_is_rigid(&TypingMode::Coherence, other));
+    assert!(rt; !opaque_type_is_rigid(&TypingMode::PostAnalysis, other));
+    let mode = analysis(rt.alloc(), &[3])?;
+    assert!(rt; !opaque_type_is_rigid(&mode, listed));
+    assert!(rt; opaque_type_is_rigid(&mode, other));
     Ok(())
 }

@@ -1,7 +1,9 @@
-//! Tests of conditions on hidden types, and of what they decide.
+//! Tests of conditions on hidden types, of what they decide, and of goals that stalled.
 #![tactic(auto)]
 
 #[cfg(test)]
 mod decision_tests;
 #[cfg(test)]
 mod joining_tests;
+#[cfg(test)]
+mod stalled_tests;
