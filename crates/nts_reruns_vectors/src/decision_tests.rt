@@ -157,7 +157,9 @@ fn opaque_types_that_are_rigid(rt: HostRuntime) -> Result<(), Fail> {
     let other = AliasId { number: 4 };
     assert!(rt; !opaque_type_is_rigid(&TypingMode::Coherence, other));
     assert!(rt; !opaque_type_is_rigid(&TypingMode::PostAnalysis, other));
-    let mode = analysis(rt.alloc(), &[3])?;
+    let mode = TypingMode::Analysis {
+        defining_opaque_types_and_generators: ids_of(rt.alloc(), &[3])?,
+    };
     assert!(rt; !opaque_type_is_rigid(&mode, listed));
     assert!(rt; opaque_type_is_rigid(&mode, other));
     Ok(())

@@ -7,7 +7,12 @@ use std::alloc::Global;
 use std::test::Fail;
 
 /// A goal that stalled on a variable and a sub root, when the table had so many hidden types.
-fn stalled(alloc: Global, opaques: usize, var: GenericArg, root: usize) -> Result<GoalStalledOn, Fail> {
+fn stalled(
+    alloc: Global,
+    opaques: usize,
+    var: GenericArg,
+    root: usize,
+) -> Result<GoalStalledOn, Fail> {
     let vars = vec![in alloc; var]?;
     let roots = vec![in alloc; root]?;
     match GoalStalledOn::new(opaques, vars, roots, Certainty::AMBIGUOUS) {
@@ -16,11 +21,17 @@ fn stalled(alloc: Global, opaques: usize, var: GenericArg, root: usize) -> Resul
     }
 }
 
-fn stalls(table: &InferCtxt, cx: &Cx, opaques: usize, var: GenericArg, root: usize) -> Result<bool, Fail> {
-    if !cx.holds(var) {
+fn stalls(
+    table: &InferCtxt,
+    cx: &Cx,
+    opaques: usize,
+    var: GenericArg,
+    root: usize,
+) -> Result<bool, Fail> {
+    let kept = stalled(cx.alloc, opaques, var, root)?;
+    if !kept.is_of_store(cx) {
         return Err(Fail::new("no argument of the store"));
     }
-    let kept = stalled(cx.alloc, opaques, var, root)?;
     Ok(is_still_stalled(table, cx, &kept))
 }
 

@@ -36,8 +36,12 @@ impl GoalStalledOn {
     ) -> Option<GoalStalledOn>
         ensures yes { stalled_certainty ≡ certainty.Yes → result ≡ None }
         ensures maybe { (info : MaybeInfo) → stalled_certainty ≡ certainty.Maybe info → result ≡
-            Some (record { num_opaques = num_opaques; stalled_vars = stalled_vars;
-            sub_roots = sub_roots; stalled_certainty = info }) }
+            Some (record {
+              num_opaques = num_opaques;
+              stalled_vars = stalled_vars;
+              sub_roots = sub_roots;
+              stalled_certainty = info;
+            }) }
     {
         match stalled_certainty {
             Certainty::Yes => None,
@@ -48,6 +52,13 @@ impl GoalStalledOn {
                 stalled_certainty: info,
             }),
         }
+    }
+
+    /// Whether its variables are arguments of this store.
+    pub fn is_of_store(&self, cx: &Cx) -> bool
+        ensures { IsTrue result → All (λ a. HoldsArg cx.now.nodes a) self.now.stalled_vars.items }
+    {
+        self.stalled_vars.iter().all(|var| cx.holds(*var))
     }
 
     /// The same once more.
