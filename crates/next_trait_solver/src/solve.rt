@@ -10,7 +10,9 @@ pub use nts_evaluation::{
 };
 pub use nts_merging::{MergeCandidateInfo, bail_with_ambiguity, flounder, try_merge_candidates};
 pub use nts_reruns::{
-    AccessedOpaques, RerunDecision, should_rerun_after_erased_canonicalization,
+    AccessedOpaques, RerunDecision, opaque_type_is_rigid,
+    should_rerun_after_erased_canonicalization,
 };
 pub use nts_search::{CurrentGoalKind, initial_provisional_result, step_kind_for_source};
+pub use nts_stalling::is_still_stalled;
 pub use nts_terms::{TypingMode, VisibleForLeakCheck};

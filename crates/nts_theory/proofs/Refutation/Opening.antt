@@ -197,4 +197,3 @@ module _ (truth : Truth) (base : ℕ) where
   added_all xs (y ∷ ys) c d w (e, one, rest) s h =
       let r = added (constraint_by (filled xs) y) c e w one s (h.true y (inl refl)) in
       reaches_trans truth base c e d w r (added_all xs ys e d r.world rest r.solution (rest_true c e w xs y ys r h))
-
