@@ -8,9 +8,8 @@ pub use nts_model::{
     AliasRelationDirection, BoundVarIndexKind, DebruijnIndex, FloatTy, IntTy, Relation, Sort,
     UintTy, VariableKind, Variance,
 };
-pub use nts_solver_relating::RelateExt;
+pub use nts_solver_relating::{Relate, RelateExt};
 pub use nts_store::{EvalError, Fault, NodeId};
-pub use nts_table::relating::Relate;
 pub use nts_table::{InferCtxt, is_unbound};
 pub use nts_terms::{
     AliasDefId, AliasId, AliasKind, AliasTerm, Binder, BoundConst, BoundRegion, BoundTy, BoundVars,

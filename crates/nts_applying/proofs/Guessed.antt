@@ -28,8 +28,8 @@ use Rattle.nts_terms.specs.declared.handles.GenericArg.{GenericArg}
 use Rattle.nts_unify.specs.Entries.{Entries}
 use Rattle.nts_unify.specs.Reading.{content_of}
 use Rattle.nts_unify.proofs.Leading.{universe_of-entry}
-use Rattle.nts_relating.specs.Knowing.{HasNamed}
-use Rattle.nts_relating.proofs.Looking.{known_named}
+use Rattle.nts_unify.specs.Knowing.{HasNamed}
+use Rattle.nts_unify.proofs.Looking.{known_named}
 use Rattle.nts_canonical.specs.declared.types.CanonicalVarKind.{CanonicalVarKind}
 use Rattle.nts_canonical.specs.Forms.{kind_of_var, trees_of}
 use Rattle.nts_response.specs.Applied.{content_within, MayStand, GuessFits, IsGuessed, AreGuesses, IsPosition, IsRootVariable, IsClosedConst}

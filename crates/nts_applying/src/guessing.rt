@@ -4,7 +4,7 @@ ghost use Rattle.nts_model.specs.Terms.Trees.{variable_of};
 ghost use Rattle.nts_model.specs.Tables.Levels.{AreCurrent};
 ghost use Rattle.nts_store.specs.Growth.{tree_at, IsIn};
 ghost use Rattle.nts_terms.specs.Handles.{HoldsArg};
-ghost use Rattle.nts_relating.specs.Knowing.{HasNamed};
+ghost use Rattle.nts_unify.specs.Knowing.{HasNamed};
 ghost use Rattle.nts_canonical.specs.Forms.{kind_of_var, trees_of};
 ghost use Rattle.nts_response.specs.Applied.{content_within, IsOriginal, IsPosition, IsRootVariable, IsClosedConst, MayStand, AreGuesses};
 

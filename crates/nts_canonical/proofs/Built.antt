@@ -12,7 +12,7 @@ use Rattle.nts_store.specs.Filled.{HasValues}
 use Rattle.nts_terms.proofs.Moved.{Holds-extended}
 use Rattle.nts_unify.specs.Entries.{Entries}
 use Rattle.nts_unify.specs.Reading.{content_of}
-use Rattle.nts_relating.proofs.Looking.{leaves-none}
+use Rattle.nts_unify.proofs.Looking.{leaves-none}
 use Rattle.nts_table.proofs.Filling.{knows-filled}
 use Rattle.nts_canonical.specs.declared.types.QueryInput.{QueryInput}
 use Rattle.nts_canonical.specs.Forms.{query_tree, trees_of, HoldsQuery}

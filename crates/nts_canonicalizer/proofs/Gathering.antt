@@ -14,8 +14,8 @@ use Rattle.nts_model.proofs.Canonical.Numbering.{Extends, extends-self, extends-
 use Rattle.nts_store.specs.declared.nodes.NodeId.{NodeId}
 use Rattle.nts_store.specs.Growth.{tree_at, IsIn}
 use Rattle.nts_store.specs.TypeFlags.{is_leaf}
-use Rattle.nts_relating.specs.Knowing.{row_from}
-use Rattle.nts_relating.proofs.Looking.{row_from-end, row_from-step}
+use Rattle.nts_unify.specs.Knowing.{row_from}
+use Rattle.nts_unify.proofs.Looking.{row_from-end, row_from-step}
 use Rattle.nts_canonicalizer.proofs.Leafless.{both_false}
 use Rattle.nts_canonicalizer.specs.declared.collecting.Task.{Task}
 use Rattle.nts_canonicalizer.specs.declared.collecting.Task.TheVariants as task

@@ -19,10 +19,9 @@ use crate::state::EvalState;
 use nts_certainty::GoalSource;
 use nts_delegate::GoalHandler;
 use nts_model::Variance;
-use nts_solver_relating::RelateExt;
+use nts_solver_relating::{Relate, RelateExt};
 use nts_store::EvalError;
 use nts_table::InferCtxt;
-use nts_table::relating::Relate;
 use nts_terms::{Cx, Goal, ParamEnv};
 use std::alloc::Global;
 

@@ -4,6 +4,7 @@ ghost use Rattle.nts_table.specs.Tables.{IsTable};
 
 use nts_fixtures::Fixture;
 use nts_model::{Sort, VariableKind};
+use nts_solver_relating::RelateExt;
 use nts_store::EvalError;
 use nts_terms::{
     AliasDefId, AliasId, AliasKind, AliasTerm, GenericArg, Region, Span, Ty, UniverseIndex,

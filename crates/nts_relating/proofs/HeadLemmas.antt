@@ -31,28 +31,7 @@ use Rattle.nts_relating.specs.declared.relate.Head.TheVariants.{Open, Closed}
 use Rattle.nts_relating.proofs.Ranks.{kind_of-like, like_of-kinds}
 use Rattle.nts_unify.proofs.Changes.{AreHeld-at}
 use Rattle.nts_unify.proofs.Leading.{state_of-entry, state_of-class, kind_at-entry, Reaches-leads, entry_at}
-
--- the variable that a label names
-kind_found : Option (VariableKind × ℕ) → NodeKind → NodeKind
-kind_found None k = k
-kind_found (Some v) k = of_sort (sort_of_variable v.0)
-
-found_kind : (l : Label) → kind_found (variable_of l) (kind_of_label l) ≡ kind_of_label l
-unfolding kind_found
-found_kind (label.Leaf (leaf.Variable k n)) = refl
-found_kind (label.Leaf (leaf.Region r)) = refl
-found_kind (label.Leaf (leaf.TyConstant c)) = refl
-found_kind (label.Leaf (leaf.ConstConstant c)) = refl
-found_kind (label.Bound s i n) = refl
-found_kind (label.Ty h) = refl
-found_kind (label.Const h) = refl
-found_kind (label.Clause h) = refl
-found_kind (label.Predicate h) = refl
-found_kind (label.List h) = refl
-
-pub kind_of-variable : (l : Label) (k : VariableKind) (n : ℕ) → variable_of l ≡ Some (k, n) → kind_of_label l ≡ of_sort (sort_of_variable k)
-unfolding kind_found
-kind_of-variable l k n e = sym (found_kind l) ∙ ap (λ o. kind_found o (kind_of_label l)) e
+use Rattle.nts_unify.proofs.NodeLemmas.{kind_of-variable, variable_node}
 
 number_is : (k : VariableKind) (m n : ℕ) → region_number k m ≡ Some n → (k ≡ kind.Region) × (m ≡ n)
 number_is kind.Ty m n e = cc
@@ -91,13 +70,6 @@ pub record HeadKnown (ts : List Tree) (e : Entries) (t : Tree) (v : NodeId) : Ty
   pub worlds : (w : World) → Solves (content_of ts e) w → inst w t ≡ inst w (tree_at ts v)
   pub closed : IsClosed (tree_at ts v)
   pub labels : (P : Label → Bool) → TablePasses P (content_of ts e) → TreePasses P (tree_at ts v)
-
--- a node that is a variable has no children
-pub variable_node : (t : Tree) (l : Label) (k : VariableKind) (n : ℕ) → t ≡ node l (children t) → Meets (shape l) (children t) → variable_of l ≡ Some (k, n) → t ≡ variable_tree k n
-variable_node t l k n is m v =
-    let e = variable_label l k n v in
-    let none : Meets (in_order []) (children t) = rw e at m in
-    is ∙ (λ i. node (e i) (no_children (children t) none i))
 
 inst-at : (w : World) (t : Tree) (l : Label) (k : VariableKind) (n : ℕ) → t ≡ node l (children t) → variable_of l ≡ Some (k, n) → inst w t ≡ w.tree n
 inst-at w t l k n is v = ap (inst w) is ∙ inst-variable w l (children t) k n v
@@ -192,3 +164,4 @@ region_root ts e t l n r h k is i root =
       of_kind = cc;
       state = is_unset w.0.state (root.ends w.0 w.1) (λ v q. (h.sound.fits r (tree_at ts v) kind.Region (state ∙ ap (λ y. Some (state_with ts y)) q) region).1 refl);
     }
+

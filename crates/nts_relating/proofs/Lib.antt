@@ -4,7 +4,6 @@ pub mod FreshValues
 pub mod GenLemmas
 pub mod HeadLemmas
 pub mod Judging
-pub mod Looking
 pub mod MetPairs
 pub mod Naming
 pub mod PairLemmas

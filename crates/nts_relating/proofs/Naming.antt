@@ -46,6 +46,7 @@ use Rattle.nts_relating.proofs.RegionLemmas.{IsRegionVariable, region_variable_a
 use Rattle.nts_relating.proofs.HeadLemmas.{region_root}
 use Rattle.nts_relating.proofs.GenLemmas.{region_node, gen_named, gen_region, gen_region_root, gen_settled}
 use Rattle.nts_relating.proofs.FreshValues.{gen_fresh, gen_fresh_region, IsAdded, slot_added}
+use Rattle.nts_unify.proofs.NodeLemmas.{region_free, sides_of}
 
 -- the kind that is read is the variable's
 pub kind_read : (e : Entries) (y : ℕ) (k : VariableKind) (w : Variable) → HasUnset e y k → slice_get e.variables y ≡ Some w → w.kind ≡ k
@@ -103,11 +104,6 @@ can_join_fresh_region e m y number v h vk new em en =
     } in
     rw (em, en) can
 
--- the sides of the constraints are of the table
-pub sides_of : (ts : List Tree) (c : Content) (xs : List Constraint) → AreConstraints ts c xs → KnowsAll c (map (recorded_of ts) xs)
-sides_of ts c [] h = tt
-sides_of ts c (x ∷ xs) h = (h.0.left_known, h.0.right_known, sides_of ts c xs h.1)
-
 pub lawful_sides : (ts : List Tree) (e : Entries) → IsLawful ts e → KnowsAll (content_of ts e) (content_of ts e).constraints
 lawful_sides ts e h = sides_of ts (content_of ts e) e.constraints h.constraints
 
@@ -132,26 +128,6 @@ fresh_value ts us e m f x u b y number t r v w h knows within of_u o d at vk new
     let below : x < length c.slots = omega (arith, within, length-slots ts e.variables) in
     rw (is, content_of-extended ext j.lawful)
     (gen_fresh c (content_of ts m) (content_of ts f) x u b y (min y number) (max y number) (slot_of ts v) t h.sound knows free (ap (state_with ts) new.state) of_u below o.infer rank like d same_tree o.worlds (added_in ts e m v h new alone em) (ap (λ n. min y n) len) (ap (λ n. max y n) len) j.joined j.one j.brings j.lawful.sound)
-
--- the label of a free region
-free_label : (l : Label) (x : RegionName) → name_of_label l ≡ Some x → is_free_region l ≡ true
-free_label (label.Leaf (leaf.Variable kind.Region n)) x e = refl
-free_label (label.Leaf (leaf.Variable kind.Ty n)) x e = cc
-free_label (label.Leaf (leaf.Variable kind.Int n)) x e = cc
-free_label (label.Leaf (leaf.Variable kind.Float n)) x e = cc
-free_label (label.Leaf (leaf.Variable kind.Const n)) x e = cc
-free_label (label.Leaf (leaf.Region r)) x e = refl
-free_label (label.Leaf (leaf.TyConstant q)) x e = cc
-free_label (label.Leaf (leaf.ConstConstant q)) x e = cc
-free_label (label.Bound q i n) x e = cc
-free_label (label.Ty h) x e = cc
-free_label (label.Const h) x e = cc
-free_label (label.Clause h) x e = cc
-free_label (label.Predicate h) x e = cc
-free_label (label.List h) x e = cc
-
-pub region_free : (t : Tree) (l : Label) → t ≡ node l (children t) → IsRegion t → is_free_region l ≡ true
-region_free t l is h = (let k : IsRegion (node l (children t)) = subst (λ (x : Tree). IsRegion x) is h in free_label l k.0 (region_label l (children t) k.0 k.1).0)
 
 -- a region that stays
 pub region_value : (ts : List Tree) (e : Entries) (x u b : ℕ) (t : NodeId) (l : Label) → IsLawful ts e → IsRegionOf ts e t → tree_at ts t ≡ node l (children (tree_at ts t)) → Meets (shape l) (children (tree_at ts t)) → region_variable l ≡ None → CanName u (region_level l) → Generalized (content_of ts e) (content_of ts e) x u b (tree_at ts t) (tree_at ts t)
@@ -319,3 +295,4 @@ alone_label (label.Const q) e f = refl
 alone_label (label.Clause q) e f = refl
 alone_label (label.Predicate q) e f = refl
 alone_label (label.List q) e f = refl
+

@@ -34,7 +34,7 @@ use Rattle.nts_unify.specs.Reading.{content_of, IsLawful}
 use Rattle.nts_unify.specs.Changing.{unset_count, IsLater, KeepsKnowing, is_free_region}
 use Rattle.nts_unify.specs.Joining.{Joins}
 use Rattle.nts_unify.specs.Unchanged.{HasUnset}
-use Rattle.nts_relating.specs.Knowing.{row_from}
+use Rattle.nts_unify.specs.Knowing.{row_from}
 use Rattle.nts_relating.specs.Met.{judged_size, JudgesOne, OneBelow}
 use Rattle.nts_relating.specs.Relating.{IsOpen, IsClosedHead, IsSet, RegionsRelate, sides_at, all_sides_at, ArePairsIn, AreKnown, PairsPass, PairsBring, total, Pushed, IsValid, IsPairStep, IsPairRun, Running, AreMadeOne, VariablesRelate, IsPlainIn, KeepsPlain}
 use Rattle.nts_unify.proofs.Keeping.{IsLater-refl, IsLater-trans, Knows-later, KeepsKnowing-refl}
@@ -45,7 +45,7 @@ use Rattle.nts_relating.proofs.Plain.{neither, joined_plain, plain_kept, plain_r
 use Rattle.nts_relating.proofs.RegionLemmas.{from_sides, to_sides}
 use Rattle.nts_relating.proofs.GenLemmas.{IsFair, unchanged}
 use Rattle.nts_relating.proofs.Naming.{lawful_sides, alone_label}
-use Rattle.nts_relating.proofs.Looking.{row_from-end, row_from-step}
+use Rattle.nts_unify.proofs.Looking.{row_from-end, row_from-step}
 use Rattle.nts_relating.proofs.Judging.{judged-more, one-itself, one-more, below_front}
 
 pub all_sides_at-push : (ts : List Tree) (ps : List Pair) (p : Pair) → all_sides_at ts (ps ++ p ∷ []) ≡ all_sides_at ts ps ++ sides_at ts p ∷ []
@@ -589,10 +589,6 @@ step_pushed ts e ps qs p a b l m v ha hb ia ib same not_free k =
       };
     }
 
-pub if_ok : {A E : Type 0} {P Q : A → Type 0} (r : Result A E) → ((a : A) → P a → Q a) → IfOk r P → IfOk r Q
-if_ok (Ok a) f h = f a h
-if_ok (Err e) f h = tt
-
 -- one error in two results
 pub err_of : {A B E : Type 0} (e f : E) → ◌≡◌ {A = Result A E} (Err e) (Err f) → ◌≡◌ {A = Result B E} (Err e) (Err f)
 err_of e f q = let k : e ≡ f = cc in ap Err k
@@ -658,3 +654,4 @@ if_plain ts us e m f a b (Err x) same k = tt
 pub if_ties : {A E : Type 0} (ts us : List Tree) (e m f : Entries) (r : Result A E) → OnOk r (f ≡ m) → OnOk r (TiesNew (content_of ts e) (content_of us m)) → OnOk r (TiesNew (content_of ts e) (content_of us f))
 if_ties ts us e m f (Ok v) same k = rw same k
 if_ties ts us e m f (Err x) same k = tt
+

@@ -11,6 +11,7 @@ use Rattle.nts_model.specs.Tables.Resolving.{IsInfer, variable_rank, rank_of_kin
 use Rattle.nts_relating.specs.Relating.{IsLike}
 use Rattle.nts_model.proofs.Tables.Fitting.{Fits-kind_of}
 use Rattle.nts_model.proofs.Tables.Resolved.{rank_none}
+use Rattle.nts_unify.proofs.NodeLemmas.{region_sort}
 
 pub zero_le : (a b : ℕ) → a ≡ 0 → a ≤ b
 zero_le a b e = omega (arith, e)
@@ -25,13 +26,6 @@ rank_positive kind.Int n = omega arith
 rank_positive kind.Float n = omega arith
 rank_positive kind.Const n = omega arith
 rank_positive kind.Region n = absurd (n refl)
-
-pub region_sort : (k : VariableKind) → k ≢ kind.Region → of_sort (sort_of_variable k) ≡ of_sort sort.Region → ⊥
-region_sort kind.Ty h e = cc
-region_sort kind.Int h e = cc
-region_sort kind.Float h e = cc
-region_sort kind.Const h e = cc
-region_sort kind.Region h e = h refl
 
 -- trees of the same sorts
 pub kind_of-like : (r t : Tree) → IsLike r t → kind_of r ≡ kind_of t
@@ -79,3 +73,4 @@ pub rank-push : (r t : Tree) → IsRow r → variable_rank (row_push r t) ≡ 0
 rank-push empty t h = refl
 rank-push (more a b) t h = refl
 rank-push (node l c) t h = absurd h
+

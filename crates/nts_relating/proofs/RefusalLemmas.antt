@@ -26,9 +26,11 @@ use Rattle.nts_unify.specs.Joining.{TakesVariable}
 use Rattle.nts_relating.proofs.Ranks.{region_unfit}
 use Rattle.nts_unify.specs.Changing.{is_free_region}
 use Rattle.nts_relating.specs.Relating.{IsClosedHead, Blocks, Forbids, sides_at, all_sides_at}
-use Rattle.nts_relating.proofs.HeadLemmas.{kind_of-variable}
-use Rattle.nts_relating.proofs.Naming.{region_free, alone_label}
+use Rattle.nts_unify.proofs.NodeLemmas.{kind_of-variable}
+use Rattle.nts_relating.proofs.Naming.{alone_label}
+use Rattle.nts_unify.proofs.NodeLemmas.{region_free}
 use Rattle.nts_relating.proofs.PairLemmas.{Equates-front, all_sides_at-push, not_infer}
+use Rattle.nts_unify.proofs.NodeLemmas.{true_false}
 
 pub closed_at : (w : World) (n : ℕ) (r : Tree) (i : ℕ) → i < row_length r → IsClosedUnder n (inst w r) → IsClosedUnder n (inst w (row_at r i))
 closed_at w n empty i h k = absurd (omega arith)
@@ -170,9 +172,6 @@ stays_bound w (label.Clause h) = refl
 stays_bound w (label.Predicate h) = refl
 stays_bound w (label.List h) = refl
 
-pub true_false : true ≡ false → ⊥
-true_false r = cc
-
 one_free : (c : Content) (w : World) (a b : Tree) (l m : Label) → Solves c w → Knows c a → a ≡ node l (children a) → b ≡ node m (children b) → infer_of m ≡ None → is_free_region l ≡ true → is_free_region m ≡ false → inst w a ≡ inst w b → ⊥
 one_free c w a b l m z k ia ib i f g e =
     let h = inst_free c w a l z k ia f in
@@ -220,3 +219,4 @@ refuse_heads ts e ps p a b l m ha hb ia ib two apart =
 -- what is refused later was refused before
 pub Refuses-before : {c d : Content} {ps qs : List (Tree × Tree)} → Reduces c d ps qs → Refuses d qs → Refuses c ps
 Refuses-before a h = record { none = λ w z q. (let r = a.complete w z q in h.none r.0.world r.0.solves r.1) }
+

@@ -35,27 +35,9 @@ use Rattle.nts_unify.specs.Joining.{IsOneClass, RegionsJoin}
 use Rattle.nts_relating.specs.Relating.{IsRegionOf, RegionsRelate}
 use Rattle.nts_unify.proofs.Leading.{IsRoot-content, Reaches-leads}
 use Rattle.nts_unify.proofs.Keeping.{KeepsKnowing-refl, KeepsKnowing-with_constraint}
-use Rattle.nts_relating.proofs.HeadLemmas.{region_label, variable_node}
-
--- a node that is no bound region
-region_at : (l : Label) (c : Tree) → Meets (shape l) c → is_free_region l ≡ true → IsRegion (node l c)
-region_at (label.Leaf (leaf.Variable kind.Region n)) c m e = rw (no_children c m) (of_variable n, refl)
-region_at (label.Leaf (leaf.Variable kind.Ty n)) c m e = cc
-region_at (label.Leaf (leaf.Variable kind.Int n)) c m e = cc
-region_at (label.Leaf (leaf.Variable kind.Float n)) c m e = cc
-region_at (label.Leaf (leaf.Variable kind.Const n)) c m e = cc
-region_at (label.Leaf (leaf.Region r)) c m e = rw (no_children c m) (of_free r, refl)
-region_at (label.Leaf (leaf.TyConstant x)) c m e = cc
-region_at (label.Leaf (leaf.ConstConstant x)) c m e = cc
-region_at (label.Bound s i n) c m e = cc
-region_at (label.Ty h) c m e = cc
-region_at (label.Const h) c m e = cc
-region_at (label.Clause h) c m e = cc
-region_at (label.Predicate h) c m e = cc
-region_at (label.List h) c m e = cc
-
-pub free_region : (t : Tree) (l : Label) → t ≡ node l (children t) → Meets (shape l) (children t) → is_free_region l ≡ true → IsRegion t
-free_region t l is m e = subst (λ (x : Tree). IsRegion x) (sym is) (region_at l (children t) m e)
+use Rattle.nts_relating.proofs.HeadLemmas.{region_label}
+use Rattle.nts_unify.proofs.NodeLemmas.{variable_node}
+use Rattle.nts_unify.proofs.NodeLemmas.{free_region}
 
 free_sort : (l : Label) → is_free_region l ≡ true → kind_of_label l ≡ of_sort sort.Region
 free_sort (label.Leaf (leaf.Variable kind.Region n)) e = refl
@@ -188,3 +170,4 @@ regions_recorded ts e f x h left right equal visible q =
       alike = AreAlike-regions d a b (IsSound-with_constraint c (recorded_of ts x) h.sound) left.free right.free held;
       brings = brings-with_constraint c (recorded_of ts x);
     })
+

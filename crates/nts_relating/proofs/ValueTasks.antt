@@ -18,8 +18,8 @@ use Rattle.nts_relating.specs.contracts.value_walk.PartPartialEq.TheImpl as part
 use Rattle.nts_unify.specs.Entries.{Entries}
 use Rattle.nts_unify.specs.Reading.{content_of}
 use Rattle.nts_relating.specs.Parts.{IsVariableValue, IsGeneralizedNode, WalkGrows, IsGeneralizingPart, part_of, IsGeneralizingTask, AreGeneralizingTasks, IsPending, Has, IsCovered, inner, IsTaskReady, AreTasksReady, task_weight, task_weights, IsChild, AreChildren, IsEntered}
-use Rattle.nts_relating.specs.Knowing.{row_from}
-use Rattle.nts_relating.proofs.Looking.{row_from-step}
+use Rattle.nts_unify.specs.Knowing.{row_from}
+use Rattle.nts_unify.proofs.Looking.{row_from-step}
 use Rattle.nts_relating.proofs.HeadLemmas.{HeadKnown}
 use Rattle.nts_relating.proofs.ValueParts.{part_child, part_later, value_later}
 

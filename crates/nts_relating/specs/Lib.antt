@@ -1,4 +1,3 @@
-pub mod Knowing
 pub mod Met
 pub mod Parts
 pub mod Relating

@@ -23,7 +23,7 @@ use Rattle.nts_relating.specs.contracts.value_walk.PartPartialEq.TheImpl as part
 use Rattle.nts_unify.specs.Entries.{Entries}
 use Rattle.nts_unify.specs.Reading.{content_of, IsLawful}
 use Rattle.nts_unify.specs.Changing.{KeepsKnowing, is_free_region}
-use Rattle.nts_relating.specs.Knowing.{row_from}
+use Rattle.nts_unify.specs.Knowing.{row_from}
 use Rattle.nts_relating.specs.Relating.{Generalized}
 
 -- a variable's value

@@ -28,7 +28,7 @@ use Rattle.nts_unify.specs.Entries.{Entries}
 use Rattle.nts_unify.specs.Reading.{content_of, IsLawful}
 use Rattle.nts_unify.specs.Changing.{IsLater, KeepsKnowing, unset_count}
 use Rattle.nts_unify.specs.Joining.{IsBindable, TakesVariable}
-use Rattle.nts_relating.specs.Knowing.{row_from}
+use Rattle.nts_unify.specs.Knowing.{row_from}
 use Rattle.nts_relating.specs.Met.{OnenessJudge, judged_size, JudgesOne, OneBelow, AreOneAfter}
 
 -- a list of trees of the same sorts

@@ -1,2 +1,3 @@
 pub mod Sides
 pub mod Promises
+pub mod RelatedPlaces

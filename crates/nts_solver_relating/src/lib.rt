@@ -3,7 +3,9 @@
 #![tactic(auto)]
 
 mod nodes;
+mod related;
 mod values;
 
 pub use nodes::relate_by;
+pub use related::Relate;
 pub use values::RelateExt;

@@ -1,17 +1,22 @@
-//! Two values of the table related by a variance.
+//! Two values of the table related by a variance, or made equal.
 ghost use Rattle.std.specs.Prelude.{◌≡◌, ◌≢◌, OnOk, OnErr, IfOk, Err};
 ghost use Rattle.nts_terms.specs.Signatures.{variances_in};
-ghost use Rattle.nts_table.specs.Tables.{Table, IsTable, IsSide};
+ghost use Rattle.nts_model.specs.Tables.Equations.{AreRelated, AreUnrelated};
+ghost use Rattle.nts_model.specs.Tables.Passing.{BringsLabelsOf};
+ghost use Rattle.nts_store.specs.Growth.{tree_at};
+ghost use Rattle.nts_unify.specs.Reading.{content_of};
+ghost use Rattle.nts_table.specs.Tables.{Table, IsTable, IsSide, RelatingKeeps};
 ghost use Rattle.nts_solver_relating.specs.Sides.{SolverRelatingKeeps, IsRelatedIn, RefusesIn, ArePlainIn, AreMadeEqualIn, AreUnrelatedIn};
 
 use crate::nodes::relate_by;
+use crate::related::Relate;
+use nts_equating::relate_nodes;
 use nts_model::Variance;
 use nts_store::EvalError;
 use nts_table::InferCtxt;
-use nts_table::relating::Relate;
 use nts_terms::{Cx, Goal, ParamEnv, Span};
 
-/// What a table does by variance. The calls stand in a trait, since relating by a variance is a layer of its own above the table.
+/// What a table does with two values. The calls stand in a trait, since relating is a layer of its own above the table.
 pub trait RelateExt {
     ghost seen: { Self → Table };
 
@@ -52,6 +57,34 @@ pub trait RelateExt {
             AreUnrelatedIn cx.old.nodes (seen self.old).entries (T.id lhs) (T.id rhs) }
         ensures err { OnErr result (seen self.new ≡ seen self.old) }
         ensures full { result ≢ Err EvalError.Full };
+
+    /// Makes two values one, with aliases taken as they stand. It is `NoSolution` where they are of two aliases or traits, or where no
+    /// solution of the table makes them equal, and `Memory` where a growth was refused. After an error the table is as before.
+    fn eq_structurally_relating_aliases<T: Relate>(
+        &mut self,
+        cx: &mut Cx,
+        env: ParamEnv,
+        lhs: T,
+        rhs: T,
+        span: Span,
+    ) -> Result<(), EvalError>
+        requires table { IsTable cx.old.nodes (seen self.old) }
+        requires left { IsSide T.place cx.old.nodes (seen self.old) (T.id lhs) }
+        requires right { IsSide T.place cx.old.nodes (seen self.old) (T.id rhs) }
+        ensures heads { OnOk result (T.head lhs ≡ T.head rhs) }
+        ensures related { OnOk result (AreRelated (content_of cx.old.nodes (seen self.old).entries)
+            (content_of cx.new.nodes (seen self.new).entries) (tree_at cx.old.nodes (T.id lhs))
+            (tree_at cx.old.nodes (T.id rhs))) }
+        ensures labels { OnOk result (BringsLabelsOf
+            (content_of cx.old.nodes (seen self.old).entries)
+            (content_of cx.new.nodes (seen self.new).entries) (tree_at cx.old.nodes (T.id lhs))
+            (tree_at cx.old.nodes (T.id rhs))) }
+        ensures no { result ≡ Err EvalError.NoSolution → T.head lhs ≡ T.head rhs →
+            AreUnrelated (content_of cx.old.nodes (seen self.old).entries)
+            (tree_at cx.old.nodes (T.id lhs)) (tree_at cx.old.nodes (T.id rhs)) }
+        ensures keeps { RelatingKeeps cx.old cx.new (seen self.old) (seen self.new) }
+        ensures err { OnErr result (seen self.new ≡ seen self.old) }
+        ensures full { result ≢ Err EvalError.Full };
 }
 
 impl RelateExt for InferCtxt {
@@ -80,5 +113,18 @@ impl RelateExt for InferCtxt {
             lhs.node(),
             rhs.node(),
         )
+    }
+    fn eq_structurally_relating_aliases<T: Relate>(
+        &mut self,
+        cx: &mut Cx,
+        _env: ParamEnv,
+        lhs: T,
+        rhs: T,
+        _span: Span,
+    ) -> Result<(), EvalError> {
+        if lhs.def() != rhs.def() {
+            return Err(EvalError::NoSolution);
+        }
+        relate_nodes(cx.alloc, &mut cx.nodes, self, lhs.node(), rhs.node())
     }
 }

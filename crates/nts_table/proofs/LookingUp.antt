@@ -20,8 +20,8 @@ use Rattle.nts_table.specs.Tables.{IsTable}
 use Rattle.nts_unify.specs.Roots.{HasClass}
 use Rattle.nts_table.specs.Classes.{value_or_root, shallow_variable, looked_up, shallowly_resolved}
 use Rattle.nts_unify.proofs.Leading.{state_of-class, Reaches-leads, IsRoot-content}
-use Rattle.nts_relating.proofs.HeadLemmas.{kind_of-variable}
-use Rattle.nts_relating.proofs.Ranks.{region_sort as no_region_sort}
+use Rattle.nts_unify.proofs.NodeLemmas.{kind_of-variable}
+use Rattle.nts_unify.proofs.NodeLemmas.{region_sort as no_region_sort}
 
 looked_up-none : (c : Content) (l : Label) (x : Tree) → variable_of l ≡ None → looked_up c (node l x) ≡ node l x
 looked_up-none c l x e = rw e refl

@@ -15,7 +15,7 @@ use Rattle.nts_unify.specs.declared.contents.State.TheVariants as state
 use Rattle.nts_unify.specs.declared.contents.Variable.{Variable}
 use Rattle.nts_unify.specs.Reading.{content_of, slot_of, state_with, recorded_of, IsHeldState, AreHeld, AreConstraints}
 use Rattle.nts_table.specs.Tables.{Table, IsTable}
-use Rattle.nts_relating.proofs.Naming.{sides_of as known_sides}
+use Rattle.nts_unify.proofs.NodeLemmas.{sides_of as known_sides}
 
 pub known_all : {ts : List Tree} {t : Table} → IsTable ts t → KnowsAll (content_of ts t.entries) (content_of ts t.entries).constraints
 known_all {ts} {t} h = known_sides ts (content_of ts t.entries) t.entries.constraints h.now.constraints

@@ -26,8 +26,8 @@ use Rattle.nts_unify.specs.Roots.{HasClass}
 use Rattle.nts_table.specs.Resolution.{resolved_to, Resolution, resolution, resolution_of, CanResolve, IsResolved}
 use Rattle.nts_unify.proofs.Leading.{state_of-class, Reaches-leads}
 use Rattle.nts_unify.proofs.Changes.{AreHeld-at, some_inj}
-use Rattle.nts_relating.proofs.HeadLemmas.{variable_node}
-use Rattle.nts_relating.proofs.Ranks.{region_sort as no_region_sort}
+use Rattle.nts_unify.proofs.NodeLemmas.{variable_node}
+use Rattle.nts_unify.proofs.NodeLemmas.{region_sort as no_region_sort}
 
 -- a tree without variables to be replaced
 pub resolved_to-left : (regions : Bool) (c : Content) (t : Tree) → IsResolved regions t → resolved_to regions c t ≡ t

@@ -8,4 +8,3 @@ pub mod Frames
 pub mod Fresh
 pub mod TableLaws
 pub mod Tables
-pub mod RelatedPlaces

@@ -6,7 +6,7 @@ ghost use Rattle.nts_model.specs.Tables.Resolving.{Knows};
 ghost use Rattle.nts_model.specs.Terms.Placeholders.{CanName, leaf_level};
 ghost use Rattle.nts_store.specs.Growth.{tree_at, IsIn};
 ghost use Rattle.nts_unify.specs.Reading.{content_of};
-ghost use Rattle.nts_relating.specs.Knowing.{HasNamed, IsNamed};
+ghost use Rattle.nts_unify.specs.Knowing.{HasNamed, IsNamed};
 
 use crate::infer_ctxt::InferCtxt;
 use nts_model::Label;

@@ -2,11 +2,12 @@
 use crate::fixture::{
     changed, equates_regions, outlives, region_infer, relates, tells, variable_of,
 };
+use nts_equating::relate_nodes;
 use nts_fixtures::Fixture;
 use nts_model::{Relation, UintTy, Variance};
 use nts_solver_relating::RelateExt;
 use nts_store::EvalError;
-use nts_table::{InferCtxt, relate_nodes};
+use nts_table::InferCtxt;
 use nts_terms::{
     AliasDefId, AliasKind, AliasTerm, Cx, Region, RegionKind, Span, TraitRef, TyKind, TypingMode,
     VisibleForLeakCheck,

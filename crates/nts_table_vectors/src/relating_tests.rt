@@ -2,6 +2,7 @@
 use crate::fixture::{const_var, has, region_infer, relates};
 use nts_fixtures::Fixture;
 use nts_model::{Relation, UintTy, VariableKind};
+use nts_solver_relating::RelateExt;
 use nts_terms::{
     BoundRegion, Const, ConstKind, GenericArg, PlaceholderRegion, Region, RegionKind, Span, Term,
     TyKind,

@@ -29,7 +29,8 @@ use nts_certainty::GoalSource;
 use nts_delegate::{CandidateData, CandidateGoal, Equation, RegionConstraint};
 use nts_model::{Relation, Sort};
 use nts_store::{EvalError, Fault, NodeId, instantiate_canonical};
-use nts_table::{InferCtxt, relate_nodes};
+use nts_equating::relate_nodes;
+use nts_table::InferCtxt;
 use nts_terms::{Cx, Goal, ParamEnv, Predicate, Region, Span, Ty, VisibleForLeakCheck};
 
 /// What a candidate is tried with.

@@ -9,3 +9,5 @@ pub mod SavedLemmas
 pub mod Tests
 pub mod SubJoins
 pub mod Tied
+pub mod Looking
+pub mod NodeLemmas

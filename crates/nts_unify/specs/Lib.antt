@@ -9,3 +9,4 @@ pub mod Recording
 pub mod Roots
 pub mod Saved
 pub mod Unchanged
+pub mod Knowing

@@ -16,8 +16,8 @@ use Rattle.nts_store.specs.Sorts.{ChildrenFit}
 use Rattle.nts_unify.specs.Entries.{Entries}
 use Rattle.nts_unify.specs.Reading.{content_of, IsLawful}
 use Rattle.nts_terms.proofs.Standing.{args_tree}
-use Rattle.nts_relating.specs.Knowing.{row_from}
-use Rattle.nts_relating.proofs.Looking.{row_from-end, row_from-step}
+use Rattle.nts_unify.specs.Knowing.{row_from}
+use Rattle.nts_unify.proofs.Looking.{row_from-end, row_from-step}
 use Rattle.nts_variance.specs.declared.along.Relating.{Relating}
 use Rattle.nts_variance.specs.Terms.{pair_at, pairs_at}
 use Rattle.nts_variance.specs.Pairs.{Refuses}

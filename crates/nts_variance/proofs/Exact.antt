@@ -28,7 +28,7 @@ use Rattle.nts_model.proofs.Terms.Variables.{infer_label}
 use Rattle.nts_store.specs.Growth.{tree_at}
 use Rattle.nts_unify.specs.Entries.{Entries}
 use Rattle.nts_unify.specs.Reading.{content_of, IsLawful}
-use Rattle.nts_relating.proofs.HeadLemmas.{variable_node}
+use Rattle.nts_unify.proofs.NodeLemmas.{variable_node}
 use Rattle.nts_variance.specs.declared.along.Relating.{Relating}
 use Rattle.nts_variance.specs.Parts.{form_of_tree, parts_of, number_of_type, IsAlone}
 use Rattle.nts_variance.specs.Taking.{IsExactKind, IsExact, IsPair, Waits, AreOfOneForm}

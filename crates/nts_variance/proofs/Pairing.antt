@@ -10,8 +10,8 @@ use Rattle.nts_variance_model.specs.Variances.Relations.{Relating as Pair}
 use Rattle.nts_model.proofs.Tables.Resolved.{Knows-row_at}
 use Rattle.nts_store.specs.declared.nodes.NodeId.{NodeId}
 use Rattle.nts_store.specs.Growth.{tree_at, IsIn}
-use Rattle.nts_relating.specs.Knowing.{row_from}
-use Rattle.nts_relating.proofs.Looking.{row_from-end, row_from-step}
+use Rattle.nts_unify.specs.Knowing.{row_from}
+use Rattle.nts_unify.proofs.Looking.{row_from-end, row_from-step}
 use Rattle.nts_variance.specs.declared.along.Relating.{Relating}
 use Rattle.nts_variance.specs.Parts.{form_of_tree, parts_of, variances_from}
 use Rattle.nts_variance.specs.Varying.{IsMadeAgain}

@@ -30,8 +30,8 @@ use Rattle.nts_variance.specs.Terms.{pair_at, IsPart, IsTask, AreTasks}
 use Rattle.nts_variance.specs.Varying.{pair_in, IsMadeAgain}
 use Rattle.nts_variance.proofs.Nodes.{parts_known, parts_place}
 use Rattle.nts_terms.specs.Signatures.{variance_or_invariant}
-use Rattle.nts_relating.specs.Knowing.{row_from}
-use Rattle.nts_relating.proofs.Looking.{row_from-end, row_from-step}
+use Rattle.nts_unify.specs.Knowing.{row_from}
+use Rattle.nts_unify.proofs.Looking.{row_from-end, row_from-step}
 use Rattle.nts_variance.specs.Steps.{WalkStep, enter, entering, part_place}
 use Rattle.nts_variance.specs.Parts.{has_parts, form_of_tree, parts_of, function_variance, variance_in, variances_from, IsNodeWithParts}
 

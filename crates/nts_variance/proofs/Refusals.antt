@@ -27,7 +27,7 @@ use Rattle.nts_variance_model.proofs.Variances.SettleRows.{settles_kind, settles
 use Rattle.nts_unify.specs.Changing.{is_free_region}
 use Rattle.nts_relating.proofs.Naming.{alone_label}
 use Rattle.nts_relating.proofs.PairLemmas.{not_infer}
-use Rattle.nts_relating.proofs.RegionLemmas.{free_region}
+use Rattle.nts_unify.proofs.NodeLemmas.{free_region}
 use Rattle.nts_variance.specs.Pairs.{Refuses}
 use Rattle.nts_store.specs.declared.nodes.NodeId.{NodeId}
 use Rattle.nts_store.specs.Growth.{tree_at}

@@ -23,7 +23,8 @@ use Rattle.nts_unify.specs.Roots.{IsRoot, HasClass}
 use Rattle.nts_unify.proofs.Leading.{Reaches-leads}
 use Rattle.nts_relating.specs.Relating.{IsOpen}
 use Rattle.std.specs.Option.{is_some}
-use Rattle.nts_relating.proofs.HeadLemmas.{variable_node, head_open}
+use Rattle.nts_relating.proofs.HeadLemmas.{head_open}
+use Rattle.nts_unify.proofs.NodeLemmas.{variable_node}
 use Rattle.nts_relating.proofs.RegionLemmas.{IsRegionVariable, regions-one}
 use Rattle.nts_variance.specs.Parts.{has_parts, none_escapes, closed_alias, number_of_type}
 use Rattle.nts_variance.specs.Taking.{number_at}

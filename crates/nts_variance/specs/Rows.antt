@@ -11,7 +11,7 @@ use Rattle.nts_store.specs.declared.nodes.NodeId.{NodeId}
 use Rattle.nts_store.specs.Growth.{tree_at, IsIn}
 use Rattle.nts_unify.specs.Entries.{Entries}
 use Rattle.nts_unify.specs.Reading.{content_of, IsLawful}
-use Rattle.nts_relating.specs.Knowing.{row_from}
+use Rattle.nts_unify.specs.Knowing.{row_from}
 use Rattle.nts_variance.specs.declared.along.Relating.{Relating}
 use Rattle.nts_variance.specs.Terms.{pairs_at, AreGoals, ArePairs}
 use Rattle.nts_variance.specs.Due.{AreGoalsDue}

@@ -16,6 +16,7 @@ use nts_canonicalizer::canonicalize_goal;
 use nts_fixtures::Fixture;
 use nts_model::{Sort, Variance};
 use nts_resolve::eager_resolve_vars;
+use nts_solver_relating::RelateExt;
 use nts_store::{EvalError, Fault};
 use nts_table::InferCtxt;
 use nts_terms::{

@@ -1,6 +1,6 @@
 use Rattle.std.proofs.Common.{sym, ◌∙◌}
 use Rattle.nts_store.specs.Growth.{tree_at}
-use Rattle.nts_relating.proofs.RegionLemmas.{free_region}
+use Rattle.nts_unify.proofs.NodeLemmas.{free_region}
 use Rattle.nts_response.specs.Applied.{content_within}
 use Rattle.nts_applying.proofs.Guessed.{integer_stands, float_stands, const_stands, region_stands, known_label}
 use Rattle.nts_applying.proofs.guessing.may_stand.Goals as goal

@@ -1,7 +1,7 @@
 use Rattle.std.proofs.Common.{◌≡◌, ◌≤◌, ◌++◌}
 use Rattle.nts_model.specs.Terms.Trees.{children, row_length}
 use Rattle.nts_store.specs.Growth.{tree_at}
-use Rattle.nts_relating.specs.Knowing.{row_from}
+use Rattle.nts_unify.specs.Knowing.{row_from}
 use Rattle.nts_canonicalizer.specs.Collecting.{TasksIn, jobs, entered}
 use Rattle.nts_canonicalizer.proofs.collecting.push_children.Given as goal
 

@@ -12,7 +12,8 @@ use Rattle.nts_relating.proofs.RegionLemmas.{region_of_term}
 use Rattle.nts_relating.proofs.PairLemmas.{Stepped, last_pair, step_kept, step_pushed, heads_same, heads_regions, regions_bring}
 use Rattle.nts_relating.proofs.MetPairs.{Passed, memo_done, memo_pushed, passed_met, met_keys, new_keys}
 use Rattle.nts_unify.proofs.Tests.{is_true, is_false}
-use Rattle.nts_relating.proofs.RefusalLemmas.{refuse_heads, true_false}
+use Rattle.nts_relating.proofs.RefusalLemmas.{refuse_heads}
+use Rattle.nts_unify.proofs.NodeLemmas.{true_false}
 use Rattle.nts_relating.proofs.relate.relate_heads.Goals as goal
 use Rattle.nts_relating.proofs.relate.relate_heads.Goals.{else-names_free_region-via-then-names_free_region+else-names_free_region-2, else-names_free_region-via-else-names_free_region}
 

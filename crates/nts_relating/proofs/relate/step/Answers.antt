@@ -4,7 +4,8 @@ use Rattle.nts_store.specs.Growth.{tree_at}
 use Rattle.nts_unify.specs.Reading.{content_of}
 use Rattle.nts_model.proofs.Tables.Bringing.{brings-turned}
 use Rattle.nts_relating.proofs.MetPairs.{memo_done, memo_variables}
-use Rattle.nts_relating.proofs.PairLemmas.{Stepped, last_pair, set_left, set_right, set_brings, set_plain, step_set, step_variables, if_ok, err_of}
+use Rattle.nts_relating.proofs.PairLemmas.{Stepped, last_pair, set_left, set_right, set_brings, set_plain, step_set, step_variables, err_of}
+use Rattle.nts_unify.proofs.NodeLemmas.{if_ok}
 use Rattle.nts_relating.proofs.RefusalLemmas.{refuse_pair}
 use Rattle.nts_relating.proofs.relate.step.Goals as goal
 use Rattle.nts_relating.proofs.relate.step.Goals.{In-Ok, In-Ok-bind}

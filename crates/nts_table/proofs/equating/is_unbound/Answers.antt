@@ -1,7 +1,7 @@
 use Rattle.std.proofs.Common.{sym, ◌∙◌}
-use Rattle.nts_relating.proofs.RegionLemmas.{free_region}
-use Rattle.nts_relating.proofs.Naming.{region_free}
-use Rattle.nts_relating.proofs.RefusalLemmas.{true_false}
+use Rattle.nts_unify.proofs.NodeLemmas.{free_region}
+use Rattle.nts_unify.proofs.NodeLemmas.{region_free}
+use Rattle.nts_unify.proofs.NodeLemmas.{true_false}
 use Rattle.nts_table.proofs.equating.is_unbound.Goals as goal
 
 pub returns-clause-yes : goal.returns-clause-yes

@@ -5,7 +5,7 @@ use Rattle.nts_model.specs.Tables.Resolving.{Knows}
 use Rattle.nts_variance_model.specs.Variances.Forms.{variances_over, pairs_over}
 use Rattle.nts_store.specs.Growth.{tree_at}
 use Rattle.nts_terms.specs.Signatures.{variances_in}
-use Rattle.nts_relating.specs.Knowing.{row_from}
+use Rattle.nts_unify.specs.Knowing.{row_from}
 use Rattle.nts_variance.specs.Steps.{stacked}
 use Rattle.nts_variance.specs.Parts.{form_of_tree, parts_of, variances_from}
 use Rattle.nts_variance.specs.Terms.{pair_at}

@@ -4,7 +4,7 @@ use Rattle.nts_store.specs.Growth.{tree_at}
 use Rattle.nts_unify.specs.Changing.{is_free_region}
 use Rattle.nts_unify.specs.Reading.{content_of}
 use Rattle.nts_unify.proofs.Keeping.{KeepsKnowing-refl}
-use Rattle.nts_relating.proofs.RefusalLemmas.{true_false}
+use Rattle.nts_unify.proofs.NodeLemmas.{true_false}
 use Rattle.nts_relating.proofs.RegionLemmas.{region_of_term}
 use Rattle.nts_variance.specs.Parts.{has_parts}
 use Rattle.nts_variance.specs.Terms.{pair_at}

@@ -1,7 +1,7 @@
 use Rattle.std.proofs.Common.{arith, refl, ap, ◌∙◌}
 use Rattle.nts_table.proofs.Walking.{value_in}
 use Rattle.nts_table.proofs.LookingUp.{look_known, look_unset, sort_kept}
-use Rattle.nts_relating.proofs.PairLemmas.{if_ok}
+use Rattle.nts_unify.proofs.NodeLemmas.{if_ok}
 use Rattle.nts_model.specs.Terms.Trees.{kind_of}
 use Rattle.nts_table.proofs.infer_ctxt.InferCtxt.+look_up.Goals as goal
 

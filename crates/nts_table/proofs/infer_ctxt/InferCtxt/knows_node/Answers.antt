@@ -5,7 +5,7 @@ use Rattle.nts_model.proofs.Terms.Unpositioned.{known_no_positions, known_well_b
 use Rattle.nts_store.specs.declared.type_flags.TypeFlags.{TypeFlags}
 use Rattle.nts_store.specs.Growth.{tree_at}
 use Rattle.nts_unify.specs.Reading.{content_of}
-use Rattle.nts_relating.proofs.Looking.{Knows-none, labels_known, known_labels, if_both}
+use Rattle.nts_unify.proofs.Looking.{Knows-none, labels_known, known_labels, if_both}
 use Rattle.nts_table.proofs.infer_ctxt.InferCtxt.knows_node.Goals as goal
 use Rattle.nts_store.proofs.Filling.{from_not}
 

@@ -1,7 +1,7 @@
 use Rattle.std.proofs.Common.{◌∙◌}
 use Rattle.nts_table.proofs.Walking.{value_in}
 use Rattle.nts_table.proofs.ClassValues.{shallow_known, shallow_known_kind, shallow_unset}
-use Rattle.nts_relating.proofs.PairLemmas.{if_ok}
+use Rattle.nts_unify.proofs.NodeLemmas.{if_ok}
 use Rattle.nts_table.proofs.infer_ctxt.InferCtxt.value_or_root.Goals as goal
 
 pub returns-in-Ok-clause-within : goal.returns-in-Ok-clause-within

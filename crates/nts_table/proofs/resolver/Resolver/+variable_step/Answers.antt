@@ -4,7 +4,7 @@ use Rattle.nts_unify.specs.Reading.{content_of}
 use Rattle.std.specs.Prelude.{ℕ}
 use Rattle.nts_table.specs.Resolution.{resolution, resolution_of}
 use Rattle.nts_store.proofs.Growing.{Extends-refl}
-use Rattle.nts_relating.proofs.PairLemmas.{if_ok}
+use Rattle.nts_unify.proofs.NodeLemmas.{if_ok}
 use Rattle.nts_table.proofs.Walking.{ValueVariable, value_in, value_image, value_variable, value_step, value_goes_down, root_image, resolution-left}
 use Rattle.nts_table.proofs.resolver.Resolver.+variable_step.Goals as goal
 

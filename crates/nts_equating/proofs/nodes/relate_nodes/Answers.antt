@@ -1,7 +1,7 @@
 use Rattle.std.proofs.Common.{ap, ◌∙◌}
 use Rattle.nts_table.specs.Tables.{Table}
 use Rattle.nts_table.specs.TableLaws.{IsTable-run}
-use Rattle.nts_table.proofs.relating_nodes.relate_nodes.Goals as goal
+use Rattle.nts_equating.proofs.nodes.relate_nodes.Goals as goal
 
 pub returns-clause-table : goal.returns-clause-table
 returns-clause-table c =

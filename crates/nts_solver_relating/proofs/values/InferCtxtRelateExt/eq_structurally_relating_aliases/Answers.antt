@@ -1,6 +1,6 @@
 use Rattle.std.proofs.Common.{refl, rules}
 use Rattle.nts_unify.proofs.Keeping.{IsLater-refl}
-use Rattle.nts_table.proofs.infer_ctxt.InferCtxt.eq_structurally_relating_aliases.Goals as goal
+use Rattle.nts_solver_relating.proofs.values.InferCtxtRelateExt.eq_structurally_relating_aliases.Goals as goal
 
 -- nothing was done
 pub returns-then-ne-clause-keeps : goal.returns-then-ne-clause-keeps

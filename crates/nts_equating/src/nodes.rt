@@ -9,8 +9,8 @@ ghost use Rattle.nts_unify.specs.Changing.{IsLater};
 ghost use Rattle.nts_store.specs.declared.fault.EvalError.TheVariants.{NoSolution};
 ghost use Rattle.nts_table.specs.Frames.{ChangesVariables};
 
-use crate::infer_ctxt::InferCtxt;
 use nts_store::{EvalError, NodeId, Nodes};
+use nts_table::InferCtxt;
 use std::alloc::Global;
 
 /// Makes two terms equal: afterwards the table has the solutions that it had before and that make

@@ -15,7 +15,7 @@ use Rattle.nts_model.proofs.Terms.Unpositioned.{leaves_known}
 use Rattle.nts_model.specs.Tables.Passing.{AllLabels}
 use Rattle.nts_unify.specs.Entries.{Entries}
 use Rattle.nts_unify.specs.Reading.{content_of}
-use Rattle.nts_relating.specs.Knowing.{HasNamed, IsNamed, row_from}
+use Rattle.nts_unify.specs.Knowing.{HasNamed, IsNamed, row_from}
 use Rattle.nts_unify.proofs.Leading.{kind_within, kind_at-entry, entry_at}
 use Rattle.nts_model.specs.declared.labels.FreeRegion.TheVariants as region
 use Rattle.nts_model.specs.declared.labels.Constant.{Constant}

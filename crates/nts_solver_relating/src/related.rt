@@ -1,25 +1,16 @@
-//! Relating typed values.
-ghost use Rattle.std.specs.Prelude.{◌≡◌, ◌≢◌, Err, OnOk, OnErr};
+//! What can be related.
+ghost use Rattle.std.specs.Prelude.{◌≡◌};
 ghost use Rattle.nts_model.specs.Terms.Trees.{Place, is, any_term, any_argument, arguments, a_type, a_region, a_const};
-ghost use Rattle.nts_model.specs.Tables.Equations.{AreRelated, AreUnrelated};
-ghost use Rattle.nts_model.specs.Tables.Passing.{BringsLabelsOf};
 ghost use Rattle.nts_store.specs.declared.nodes.NodeId.{NodeId};
-ghost use Rattle.nts_store.specs.Growth.{tree_at};
-ghost use Rattle.nts_unify.specs.Reading.{content_of};
-ghost use Rattle.nts_table.specs.Tables.{IsTable, IsSide, RelatingKeeps};
 
-use crate::infer_ctxt::InferCtxt;
-use crate::relating_nodes::relate_nodes;
-use nts_store::{EvalError, NodeId};
-use nts_terms::{
-    AliasTerm, Const, Cx, DefId, GenericArg, ParamEnv, Region, Span, Term, TraitRef, Ty,
-};
+use nts_store::NodeId;
+use nts_terms::{AliasTerm, Const, DefId, GenericArg, Region, Term, TraitRef, Ty};
 
 /// What can be related: two terms of one sort, or two lists of arguments of one alias or trait.
 pub trait Relate: Copy {
     ghost use Rattle.std.specs.Prelude.{Option};
     ghost use Rattle.nts_terms.specs.declared.handles.DefId.{DefId};
-    ghost use Rattle.nts_table.specs.RelatedPlaces.{AreSides};
+    ghost use Rattle.nts_solver_relating.specs.RelatedPlaces.{AreSides};
 
     ghost place: { Place };
 
@@ -41,7 +32,7 @@ pub trait Relate: Copy {
 
 impl Relate for Ty {
     ghost use Rattle.std.specs.Prelude.{None};
-    ghost use Rattle.nts_table.specs.RelatedPlaces.{types};
+    ghost use Rattle.nts_solver_relating.specs.RelatedPlaces.{types};
 
     ghost place = { a_type };
 
@@ -62,7 +53,7 @@ impl Relate for Ty {
 
 impl Relate for Region {
     ghost use Rattle.std.specs.Prelude.{None};
-    ghost use Rattle.nts_table.specs.RelatedPlaces.{regions};
+    ghost use Rattle.nts_solver_relating.specs.RelatedPlaces.{regions};
 
     ghost place = { a_region };
 
@@ -83,7 +74,7 @@ impl Relate for Region {
 
 impl Relate for Const {
     ghost use Rattle.std.specs.Prelude.{None};
-    ghost use Rattle.nts_table.specs.RelatedPlaces.{consts};
+    ghost use Rattle.nts_solver_relating.specs.RelatedPlaces.{consts};
 
     ghost place = { a_const };
 
@@ -104,7 +95,7 @@ impl Relate for Const {
 
 impl Relate for Term {
     ghost use Rattle.std.specs.Prelude.{None};
-    ghost use Rattle.nts_table.specs.RelatedPlaces.{terms};
+    ghost use Rattle.nts_solver_relating.specs.RelatedPlaces.{terms};
 
     ghost place = { any_term };
 
@@ -125,7 +116,7 @@ impl Relate for Term {
 
 impl Relate for GenericArg {
     ghost use Rattle.std.specs.Prelude.{None};
-    ghost use Rattle.nts_table.specs.RelatedPlaces.{all_arguments};
+    ghost use Rattle.nts_solver_relating.specs.RelatedPlaces.{all_arguments};
 
     ghost place = { any_argument };
 
@@ -147,7 +138,7 @@ impl Relate for GenericArg {
 impl Relate for AliasTerm {
     ghost use Rattle.std.specs.Prelude.{Some};
     ghost use Rattle.nts_terms.specs.declared.handles.DefId.TheVariants as defs;
-    ghost use Rattle.nts_table.specs.RelatedPlaces.{lists};
+    ghost use Rattle.nts_solver_relating.specs.RelatedPlaces.{lists};
 
     ghost place = { is arguments };
 
@@ -169,7 +160,7 @@ impl Relate for AliasTerm {
 impl Relate for TraitRef {
     ghost use Rattle.std.specs.Prelude.{Some};
     ghost use Rattle.nts_terms.specs.declared.handles.DefId.TheVariants as defs;
-    ghost use Rattle.nts_table.specs.RelatedPlaces.{lists};
+    ghost use Rattle.nts_solver_relating.specs.RelatedPlaces.{lists};
 
     ghost place = { is arguments };
 
@@ -186,38 +177,4 @@ impl Relate for TraitRef {
     }
 
     ghost sides = { lists };
-}
-
-impl InferCtxt {
-    /// Makes two values one, with aliases taken as they stand. After a refusal the table is as before.
-    pub fn eq_structurally_relating_aliases<T: Relate>(
-        &mut self,
-        cx: &mut Cx,
-        _env: ParamEnv,
-        lhs: T,
-        rhs: T,
-        _span: Span,
-    ) -> Result<(), EvalError>
-        requires table { IsTable cx.old.nodes self.old }
-        requires left { IsSide T.place cx.old.nodes self.old (T.id lhs) }
-        requires right { IsSide T.place cx.old.nodes self.old (T.id rhs) }
-        ensures heads { OnOk result (T.head lhs ≡ T.head rhs) }
-        ensures related { OnOk result (AreRelated (content_of cx.old.nodes self.old.entries)
-            (content_of cx.new.nodes self.new.entries) (tree_at cx.old.nodes (T.id lhs))
-            (tree_at cx.old.nodes (T.id rhs))) }
-        ensures labels { OnOk result (BringsLabelsOf (content_of cx.old.nodes self.old.entries)
-            (content_of cx.new.nodes self.new.entries) (tree_at cx.old.nodes (T.id lhs))
-            (tree_at cx.old.nodes (T.id rhs))) }
-        ensures no { result ≡ Err EvalError.NoSolution → T.head lhs ≡ T.head rhs →
-            AreUnrelated (content_of cx.old.nodes self.old.entries) (tree_at cx.old.nodes
-            (T.id lhs)) (tree_at cx.old.nodes (T.id rhs)) }
-        ensures keeps { RelatingKeeps cx.old cx.new self.old self.new }
-        ensures err { OnErr result (self.new ≡ self.old) }
-        ensures full { result ≢ Err EvalError.Full }
-    {
-        if lhs.def() != rhs.def() {
-            return Err(EvalError::NoSolution);
-        }
-        relate_nodes(cx.alloc, &mut cx.nodes, self, lhs.node(), rhs.node())
-    }
 }
