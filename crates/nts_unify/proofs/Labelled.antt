@@ -1,21 +1,18 @@
 -- Changes of a table's entries that bring no labels but those of given trees.
-use Rattle.std.proofs.Common.{◌≡◌, ⊎_elim, ℕ, Bool, min, max, List, Option, Some, None, refl, sym, ap, ◌∙◌, arith}
+use Rattle.std.proofs.Common.{◌≡◌, ⊎_elim, ℕ, min, max, List, refl, ap, ◌∙◌, arith}
 use Rattle.nts_model.specs.Terms.Trees.{Tree}
-use Rattle.nts_model.specs.Tables.Contents.{Content, state_of, changed}
+use Rattle.nts_model.specs.Tables.Contents.{Content, changed}
 use Rattle.nts_model.specs.Tables.Passing.{BringsLabelsOf, BringsNoLabels}
 use Rattle.nts_model.proofs.Tables.Slots.{slice_get_below, slice_get-slice_set_other, field-changed_same, field-changed_other, field-changed_kept}
-use Rattle.nts_model.proofs.Tables.Bringing.{brings-refl, brings-of, brings-same, brings-linked, brings-with_slot, brings-with_constraint}
-use Rattle.nts_store.specs.declared.nodes.NodeId.{NodeId}
-use Rattle.nts_store.specs.Growth.{tree_at, Extends}
+use Rattle.nts_model.proofs.Tables.Bringing.{brings-refl, brings-linked, brings-with_slot, brings-with_constraint}
+use Rattle.nts_store.specs.Growth.{tree_at}
 use Rattle.nts_unify.specs.declared.contents.State.TheVariants.{Unset, Link}
 use Rattle.nts_unify.specs.declared.contents.Variable.{Variable}
 use Rattle.nts_unify.specs.declared.contents.Constraint.{Constraint}
-use Rattle.nts_unify.specs.Entries.{Entries, added, moved, with_variable, constrained}
-use Rattle.nts_unify.specs.Reading.{state_with, slot_of, recorded_of, content_of, IsLawful}
-use Rattle.nts_unify.specs.Lawful.{content_of-extended, content_of-added, content_of-constrained}
-use Rattle.nts_unify.specs.Recording.{Records}
-use Rattle.nts_unify.specs.Roots.{SubLinked, SubRootsJoin}
-use Rattle.nts_unify.specs.Equating.{RegionsLinked, RegionsJoined, EquatedAt}
+use Rattle.nts_unify.specs.Entries.{Entries, added, with_variable, constrained}
+use Rattle.nts_unify.specs.Reading.{state_with, slot_of, recorded_of, content_of}
+use Rattle.nts_unify.specs.Lawful.{content_of-added, content_of-constrained}
+use Rattle.nts_unify.specs.Equating.{RegionsLinked, RegionsJoined}
 use Rattle.nts_unify.proofs.Changes.{slot_at, content_of-with_variable}
 
 -- a new variable of which nothing is known

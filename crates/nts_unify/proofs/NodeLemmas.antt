@@ -1,141 +1,40 @@
 -- Nodes that are variables or free regions, by their labels.
-use Rattle.nts_model.proofs.Tables.AliasLabels.{region_closed}
-use Rattle.nts_model.proofs.Tables.Alike.{AreAlike-one, AreAlike-itself, AreAlike-for, AreAlike-turned, AreAlike-more, AreAlike-children, AreAlike-continues}
-use Rattle.nts_model.proofs.Tables.Alike.{AreAlike-one, AreAlike-regions, HoldsEqual-recorded}
-use Rattle.nts_model.proofs.Tables.Alike.{AreAlike-turned}
-use Rattle.nts_model.proofs.Tables.Bringing.{brings-of, brings-refl, passes-children, passes-row_at}
-use Rattle.nts_model.proofs.Tables.Bringing.{brings-refl, brings-of, brings-with_constraint}
-use Rattle.nts_model.proofs.Tables.Bringing.{brings-turned}
-use Rattle.nts_model.proofs.Tables.Classes.{root_of-with_slot}
-use Rattle.nts_model.proofs.Tables.Fitting.{Fits-kind_of, kind_of_label-renamed}
-use Rattle.nts_model.proofs.Tables.Fitting.{Fits-kind_of}
 use Rattle.nts_model.proofs.Tables.Fitting.{region_label}
-use Rattle.nts_model.proofs.Tables.Held.{AreOne-continues, Continues-refl, Continues-trans}
-use Rattle.nts_model.proofs.Tables.Held.{AreOne-continues, Continues-refl, Continues-with_constraint, HoldsConstraint-with_constraint}
-use Rattle.nts_model.proofs.Tables.Instances.{inst-node, inst-agrees, Agrees-refl, Agrees-trans}
-use Rattle.nts_model.proofs.Tables.Instances.{inst-node, inst-variable}
-use Rattle.nts_model.proofs.Tables.Instances.{inst-variable, tree-reaches, tree-known}
-use Rattle.nts_model.proofs.Tables.Instances.{tree-reaches}
 use Rattle.nts_model.proofs.Tables.Kept.{variable_label}
-use Rattle.nts_model.proofs.Tables.Refuting.{tree-named, one_node, IsFreeRegion, lengths_refute, sorts_refute, kind_refutes, integer_float_refute}
-use Rattle.nts_model.proofs.Tables.Resolved.{KnownStep, known_step, resolved-variable_reaches}
-use Rattle.nts_model.proofs.Tables.Resolved.{rank_none}
-use Rattle.nts_model.proofs.Tables.Resolved.{resolved-empty, deeply_resolved-node}
-use Rattle.nts_model.proofs.Tables.Resolved.{resolved-more, resolved-empty, Knows-row_at, node_step, IsVariable, resolved-variable_link}
-use Rattle.nts_model.proofs.Tables.Roots.{kind_at-reaches}
-use Rattle.nts_model.proofs.Tables.Roots.{root_of-link, root_of-root_of, kind_at-root_of}
-use Rattle.nts_model.proofs.Tables.Roots.{root_of-root}
-use Rattle.nts_model.proofs.Tables.Slots.{slice_get-push_old, slice_get-push_new, slice_get_below, field_below}
-use Rattle.nts_model.proofs.Tables.Solving.{Solves-with_constraint, Solves-from_with_constraint}
-use Rattle.nts_model.proofs.Tables.Sound.{IsSound-with_constraint}
-use Rattle.nts_model.proofs.Tables.Tying.{TiesNew-same, TiesNew-trans}
 use Rattle.nts_model.proofs.Terms.Substituting.{no_children}
-use Rattle.nts_model.proofs.Terms.Variables.{infer_label}
-use Rattle.nts_model.proofs.Terms.Variables.{infer_of_none}
-use Rattle.nts_model.specs.Tables.Alike.{AreAlike}
-use Rattle.nts_model.specs.Tables.Contents.{Content, kind_at, universe_of}
-use Rattle.nts_model.specs.Tables.Contents.{Content, kind_at, with_constraint}
-use Rattle.nts_model.specs.Tables.Contents.{Content, known, state_of, kind_at}
-use Rattle.nts_model.specs.Tables.Contents.{Content, unset, state_of, kind_at, universe_of, with_slot}
-use Rattle.nts_model.specs.Tables.Contents.{Content, unset, state_of, kind_at, universe_of}
-use Rattle.nts_model.specs.Tables.Equations.{Equates, AllAlike, Reduces, AreRelated}
-use Rattle.nts_model.specs.Tables.Equations.{Reduces, Refuses}
-use Rattle.nts_model.specs.Tables.Holding.{AreOne}
-use Rattle.nts_model.specs.Tables.Levels.{NamesAll, region_level}
-use Rattle.nts_model.specs.Tables.Levels.{NamesAll, term_level}
-use Rattle.nts_model.specs.Tables.Measuring.{closed_aliases}
-use Rattle.nts_model.specs.Tables.Passing.{TreePasses, BringsLabelsOf}
-use Rattle.nts_model.specs.Tables.Passing.{TreePasses, TablePasses}
-use Rattle.nts_model.specs.Tables.Resolving.{IsInfer, Knows, KnowsVariable, resolved, rank_of, rank_of_kind, variable_rank}
-use Rattle.nts_model.specs.Tables.Resolving.{IsInfer, Knows, KnowsVariable, variable_flag}
-use Rattle.nts_model.specs.Tables.Resolving.{IsInfer, variable_rank, rank_of_kind}
-use Rattle.nts_model.specs.Tables.Resolving.{IsSound, resolved, root_of, Knows, variable_rank}
-use Rattle.nts_model.specs.Tables.Resolving.{Knows, IsSound, deeply_resolved, root_of}
-use Rattle.nts_model.specs.Tables.Resolving.{Knows, resolved, rooted, IsInfer, IsSound}
-use Rattle.nts_model.specs.Tables.Tying.{TiesNew}
+use Rattle.nts_model.specs.Tables.Contents.{Content}
+use Rattle.nts_model.specs.Tables.Contents.{Content}
+use Rattle.nts_model.specs.Tables.Contents.{Content}
+use Rattle.nts_model.specs.Tables.Contents.{Content}
+use Rattle.nts_model.specs.Tables.Contents.{Content}
 use Rattle.nts_model.specs.Tables.Worlds.{KnowsAll}
-use Rattle.nts_model.specs.Tables.Worlds.{World, inst, Solves}
-use Rattle.nts_model.specs.Tables.Worlds.{World, inst, renamed, Solves, Agrees}
-use Rattle.nts_model.specs.Tables.Worlds.{World, inst, renamed, Solves}
-use Rattle.nts_model.specs.Terms.Fitting.{Fits}
-use Rattle.nts_model.specs.Terms.Placeholders.{CanName}
 use Rattle.nts_model.specs.Terms.Regions.{IsRegion}
 use Rattle.nts_model.specs.Terms.Regions.{RegionName, of_variable, IsRegion, name_of_label}
 use Rattle.nts_model.specs.Terms.Regions.{of_variable, of_free, IsRegion}
-use Rattle.nts_model.specs.Terms.Trees.{Tree, empty, more, node, NodeKind, of_sort, sort_of_variable, kind_of, row_push, IsRow}
-use Rattle.nts_model.specs.Terms.Trees.{Tree, empty, more, node, size, children, label_of, IsRow, row_length, row_at, row_take, IsClosedUnder, of_sort, kind_of, kind_of_label, sort_of_variable, infer_of, variable_of}
-use Rattle.nts_model.specs.Terms.Trees.{Tree, empty, more, node, size, row_length, row_at, IsRow, children, label_of, any_label, is_alias, infer_of, variable_of, variable_tree}
-use Rattle.nts_model.specs.Terms.Trees.{Tree, empty, node, children, shape, Meets, kind_of, kind_of_label, of_sort, variable_tree}
-use Rattle.nts_model.specs.Terms.Trees.{Tree, node, NodeKind, of_sort, sort_of_variable, kind_of, kind_of_label, children, label_of, shape, Meets, in_order, IsClosed, infer_of, variable_of, variable_tree}
-use Rattle.nts_model.specs.Terms.Trees.{Tree, node, children, shape, Meets, any_label, is_infer, is_region_infer, is_placeholder, infer_of, variable_of, variable_tree}
-use Rattle.nts_model.specs.declared.labels.FreeRegion.{FreeRegion}
+use Rattle.nts_model.specs.Terms.Trees.{Tree, node, NodeKind, of_sort, sort_of_variable}
+use Rattle.nts_model.specs.Terms.Trees.{Tree, node, children, of_sort, kind_of_label, sort_of_variable, variable_of}
+use Rattle.nts_model.specs.Terms.Trees.{Tree, node, children, variable_of, variable_tree}
+use Rattle.nts_model.specs.Terms.Trees.{Tree, node, children, shape, Meets, kind_of_label, of_sort, variable_tree}
+use Rattle.nts_model.specs.Terms.Trees.{Tree, node, NodeKind, of_sort, sort_of_variable, kind_of_label, children, shape, Meets, in_order, variable_of, variable_tree}
+use Rattle.nts_model.specs.Terms.Trees.{Tree, node, children, shape, Meets, variable_of, variable_tree}
 use Rattle.nts_model.specs.declared.labels.Label.TheVariants as label
 use Rattle.nts_model.specs.declared.labels.Label.{Label}
 use Rattle.nts_model.specs.declared.labels.Leaf.TheVariants as leaf
-use Rattle.nts_model.specs.declared.labels.Relation.TheVariants as relation
 use Rattle.nts_model.specs.declared.labels.Sort.TheVariants as sort
 use Rattle.nts_model.specs.declared.labels.VariableKind.TheVariants as kind
 use Rattle.nts_model.specs.declared.labels.VariableKind.{VariableKind}
-use Rattle.nts_store.proofs.Escaping.{IsBelow, closed_under}
-use Rattle.nts_store.proofs.Growing.{IsIn-extended, Extends-refl}
-use Rattle.nts_store.proofs.Growing.{IsIn-extended}
-use Rattle.nts_store.specs.Growth.{tree_at, IsIn, Extends}
-use Rattle.nts_store.specs.Growth.{tree_at, IsIn}
-use Rattle.nts_store.specs.Growth.{tree_at}
-use Rattle.nts_store.specs.TypeFlags.{flags_of, escaping}
-use Rattle.nts_store.specs.declared.nodes.NodeId.{NodeId}
-use Rattle.nts_store.specs.declared.type_flags.TypeFlags.{TypeFlags}
-use Rattle.nts_unify.proofs.Changes.{AreHeld-at}
-use Rattle.nts_unify.proofs.Changes.{length-slots}
-use Rattle.nts_unify.proofs.Changes.{some_inj}
-use Rattle.nts_unify.proofs.JoinLemmas.{free_slot, at_min, at_max}
-use Rattle.nts_unify.proofs.JoinLemmas.{free_slot}
-use Rattle.nts_unify.proofs.Keeping.{IsLater-refl, IsLater-trans, Knows-later, KeepsKnowing-refl}
-use Rattle.nts_unify.proofs.Keeping.{KeepsKnowing-refl, KeepsKnowing-with_constraint}
-use Rattle.nts_unify.proofs.Keeping.{Knows-later}
-use Rattle.nts_unify.proofs.Leading.{IsRoot-content, Reaches-leads}
-use Rattle.nts_unify.proofs.Leading.{state_of-entry, state_of-class, kind_at-entry, Reaches-leads, entry_at}
-use Rattle.nts_unify.proofs.Leading.{universe_of-entry}
-use Rattle.nts_unify.proofs.Looking.{row_from-end, row_from-step}
-use Rattle.nts_unify.proofs.NodeLemmas.{kind_of-variable}
-use Rattle.nts_unify.proofs.NodeLemmas.{region_free}
-use Rattle.nts_unify.proofs.NodeLemmas.{variable_node}
-use Rattle.nts_unify.proofs.Tied.{ties_of_keeps}
 use Rattle.nts_unify.specs.Changing.{is_free_region}
-use Rattle.nts_unify.specs.Changing.{region_variable, is_free_region}
-use Rattle.nts_unify.specs.Changing.{region_variable, region_number}
-use Rattle.nts_unify.specs.Changing.{unset_count, IsLater, KeepsKnowing, is_free_region}
-use Rattle.nts_unify.specs.Entries.{Entries, added, constrained}
-use Rattle.nts_unify.specs.Entries.{Entries, constrained}
-use Rattle.nts_unify.specs.Entries.{Entries}
-use Rattle.nts_unify.specs.Joining.{CanJoin, CanJoinRegions, Joins, RegionsJoin}
-use Rattle.nts_unify.specs.Joining.{IsOneClass, RegionsJoin}
-use Rattle.nts_unify.specs.Joining.{Joins}
-use Rattle.nts_unify.specs.Joining.{TakesVariable}
-use Rattle.nts_unify.specs.Knowing.{row_from}
-use Rattle.nts_unify.specs.Lawful.{IsNew, content_of-added, content_of-extended, IsLawful-added, IsLawful-extended}
-use Rattle.nts_unify.specs.Lawful.{content_of-constrained}
-use Rattle.nts_unify.specs.Reading.{content_of, IsLawful}
-use Rattle.nts_unify.specs.Reading.{content_of, recorded_of, IsLawful}
-use Rattle.nts_unify.specs.Reading.{content_of}
-use Rattle.nts_unify.specs.Reading.{state_with, content_of, IsLawful}
-use Rattle.nts_unify.specs.Reading.{state_with, slot_of, recorded_of, content_of, IsConstraint, AreConstraints, IsLawful}
-use Rattle.nts_unify.specs.Roots.{IsRoot}
-use Rattle.nts_unify.specs.Roots.{IsUnlinked, IsRoot, HasClass}
-use Rattle.nts_unify.specs.Unchanged.{HasUnset}
+use Rattle.nts_unify.specs.Changing.{is_free_region}
+use Rattle.nts_unify.specs.Changing.{is_free_region}
+use Rattle.nts_unify.specs.Reading.{recorded_of}
+use Rattle.nts_unify.specs.Reading.{recorded_of, AreConstraints}
 use Rattle.nts_unify.specs.declared.contents.Constraint.{Constraint}
-use Rattle.nts_unify.specs.declared.contents.State.TheVariants.{Unset, Link, Known}
-use Rattle.nts_unify.specs.declared.contents.State.{State}
-use Rattle.nts_unify.specs.declared.contents.Variable.{Variable}
-use Rattle.std.proofs.Common.{◌≡◌, ℕ, ◌≤◌, Bool, List, [], Option, Some, None, refl, sym, ap, subst, ◌∙◌, arith}
-use Rattle.std.proofs.Common.{◌≡◌, ⊎_elim, ℕ, ◌<◌, ◌≤◌, min, max, true, List, Some, refl, sym, ap, subst, ◌∙◌, arith}
-use Rattle.std.proofs.Common.{◌≡◌, ◌≢◌, true, false, ℕ, ◌<◌, ◌≤◌, min, max, List, [], ◌∷◌, length, map, Option, Some, None, refl, sym, ap, subst, ◌∙◌, arith}
-use Rattle.std.proofs.Common.{◌≡◌, ◌≢◌, ℕ, ◌+◌, ◌<◌, Bool, true, false, min, max, List, [], ◌∷◌, ◌++◌, length, Option, Some, None, refl, sym, ap, ◌∙◌, arith, Result, Ok, Err, IfOk}
-use Rattle.std.proofs.Common.{◌≡◌, ◌≢◌, ℕ, ◌≤◌, ◌<◌, Some, None, refl, sym, ap, ◌∙◌, arith}
-use Rattle.std.proofs.Common.{◌≡◌, ◌≢◌, ⊎_elim, ℕ, zero, suc, ◌+◌, ◌<◌, ◌≤◌, Bool, true, false, List, [], ◌∷◌, ◌++◌, Option, Some, None, refl, sym, ap, subst, ◌∙◌, arith}
-use Rattle.std.proofs.lemmas.Bool.{cases_lt}
-use Rattle.std.specs.Prelude.{OnOk}
-use Rattle.std.specs.Prelude.{slice_get}
+use Rattle.std.proofs.Common.{◌≡◌, ℕ, List, [], Option, Some, None, refl, sym, ap, subst, ◌∙◌}
+use Rattle.std.proofs.Common.{◌≡◌, ℕ, true, List, Some, refl, sym, ap, subst, ◌∙◌}
+use Rattle.std.proofs.Common.{◌≡◌, ◌≢◌, true, false, ℕ, List, [], ◌∷◌, map, Option, Some, None, refl, sym, ap, subst, ◌∙◌}
+use Rattle.std.proofs.Common.{◌≡◌, ◌≢◌, ℕ, true, false, List, [], ◌∷◌, Option, Some, None, refl, sym, ap, ◌∙◌, Result, Ok, Err, IfOk}
+use Rattle.std.proofs.Common.{◌≡◌, ◌≢◌, ℕ, Some, None, refl, sym, ap, ◌∙◌}
+use Rattle.std.proofs.Common.{◌≡◌, ◌≢◌, ℕ, true, false, List, [], ◌∷◌, Option, Some, None, refl, sym, ap, subst, ◌∙◌}
 
 -- the variable that a label names
 kind_found : Option (VariableKind × ℕ) → NodeKind → NodeKind
