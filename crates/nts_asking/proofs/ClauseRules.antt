@@ -12,7 +12,7 @@ use Rattle.nts_delegate.specs.ClauseHandlers.{handler_of}
 use Rattle.nts_theory.specs.Refutation.Refutation.{HasNoAliases, RespectsLeaks}
 use Rattle.nts_theory.proofs.Refutation.Tight.{tight_respects}
 use Rattle.nts_model.specs.Refutation.Containing.{Truth}
-use Rattle.nts_asking.proofs.Asking.{trait_kind}
+use Rattle.nts_meaning.proofs.TraitsAsked.{trait_kind}
 
 pub clauses_have_no_aliases : (ts : List Tree) (h : Clauses) → HasNoAliases (handler_of ts h)
 clauses_have_no_aliases ts h =

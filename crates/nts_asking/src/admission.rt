@@ -5,11 +5,11 @@ ghost use Rattle.nts_model.specs.Tables.Resolving.{deeply_resolved};
 ghost use Rattle.nts_store.specs.Growth.{tree_at, IsIn};
 ghost use Rattle.nts_unify.specs.Reading.{content_of};
 ghost use Rattle.nts_table.specs.Tables.{IsTable};
-ghost use Rattle.nts_asking.specs.Evaluation.{IsRootTerm, is_type_variable, is_internal};
+ghost use Rattle.nts_meaning.specs.Evaluation.{IsRootTerm, is_type_variable, is_internal};
 ghost use Rattle.nts_table.specs.Tables.{IsTermIn};
 ghost use Rattle.nts_terms.specs.Rest.{Grows};
 
-use crate::terms::resolve_term;
+use nts_meaning::resolve_term;
 use nts_model::{Label, Leaf, PredicateHead, VariableKind};
 use nts_store::{Fault, LabelTest, NodeId, all_labels};
 use nts_table::InferCtxt;

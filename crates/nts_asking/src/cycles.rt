@@ -11,9 +11,9 @@ ghost use Rattle.nts_canonical.specs.Forms.{form_of};
 ghost use Rattle.nts_model.specs.Searching.Driving.{unconstrained};
 ghost use Rattle.nts_response.specs.Forms.{response_at, HoldsResponse};
 ghost use Rattle.nts_search.specs.declared.stack.StackEntry.{StackEntry};
-ghost use Rattle.nts_asking.specs.Answering.{IsQueryInput, IsAnswerTo, IfCertain, IfAnswered};
-ghost use Rattle.nts_asking.specs.Rounds.{IsBoxed};
-ghost use Rattle.nts_asking.specs.Searching.{IsSearch, Searches, IsCut, IsCopiedAnswer, IsReadAt, HasNoneAt, assumed_in};
+ghost use Rattle.nts_meaning.specs.Answering.{IsQueryInput, IsAnswerTo, IfCertain, IfAnswered};
+ghost use Rattle.nts_meaning.specs.Rounds.{IsBoxed};
+ghost use Rattle.nts_meaning.specs.Searching.{IsSearch, Searches, IsCut, IsCopiedAnswer, IsReadAt, HasNoneAt, assumed_in};
 ghost use Rattle.nts_theory.specs.Telling.{SaysNothing};
 
 use nts_canonical::CanonicalInput;

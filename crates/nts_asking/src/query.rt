@@ -1,9 +1,9 @@
 //! A goal as a query: its canonical input, and what of its run is kept.
 ghost use Rattle.std.specs.Prelude.{◌≡◌, IfOk, IsOkUnless};
 ghost use Rattle.nts_terms.specs.Rest.{Grows};
-ghost use Rattle.nts_asking.specs.Evaluation.{IsPosed};
-ghost use Rattle.nts_asking.specs.Answering.{is_kept, IsQueryInput, IsQueryOf};
-ghost use Rattle.nts_asking.specs.Rounds.{BeginsQuery};
+ghost use Rattle.nts_meaning.specs.Evaluation.{IsPosed};
+ghost use Rattle.nts_meaning.specs.Answering.{is_kept, IsQueryInput, IsQueryOf};
+ghost use Rattle.nts_meaning.specs.Rounds.{BeginsQuery};
 
 use nts_canonical::{CanonicalInput, build_with_canonical};
 use nts_canonicalizer::canonicalize_goal;

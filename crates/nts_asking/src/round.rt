@@ -6,34 +6,18 @@ ghost use Rattle.nts_terms.specs.Rest.{Grows};
 ghost use Rattle.nts_canonical.specs.Forms.{HoldsQuery};
 ghost use Rattle.nts_search.specs.declared.stack.StackEntry.{StackEntry};
 ghost use Rattle.nts_search.specs.Searching.{HoldsAnswer, IsStack, KeepsRestOfGraph};
-ghost use Rattle.nts_asking.specs.Answering.{IsQueryInput};
-ghost use Rattle.nts_asking.specs.Rounds.{IsFirstRound, IsTakenOff, EndsWith, IsBoxed};
+ghost use Rattle.nts_meaning.specs.Answering.{IsQueryInput};
+ghost use Rattle.nts_meaning.specs.Rounds.{IsFirstRound, IsTakenOff, EndsWith, IsBoxed};
 
 use crate::cycles::{answer_of, unchanged_answer};
 use nts_canonical::CanonicalInput;
 use nts_certainty::{Certainty, PathKind};
+use nts_meaning::{Ended, Round};
 use nts_response::CanonicalResponse;
 use nts_search::{SearchGraph, StackEntry};
 use nts_store::{EvalError, Fault};
 use nts_terms::Cx;
 use std::alloc::{AllocError, Global};
-
-/// A query before a round.
-#[derive(Drop)]
-pub struct Round {
-    pub input: CanonicalInput,
-    /// What a cycle back to it is answered in the round. `None` is no solution.
-    pub provisional: Option<CanonicalResponse>,
-}
-
-/// A query after a round.
-#[derive(Drop)]
-pub struct Ended {
-    /// What the round found. `None` is no solution.
-    pub answer: Option<CanonicalResponse>,
-    /// The query's entry, as it was taken off the stack.
-    pub entry: StackEntry,
-}
 
 /// A query before its first round: a cycle back to it is answered yes, and says nothing.
 #[inline(never)]

@@ -27,9 +27,9 @@ use Rattle.nts_table.specs.Tables.{Table, IsTable}
 use Rattle.nts_variance.specs.Walking.{IsTableGrown}
 use Rattle.nts_variance.specs.declared.along.Relating.{Relating as Pair}
 use Rattle.nts_solver_relating.specs.Sides.{IsRelatedBy, SolverRelatingKeeps, AreMadeEqual, AreGoalsOfPairs}
-use Rattle.nts_asking.specs.Evaluation.{Runs, IsPosed}
+use Rattle.nts_meaning.specs.Evaluation.{Runs, IsPosed}
 use Rattle.nts_trying.specs.Stepping.{ArePosed}
-use Rattle.nts_asking.proofs.Evaluating.{goes, runs-back}
+use Rattle.nts_meaning.proofs.Evaluating.{goes, runs-back}
 use Rattle.nts_trying.proofs.Stepping.{posed_later}
 use Rattle.nts_contexts.specs.declared.state.EvalState.{EvalState}
 use Rattle.nts_contexts.specs.declared.context.EvalCtxt.{EvalCtxt}

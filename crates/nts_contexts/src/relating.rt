@@ -8,7 +8,7 @@ ghost use Rattle.nts_store.specs.Errors.{error_of};
 ghost use Rattle.nts_terms.specs.Signatures.{variances_in};
 ghost use Rattle.nts_table.specs.Tables.{IsTable, IsSide};
 ghost use Rattle.nts_solver_relating.specs.Sides.{ArePlainIn, AreUnrelatedIn, RefusesIn};
-ghost use Rattle.nts_asking.specs.Evaluation.{Runs};
+ghost use Rattle.nts_meaning.specs.Evaluation.{Runs};
 ghost use Rattle.nts_contexts.specs.Related.{IsEnvOf, AddsRelated, AreEquatedIn, KeepsState};
 ghost use Rattle.nts_contexts.specs.Faults.{fault_after};
 ghost use Rattle.nts_contexts.specs.Contexts.{IsContextReady, KeepsContext, EvaluatedNothing, content_in, tree_in};

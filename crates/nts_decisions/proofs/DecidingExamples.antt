@@ -65,7 +65,7 @@ uniform_one =
       formed = λ x i. absurd i;
     }
 
--- T1(List) has no candidate
+-- the second trait's goal of the list has no candidate
 pub no_candidate : IsDecided two_rules coherence nowhere 0 (list_goal 1) false
 unfolding plain uniform_one
 no_candidate = by_candidates [] (plain 1) uniform_one none_left

@@ -14,17 +14,17 @@ use Rattle.nts_terms.specs.declared.handles.Goal.{Goal}
 use Rattle.nts_terms.specs.Modes.{mode_of}
 use Rattle.nts_unify.specs.Reading.{content_of}
 use Rattle.nts_table.specs.Tables.{Table, IsTable}
-use Rattle.nts_asking.specs.Evaluation.{IsAdmitted}
-use Rattle.nts_asking.specs.Meant.{IsRefusedUnder, EvaluatesUnder, IsQueryTold, IsQueryRefuted}
+use Rattle.nts_meaning.specs.Evaluation.{IsAdmitted}
+use Rattle.nts_meaning.specs.Meant.{IsRefusedUnder, EvaluatesUnder, IsQueryTold, IsQueryRefuted}
 use Rattle.nts_canonical.specs.declared.types.Canonical.{Canonical}
 use Rattle.nts_canonical.specs.declared.types.CanonicalInput.{CanonicalInput}
 use Rattle.nts_canonical.specs.Forms.{form_of}
 use Rattle.nts_response.specs.declared.types.Response.{Response}
 use Rattle.nts_response.specs.Forms.{response_at}
-use Rattle.nts_asking.specs.Answering.{IsQueryInput, verdict_at}
-use Rattle.nts_asking.specs.Telling.{queries, Refused, Asked, QueryTells, QueryRefutes}
-use Rattle.nts_asking.proofs.AskedGoals.{was_asked}
-use Rattle.nts_asking.proofs.FirstTables.{begins_each, first_of_query}
+use Rattle.nts_meaning.specs.Answering.{IsQueryInput, verdict_at}
+use Rattle.nts_meaning.specs.Telling.{queries, Refused, Asked, QueryTells, QueryRefutes}
+use Rattle.nts_meaning.proofs.AskedGoals.{was_asked}
+use Rattle.nts_meaning.proofs.FirstTables.{begins_each, first_of_query}
 use Rattle.nts_evaluation.specs.Solutions.{IsCoherenceOf, HasNoSolutionUnder, KeepsSolutionsUnder, ContainsEach, HasNoInputSolution}
 
 -- what holds because of each value holds where there is one

@@ -44,7 +44,7 @@ use Rattle.nts_merging.specs.Merging.{AppliesAlways, Merges}
 use Rattle.nts_search.specs.declared.stack.SearchGraph.{SearchGraph}
 use Rattle.nts_trying.specs.Found.{IsOverTerms, StandsForThem, IsMerged, kept_after}
 use Rattle.nts_trying.specs.Found.{Found}
-use Rattle.nts_asking.specs.Answering.{told_in, IfAnswered}
+use Rattle.nts_meaning.specs.Answering.{told_in, IfAnswered}
 use Rattle.nts_terms.specs.declared.handles.Goal.{Goal}
 use Rattle.nts_evaluation.specs.Deciding.{IsAsBefore, Decides, IsYes, AreRootValues, IsOverIfSilent}
 use Rattle.nts_evaluation.proofs.Deciding.{decides_no}

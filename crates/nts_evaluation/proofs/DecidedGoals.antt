@@ -25,7 +25,7 @@ use Rattle.nts_unify.specs.Reading.{content_of}
 use Rattle.nts_table.specs.Tables.{Table, IsTable}
 use Rattle.nts_delegate.specs.Relevant.{LeavesOut}
 use Rattle.nts_delegate.specs.Relevant.LeavesOut.{none, offered, left_out}
-use Rattle.nts_asking.specs.Evaluation.{IsPosed, IsAskedGoal}
+use Rattle.nts_meaning.specs.Evaluation.{IsPosed, IsAskedGoal}
 use Rattle.nts_trying.specs.Opening.{IsOpenedTo, CannotOpen}
 use Rattle.nts_trying.proofs.LeftOut.{unmet, among_all}
 use Rattle.nts_terms.specs.declared.modes.TypingMode.{TypingMode}

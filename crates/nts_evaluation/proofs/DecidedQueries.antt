@@ -30,9 +30,9 @@ use Rattle.nts_canonical.specs.declared.types.CanonicalInput.{CanonicalInput}
 use Rattle.nts_canonical.specs.Building.{kinds_of}
 use Rattle.nts_canonical.specs.Forms.{form_of}
 use Rattle.nts_canonical.specs.Kinds.{value_leaf, value_leaves, count_of, kind_of_position}
-use Rattle.nts_asking.specs.Asking.{first_values, asked_environment}
-use Rattle.nts_asking.specs.Answering.{IsQueryInput}
-use Rattle.nts_asking.specs.Rounds.{BeginsQuery}
+use Rattle.nts_meaning.specs.Asking.{first_values, asked_environment}
+use Rattle.nts_meaning.specs.Answering.{IsQueryInput}
+use Rattle.nts_meaning.specs.Rounds.{BeginsQuery}
 use Rattle.nts_evaluation.specs.Deciding.{IsQueryDecided, IsRootQuery}
 use Rattle.nts_evaluation.proofs.DecidedCandidates.{root_leaves}
 

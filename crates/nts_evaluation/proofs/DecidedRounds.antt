@@ -32,7 +32,7 @@ use Rattle.nts_store.specs.Growth.{tree_at}
 use Rattle.nts_terms.specs.declared.handles.Goal.{Goal}
 use Rattle.nts_terms.specs.declared.handles.GenericArg.{GenericArg}
 use Rattle.nts_table.specs.Tables.{Table}
-use Rattle.nts_asking.specs.Answering.{IsQueryOf}
+use Rattle.nts_meaning.specs.Answering.{IsQueryOf}
 use Rattle.nts_canonical.specs.Kinds.{value_leaves}
 use Rattle.nts_response.specs.declared.types.Response.{Response}
 use Rattle.nts_response.specs.Forms.{response_at}
@@ -40,9 +40,9 @@ use Rattle.nts_search.specs.declared.stack.StackEntry.{StackEntry}
 use Rattle.nts_search.specs.declared.stack.SearchGraph.{SearchGraph}
 use Rattle.nts_search.specs.Searching.{IsInputAt, KeepsRestOfGraph}
 use Rattle.nts_unify.proofs.SavedLemmas.{push_inj}
-use Rattle.nts_asking.specs.Rounds.{IsTakenOff, EndsWith, IsBoxed}
-use Rattle.nts_asking.specs.declared.round.Ended.{Ended}
-use Rattle.nts_asking.specs.declared.response.Evaluated.{Evaluated}
+use Rattle.nts_meaning.specs.Rounds.{IsTakenOff, EndsWith, IsBoxed}
+use Rattle.nts_meaning.specs.declared.round.Ended.{Ended}
+use Rattle.nts_meaning.specs.declared.response.Evaluated.{Evaluated}
 use Rattle.nts_evaluation.specs.Deciding.{IsQueryDecided, IsAbove, IsBelow, IsAsBefore, IfNoFault, Decides, IsYes, IsYesUnchanged, IsOwnAnswer, IsOwnYes, IsRoundDecided, IsRoundYes}
 use Rattle.nts_evaluation.proofs.Deciding.{decides_no, decides_fault}
 use Rattle.nts_evaluation.proofs.DecidedCandidates.{root_leaves, leaves_long}

@@ -20,7 +20,7 @@ use Rattle.nts_unify.specs.Reading.{content_of}
 use Rattle.nts_table.specs.Tables.{Table}
 use Rattle.nts_response.specs.Forms.{premise_at}
 use Rattle.nts_search.specs.declared.stack.SearchGraph.{SearchGraph}
-use Rattle.nts_asking.specs.Evaluation.{Goes, goals_at}
+use Rattle.nts_meaning.specs.Evaluation.{Goes, goals_at}
 use Rattle.nts_trying.specs.Stepping.{ArePosed}
 use Rattle.nts_trying.specs.declared.steps.Step.{Step}
 use Rattle.nts_trying.proofs.Stepping.{among_get}

@@ -31,8 +31,8 @@ use Rattle.nts_delegate.specs.declared.delegate.CandidateData.{CandidateData}
 use Rattle.nts_delegate.specs.Candidates.{IsCandidate, AreNested}
 use Rattle.nts_delegate.specs.Offered.{constraint_of, premise_of, candidate_of}
 use Rattle.nts_response.specs.Forms.{premise_at}
-use Rattle.nts_asking.specs.Evaluation.{IsPosed, goals_at}
-use Rattle.nts_asking.proofs.Running.{term_table}
+use Rattle.nts_meaning.specs.Evaluation.{IsPosed, goals_at}
+use Rattle.nts_meaning.proofs.Running.{term_table}
 use Rattle.nts_trying.specs.Choices.{EquatesCandidate}
 use Rattle.nts_trying.specs.Stepping.{ArePosed}
 use Rattle.nts_trying.proofs.Trying.{some_meets}

@@ -12,8 +12,8 @@ use Rattle.nts_terms.specs.Modes.{mode_of}
 use Rattle.nts_terms.specs.Rest.{Grows}
 use Rattle.nts_search.specs.declared.stack.StackEntry.{StackEntry}
 use Rattle.nts_search.specs.declared.stack.SearchGraph.{SearchGraph}
-use Rattle.nts_asking.specs.Searching.{IsSearch, IsHead}
-use Rattle.nts_asking.proofs.Searching.{form_later}
+use Rattle.nts_meaning.specs.Searching.{IsSearch, IsHead}
+use Rattle.nts_meaning.proofs.Searching.{form_later}
 use Rattle.nts_certainty.specs.declared.certainty.Certainty.{Certainty}
 use Rattle.nts_certainty.specs.declared.certainty.Certainty.TheVariants as certainty
 use Rattle.nts_terms.specs.declared.handles.Goal.{Goal}

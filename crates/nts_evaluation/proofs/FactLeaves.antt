@@ -12,7 +12,7 @@ use Rattle.nts_canonical.specs.Kinds.{AreInputKinds, value_leaves, variables_bef
 use Rattle.nts_canonical.specs.Building.{made_entries}
 use Rattle.nts_canonical.proofs.Kinded.{have_kinds}
 use Rattle.nts_canonicalizer.proofs.Handed.{form-kinds}
-use Rattle.nts_asking.specs.Telling.{queries}
+use Rattle.nts_meaning.specs.Telling.{queries}
 use Rattle.nts_decisions.proofs.UnrefusedFacts.{HasLeavesEach}
 
 -- how many of the positions are variables

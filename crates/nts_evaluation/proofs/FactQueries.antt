@@ -32,11 +32,11 @@ use Rattle.nts_canonical.specs.declared.types.CanonicalInput.{CanonicalInput}
 use Rattle.nts_canonical.specs.Forms.{form_of}
 use Rattle.nts_canonical.specs.Building.{kinds_of}
 use Rattle.nts_canonical.specs.Kinds.{value_leaf, value_leaves, made_variables}
-use Rattle.nts_asking.specs.Asking.{first_table, asked_environment, asked_predicate}
+use Rattle.nts_meaning.specs.Asking.{first_table, asked_environment, asked_predicate}
 use Rattle.nts_store.specs.Formed.{AreFormed}
-use Rattle.nts_asking.specs.Answering.{IsQueryInput}
-use Rattle.nts_asking.specs.Rounds.{BeginsQuery}
-use Rattle.nts_asking.proofs.FirstTables.{first_of_query}
+use Rattle.nts_meaning.specs.Answering.{IsQueryInput}
+use Rattle.nts_meaning.specs.Rounds.{BeginsQuery}
+use Rattle.nts_meaning.proofs.FirstTables.{first_of_query}
 use Rattle.nts_model.specs.Derivations.Handlers.{Handler}
 use Rattle.nts_model.specs.Canonical.Inputs.{canonical_of, IsInput}
 use Rattle.nts_certainty.specs.declared.certainty.Certainty.TheVariants as certainty
@@ -47,9 +47,9 @@ use Rattle.nts_canonical.specs.declared.types.Canonical.{Canonical}
 use Rattle.nts_canonical.specs.Forms.{input_of}
 use Rattle.nts_response.specs.declared.types.Response.{Response}
 use Rattle.nts_search.specs.declared.stack.SearchGraph.{SearchGraph}
-use Rattle.nts_asking.specs.Answering.{IsQueryOf}
-use Rattle.nts_asking.specs.Rounds.{IsBoxed}
-use Rattle.nts_asking.specs.declared.response.Evaluated.{Evaluated}
+use Rattle.nts_meaning.specs.Answering.{IsQueryOf}
+use Rattle.nts_meaning.specs.Rounds.{IsBoxed}
+use Rattle.nts_meaning.specs.declared.response.Evaluated.{Evaluated}
 use Rattle.nts_evaluation.specs.Deciding.{IsAbove, IsAsBefore, Decides, IsYes, IsQueryAtFirst, IsFactHere, IsFactForm, IsRoundYes}
 use Rattle.nts_evaluation.proofs.Deciding.{decides_fault}
 

@@ -21,14 +21,14 @@ use Rattle.nts_table.specs.Tables.{Table, IsTable}
 use Rattle.nts_model.proofs.Tables.Open.{Knows-deeply_resolved}
 use Rattle.nts_canonical.specs.Forms.{input_of}
 use Rattle.nts_search.specs.declared.stack.SearchGraph.{SearchGraph}
-use Rattle.nts_asking.specs.Evaluation.{IsPosed, IsAdmitted}
-use Rattle.nts_asking.specs.Telling.{queries}
-use Rattle.nts_asking.specs.Meant.{IsRefusedIn, IsRefusedUnder}
-use Rattle.nts_asking.proofs.FirstTables.{begins_each}
+use Rattle.nts_meaning.specs.Evaluation.{IsPosed, IsAdmitted}
+use Rattle.nts_meaning.specs.Telling.{queries}
+use Rattle.nts_meaning.specs.Meant.{IsRefusedIn, IsRefusedUnder}
+use Rattle.nts_meaning.proofs.FirstTables.{begins_each}
 use Rattle.nts_evaluation.specs.Deciding.{IsFactForm, IsFact, IsOnlyFact, MayAnswer, CanDecide}
 use Rattle.nts_evaluation.proofs.FactLeaves.{leaves_each}
 use Rattle.nts_evaluation.proofs.FactQueries.{nothing_above}
-use Rattle.nts_asking.proofs.SubClasses.{root_classes}
+use Rattle.nts_meaning.proofs.SubClasses.{root_classes}
 
 module _ (h : Handler) (law : IsLawfulHandler h) (mode : Mode) (ts : List Tree) (t : Table) (g : Goal) (posed : IsPosed ts t g) (fact : IsOnlyFactIn h mode (content_of ts t.entries) (tree_at ts g.param_env.node) (tree_at ts g.predicate.node)) where
   known : Knows (content_of ts t.entries) (pair (tree_at ts g.param_env.node) (tree_at ts g.predicate.node))

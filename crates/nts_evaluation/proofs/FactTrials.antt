@@ -29,12 +29,12 @@ use Rattle.nts_delegate.specs.Relevant.{LeavesOut}
 use Rattle.nts_response.specs.declared.types.Response.{Response}
 use Rattle.nts_response.specs.Forms.{response_at, recorded_at, HoldsResponse}
 use Rattle.nts_search.proofs.StackLater.{response_same}
-use Rattle.nts_asking.specs.Asking.{first_values}
-use Rattle.nts_asking.specs.Telling.{queries}
-use Rattle.nts_asking.specs.Meant.{HasRunTo}
-use Rattle.nts_asking.specs.Evaluation.{IsPosed, IsAskedGoal}
+use Rattle.nts_meaning.specs.Asking.{first_values}
+use Rattle.nts_meaning.specs.Telling.{queries}
+use Rattle.nts_meaning.specs.Meant.{HasRunTo}
+use Rattle.nts_meaning.specs.Evaluation.{IsPosed, IsAskedGoal}
 use Rattle.nts_trying.specs.Opening.{IsOpenedTo}
-use Rattle.nts_asking.proofs.Running.{term_table}
+use Rattle.nts_meaning.proofs.Running.{term_table}
 use Rattle.nts_trying.proofs.LeftOut.{among_all}
 use Rattle.nts_evaluation.specs.Deciding.{IsQueryAtFirst, IsPlainCandidate, ArePlainCandidates, IsOverIfSilent, CandidatesSettled}
 use Rattle.nts_evaluation.proofs.DecidedGoals.{kept_fares}

@@ -15,10 +15,10 @@ use Rattle.nts_canonical.specs.declared.types.Canonical.{Canonical}
 use Rattle.nts_canonical.specs.declared.types.CanonicalInput.{CanonicalInput}
 use Rattle.nts_response.specs.declared.types.Response.{Response}
 use Rattle.nts_search.specs.declared.stack.SearchGraph.{SearchGraph}
-use Rattle.nts_asking.specs.Searching.{Searches}
+use Rattle.nts_meaning.specs.Searching.{Searches}
 use Rattle.nts_model.specs.Derivations.Handlers.{Handler}
 use Rattle.nts_evaluation.specs.Promises.{IsAnswered, AnswersQuery, AnswersGoal, AnswersBy}
-use Rattle.nts_asking.specs.Meant.{Rules}
+use Rattle.nts_meaning.specs.Meant.{Rules}
 use Rattle.nts_evaluation.proofs.Deciding.{decides_fault}
 
 -- an error that is not that there is no solution is no answer

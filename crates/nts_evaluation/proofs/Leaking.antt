@@ -18,10 +18,10 @@ use Rattle.nts_delegate.specs.declared.delegate.CandidateData.{CandidateData}
 use Rattle.nts_delegate.proofs.Results.{OnOk-map}
 use Rattle.nts_search.specs.declared.stack.SearchGraph.{SearchGraph}
 use Rattle.nts_theory.specs.Telling.Fails.{is_leaky}
-use Rattle.nts_asking.specs.Meant.{Rules, Since, FailsIn, HasRunTo}
-use Rattle.nts_asking.specs.Searching.{IsSearch}
-use Rattle.nts_asking.proofs.Evaluating.{Runs-trans, Runs-extends}
-use Rattle.nts_asking.proofs.Searching.{search_later, search_grown, covers_grown, served_more}
+use Rattle.nts_meaning.specs.Meant.{Rules, Since, FailsIn, HasRunTo}
+use Rattle.nts_meaning.specs.Searching.{IsSearch}
+use Rattle.nts_meaning.proofs.Evaluating.{Runs-trans, Runs-extends}
+use Rattle.nts_meaning.proofs.Searching.{search_later, search_grown, covers_grown, served_more}
 use Rattle.nts_evaluation.specs.Promises.{RunsOne}
 use Rattle.nts_evaluation.proofs.DecidedCandidates.{checked_decided}
 

@@ -38,9 +38,9 @@ use Rattle.nts_merging.specs.Merging.{AppliesAlways}
 use Rattle.nts_response.specs.declared.types.Response.{Response}
 use Rattle.nts_response.specs.Forms.{response_at}
 use Rattle.nts_search.specs.declared.stack.SearchGraph.{SearchGraph}
-use Rattle.nts_asking.specs.Asking.{first_table, first_values, asked_environment, asked_predicate}
-use Rattle.nts_asking.specs.Evaluation.{goals_at}
-use Rattle.nts_asking.specs.declared.response.Evaluated.{Evaluated}
+use Rattle.nts_meaning.specs.Asking.{first_table, first_values, asked_environment, asked_predicate}
+use Rattle.nts_meaning.specs.Evaluation.{goals_at}
+use Rattle.nts_meaning.specs.declared.response.Evaluated.{Evaluated}
 
 -- a goal that is asked as this canonical input is decided, at a height
 pub record IsQueryDecided (h : Handler) (mode : Mode) (n : ℕ) (f : Form) (b : Bool) : Type 0 where

@@ -20,9 +20,9 @@ use Rattle.nts_response.specs.declared.types.Response.{Response}
 use Rattle.nts_response.specs.Forms.{response_at}
 use Rattle.nts_delegate.specs.Offered.{path_kind_of, candidate_of}
 use Rattle.nts_search.specs.declared.stack.SearchGraph.{SearchGraph}
-use Rattle.nts_asking.specs.Meant.{Since, Rules, Always, meaning_since, IsQueryTold, IsQueryRefuted, AreOffered, IsOffered, IsServedSince, IsProvedNow, IsProvedFromSince, IsNestedSince, EvaluatesGoal, IsRefusedIn, EvaluatesUnder, IsRefusedUnder, IsTold, IsRefuted, HaveOutcomes, CandidatesTell, RepliesWith, FailsIn, HasRunTo, ReachesBy}
-use Rattle.nts_asking.specs.Searching.{Searches, HeadsTell, IsCut, assumed_in, IsHeadAnswer, IsAnswerTold, IsGoalCut}
-use Rattle.nts_asking.specs.Answering.{IsAnswerTo, IfAnswered, IfCertain, IfSure}
+use Rattle.nts_meaning.specs.Meant.{Since, Rules, Always, meaning_since, IsQueryTold, IsQueryRefuted, AreOffered, IsOffered, IsServedSince, IsProvedNow, IsProvedFromSince, IsNestedSince, EvaluatesGoal, IsRefusedIn, EvaluatesUnder, IsRefusedUnder, IsTold, IsRefuted, HaveOutcomes, CandidatesTell, RepliesWith, FailsIn, HasRunTo, ReachesBy}
+use Rattle.nts_meaning.specs.Searching.{Searches, HeadsTell, IsCut, assumed_in, IsHeadAnswer, IsAnswerTold, IsGoalCut}
+use Rattle.nts_meaning.specs.Answering.{IsAnswerTo, IfAnswered, IfCertain, IfSure}
 use Rattle.nts_model.specs.Tables.Passing.{BringsOnly}
 use Rattle.nts_certainty.specs.declared.sources.GoalSource.{GoalSource}
 use Rattle.nts_certainty.specs.declared.certainty.Certainty.{Certainty}
@@ -34,17 +34,17 @@ use Rattle.nts_delegate.specs.declared.delegate.CandidateData.{CandidateData}
 use Rattle.nts_search.specs.declared.kinds.CurrentGoalKind.{CurrentGoalKind}
 use Rattle.nts_search.specs.Kinds.{goal_kind_of}
 use Rattle.nts_search.specs.Searching.{entry_at, entries_at, HasNoInput}
-use Rattle.nts_asking.specs.declared.response.Evaluated.{Evaluated}
+use Rattle.nts_meaning.specs.declared.response.Evaluated.{Evaluated}
 use Rattle.nts_trying.specs.declared.steps.Step.{Step}
-use Rattle.nts_asking.specs.declared.round.Round.{Round}
-use Rattle.nts_asking.specs.declared.round.Ended.{Ended}
+use Rattle.nts_meaning.specs.declared.round.Round.{Round}
+use Rattle.nts_meaning.specs.declared.round.Ended.{Ended}
 use Rattle.nts_trying.specs.Found.{Found}
 use Rattle.nts_evaluation.specs.Deciding.{IsQueryDecided, CanDecide, IsBelow, IsAsBefore, Decides, IsYes, IsYesUnchanged, IsOwnYes, IsRoundDecided, IsRootQuery, AreRootValues, CandidatesSettled, IsSettled, GoalsSettled, IsQueryAtFirst, IsFactHere, IsPlainCandidate, ArePlainCandidates, IsOverIfSilent, IsFactForm, IsRoundYes}
 use Rattle.nts_decisions.specs.Deciding.{IsGoalDecided}
 use Rattle.nts_trying.specs.Stopping.{StopsIn}
 use Rattle.nts_trying.specs.Stepping.{ArePosed, AreLeft, AreSettled, terms_of, bound_of}
 use Rattle.nts_trying.specs.declared.steps.AvailableDepth.{AvailableDepth}
-use Rattle.nts_asking.specs.Evaluation.{Runs, asked_terms}
+use Rattle.nts_meaning.specs.Evaluation.{Runs, asked_terms}
 use Rattle.nts_store.specs.declared.fault.EvalError.TheVariants as error
 use Rattle.nts_certainty.specs.declared.certainty.Certainty.TheVariants as certainty
 use Rattle.nts_store.specs.Growth.{tree_at}

@@ -18,7 +18,7 @@ use Rattle.nts_terms.specs.declared.modes.TypingMode.{TypingMode}
 use Rattle.nts_terms.specs.Modes.{mode_of}
 use Rattle.nts_unify.specs.Reading.{content_of}
 use Rattle.nts_table.specs.Tables.{Table}
-use Rattle.nts_asking.specs.Meant.{EvaluatesUnder}
+use Rattle.nts_meaning.specs.Meant.{EvaluatesUnder}
 
 -- the mode is coherence, and no rule of the handler normalizes an alias
 pub record IsCoherenceOf (h : Handler) (mode : TypingMode) : Type 0 where

@@ -3,22 +3,22 @@
 ghost use Rattle.std.specs.Prelude.{◌+◌, All};
 ghost use Rattle.nts_canonical.specs.Building.{kinds_of, IsArgOf};
 ghost use Rattle.nts_delegate.specs.Candidates.{IsCandidate, AreCandidates};
-ghost use Rattle.nts_asking.specs.Searching.{IsSearch, IsHeadAnswer};
+ghost use Rattle.nts_meaning.specs.Searching.{IsSearch, IsHeadAnswer};
 ghost use Rattle.nts_trying.specs.Stepping.{ArePosed, bound_of};
-ghost use Rattle.nts_asking.specs.Answering.{IsQueryInput};
-ghost use Rattle.nts_asking.specs.Evaluation.{IsPosed, IsAskedGoal};
+ghost use Rattle.nts_meaning.specs.Answering.{IsQueryInput};
+ghost use Rattle.nts_meaning.specs.Evaluation.{IsPosed, IsAskedGoal};
 ghost use Rattle.nts_table.specs.Tables.{IsTable};
-ghost use Rattle.nts_asking.specs.Meant.{rules_of};
+ghost use Rattle.nts_meaning.specs.Meant.{rules_of};
 ghost use Rattle.nts_evaluation.specs.Promises.{AnswersQuery, AsksGoal, AsksAdded, EndsRound, AnswersGoal, TriesEach, TriesOne, RunsOne, StepsGoals, StepsOnce};
 
 use nts_asking::{
-    Ended, Evaluated, Round, answer_cycle, apply_answer, boxed_query, boxed_response, end_round,
-    first_round, keeps_constraints, last_answer, next_round, push_query, query_table, resolve_goal,
-    unchanged_answer,
+    answer_cycle, apply_answer, boxed_query, end_round, first_round, keeps_constraints,
+    last_answer, next_round, push_query, query_table, unchanged_answer,
 };
 use nts_canonical::CanonicalInput;
 use nts_certainty::{Certainty, GoalSource, HasChanged, PathKind};
 use nts_delegate::{CandidateData, GoalHandler};
+use nts_meaning::{Ended, Evaluated, Round, boxed_response, resolve_goal};
 use nts_response::CanonicalResponse;
 use nts_search::{CurrentGoalKind, SearchGraph, round_is_last, step_kind_for_source};
 use nts_store::EvalError;

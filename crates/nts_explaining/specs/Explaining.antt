@@ -12,8 +12,8 @@ use Rattle.nts_terms.specs.declared.modes.TypingMode.{TypingMode}
 use Rattle.nts_terms.specs.Handles.{HoldsGoal}
 use Rattle.nts_terms.specs.Modes.{mode_of}
 use Rattle.nts_delegate.specs.Offered.{certainty_of}
-use Rattle.nts_asking.specs.Evaluation.{IsAskedGoal}
-use Rattle.nts_asking.specs.Meant.{offers_of}
+use Rattle.nts_meaning.specs.Evaluation.{IsAskedGoal}
+use Rattle.nts_meaning.specs.Meant.{offers_of}
 use Rattle.nts_trying.specs.Opening.{IsOpenedTo, CannotOpen}
 use Rattle.nts_explaining.specs.declared.kinds.Reason.{Reason}
 use Rattle.nts_explaining.specs.declared.kinds.Reason.TheVariants as reason

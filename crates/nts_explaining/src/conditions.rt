@@ -1,7 +1,7 @@
 //! Which condition of a candidate is in the way.
 ghost use Rattle.std.specs.Prelude.{◌+◌, length, IfOk};
 ghost use Rattle.nts_table.specs.Tables.{IsTable};
-ghost use Rattle.nts_asking.specs.Evaluation.{IsPosed, Runs};
+ghost use Rattle.nts_meaning.specs.Evaluation.{IsPosed, Runs};
 ghost use Rattle.nts_trying.specs.Stepping.{ArePosed};
 ghost use Rattle.nts_explaining.specs.Asking.{IsWithin};
 

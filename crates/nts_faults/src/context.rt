@@ -4,7 +4,7 @@ ghost use Rattle.nts_model.specs.Terms.Trees.{any_argument};
 ghost use Rattle.nts_terms.specs.Handles.{HoldsGoal};
 ghost use Rattle.nts_delegate.specs.Clauses.{AreClausesReady};
 ghost use Rattle.nts_table.specs.Tables.{IsTable, IsSide};
-ghost use Rattle.nts_asking.specs.Evaluation.{Runs, IsPosed};
+ghost use Rattle.nts_meaning.specs.Evaluation.{Runs, IsPosed};
 ghost use Rattle.nts_contexts.specs.Contexts.{IsContextReady, KeepsContext, IsGoalOfContext};
 
 use crate::asking::{goal_of, rules_of, traits_of};

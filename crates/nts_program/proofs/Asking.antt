@@ -14,11 +14,11 @@ use Rattle.nts_unify.specs.Reading.{content_of}
 use Rattle.nts_table.specs.TableLaws.{IsTable-extended}
 use Rattle.nts_delegate.specs.ClausesKept.{AreClausesReady-kept}
 use Rattle.nts_terms.specs.declared.cx.Cx.{Cx}
-use Rattle.nts_asking.specs.Evaluation.{Goes, Runs, AreValues, AllKnown, AreOfSorts}
+use Rattle.nts_meaning.specs.Evaluation.{Goes, Runs, AreValues, AllKnown, AreOfSorts}
 use Rattle.nts_printing.specs.Found.{IsKnownValue}
 use Rattle.nts_printing.proofs.Telling.{values-extended}
 use Rattle.nts_asking.proofs.Asking.{IsAdmitted-extended}
-use Rattle.nts_asking.proofs.Evaluating.{Knows-goes}
+use Rattle.nts_meaning.proofs.Evaluating.{Knows-goes}
 
 -- the values later on
 pub IsKnownValue-later : {a b : List Tree} {t u : Table} {x : GenericArg} → Goes a b t u → IsKnownValue a t x → IsKnownValue b u x

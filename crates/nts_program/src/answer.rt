@@ -5,7 +5,7 @@ ghost use Rattle.nts_store.specs.Growth.{Extends};
 ghost use Rattle.nts_table.specs.Tables.{IsTable};
 ghost use Rattle.nts_terms.specs.Handles.{HoldsGoal};
 ghost use Rattle.nts_delegate.specs.Clauses.{AreClausesReady};
-ghost use Rattle.nts_asking.specs.Evaluation.{IsAdmitted, AreOfSorts};
+ghost use Rattle.nts_meaning.specs.Evaluation.{IsAdmitted, AreOfSorts};
 ghost use Rattle.nts_certainty.specs.declared.certainty.Certainty.TheVariants as certainty;
 ghost use Rattle.nts_program.specs.Proving.{IsTypingMode, IsProvedGoal, IsJustifiedAnswer, IsPosedLine};
 ghost use Rattle.nts_printing.specs.Found.{IsKnownValue};

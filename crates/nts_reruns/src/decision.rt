@@ -46,7 +46,7 @@ pub enum RerunDecision {
 ///
 /// An id is stored if the mode lists it or a hidden type is behind it. A condition that names ids asks again where one is
 /// stored, and after the analysis in any case; one that asks for type variables among the hidden types does so in the
-/// analysis alone; and in coherence every condition does.
+/// analysis alone; and in coherence every condition but `Never` does. In the erased mode each of these is handed on.
 pub fn should_rerun_after_erased_canonicalization(
     cx: &Cx,
     accessed: &AccessedOpaques,

@@ -56,7 +56,7 @@ impl GoalStalledOn {
 
     /// Whether its variables are arguments of this store.
     pub fn is_of_store(&self, cx: &Cx) -> bool
-        ensures { IsTrue result → All (λ a. HoldsArg cx.now.nodes a) self.now.stalled_vars.items }
+        ensures { IsTrue result ↔ All (λ a. HoldsArg cx.now.nodes a) self.now.stalled_vars.items }
     {
         self.stalled_vars.iter().all(|var| cx.holds(*var))
     }

@@ -22,12 +22,12 @@ use Rattle.nts_delegate.specs.declared.delegate.CandidateGoal.{CandidateGoal}
 use Rattle.nts_delegate.specs.Candidates.{AreNested}
 use Rattle.nts_delegate.specs.Offered.{premise_of, source_of}
 use Rattle.nts_response.specs.Forms.{premise_at}
-use Rattle.nts_asking.specs.Evaluation.{IsPosed, AreValues, asked_terms, AsksOnly, goals_at}
+use Rattle.nts_meaning.specs.Evaluation.{IsPosed, AreValues, asked_terms, AsksOnly, goals_at}
 use Rattle.nts_trying.specs.Instances.{IsGoalInstance}
 use Rattle.nts_theory.specs.Telling.{goals_with}
 use Rattle.nts_trying.specs.Stepping.{ArePosed, terms_of}
 use Rattle.nts_trying.specs.Adding.{AreAdded}
-use Rattle.nts_asking.proofs.Evaluating.{Goes-extends, IsPosed-later, nested_at}
+use Rattle.nts_meaning.proofs.Evaluating.{Goes-extends, IsPosed-later, nested_at}
 
 -- a store that grows twice
 pub grown_more : {a b d : Cx} → Grows a b → Grows b d → Grows a d

@@ -22,8 +22,8 @@ use Rattle.nts_unify.specs.Reading.{content_of}
 use Rattle.nts_unify.specs.Lawful.{content_of-constrained}
 use Rattle.nts_delegate.specs.declared.delegate.RegionConstraint.{RegionConstraint}
 use Rattle.nts_delegate.specs.Offered.{constraint_of}
-use Rattle.nts_asking.specs.Running.{constraint_between}
-use Rattle.nts_asking.proofs.Running.{constraint-kept}
+use Rattle.nts_meaning.specs.Running.{constraint_between}
+use Rattle.nts_meaning.proofs.Running.{constraint-kept}
 
 -- a recorded constraint, which the leak check sees
 pub added_entry : (ts : List Tree) (e f : Entries) (r : Relation) (y z : NodeId) → Records ts e f (record { relation = r; left = y; right = z; is_visible = true }) → (tree_at ts y ≡ tree_at ts z) × (content_of ts f ≡ content_of ts e) ⊎ (content_of ts f ≡ with_constraint (content_of ts e) (seen_as (constraint_between r (tree_at ts y) (tree_at ts z))))

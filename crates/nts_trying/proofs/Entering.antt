@@ -40,7 +40,7 @@ use Rattle.nts_terms.specs.declared.handles.Goal.{Goal}
 use Rattle.nts_terms.specs.declared.handles.Predicate.{Predicate}
 use Rattle.nts_trying.specs.Opening.{IsOpenedTo, CannotOpen}
 use Rattle.nts_theory.specs.Telling.{IsTraitStatement}
-use Rattle.nts_asking.specs.Evaluation.{Goes}
+use Rattle.nts_meaning.specs.Evaluation.{Goes}
 use Rattle.nts_model.proofs.Terms.Substituting.{no_children as no_places}
 
 -- under one listed universe a bound variable of the binder outside opens to its placeholder

@@ -1,13 +1,13 @@
 -- Terms of a candidate with values in place of its fresh variables.
 use Rattle.nts_store.specs.Growth.{AllIn, Extends, IsIn, tree_at}
-use Rattle.nts_asking.proofs.Evaluating.{CanFill}
+use Rattle.nts_meaning.proofs.Evaluating.{CanFill}
 use Rattle.nts_table.specs.Tables.{IsTable, IsTermIn, Table}
 use Rattle.nts_trying.specs.Instances.{HoldsValues, IsTermInstance}
 use Rattle.nts_store.specs.Kept.{AllIn-kept, map-kept}
 use Rattle.nts_unify.specs.Lawful.{content_of-extended}
 use Rattle.nts_model.specs.Terms.Trees.{Tree, kind_of}
 use Rattle.nts_model.specs.Terms.Substitutions.{filled}
-use Rattle.nts_asking.specs.Evaluation.{AreValues}
+use Rattle.nts_meaning.specs.Evaluation.{AreValues}
 use Rattle.nts_store.specs.Formed.{AreFormed}
 use Rattle.nts_store.proofs.Growing.{IsIn-extended}
 use Rattle.std.proofs.Common.{List, map, refl, ap, ◌∙◌, ◌≡◌}

@@ -24,7 +24,7 @@ use Rattle.nts_unify.specs.Lawful.{content_of-extended}
 use Rattle.nts_table.specs.Tables.{Table, IsTable}
 use Rattle.nts_delegate.specs.Candidates.{IsOverIn, IsNestedIn}
 use Rattle.nts_trying.specs.Instances.{instance_at, IsGoalInstance}
-use Rattle.nts_asking.specs.Evaluation.{AreValues, asked_terms, AsksOnly}
+use Rattle.nts_meaning.specs.Evaluation.{AreValues, asked_terms, AsksOnly}
 
 -- a region that stays itself passes
 fixed_passes : (P : Label → Bool) → PassesQueries P → (l : Leaf) → IsFixed l → P (label.Leaf l) ≡ true

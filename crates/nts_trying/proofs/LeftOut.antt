@@ -12,11 +12,11 @@ use Rattle.nts_model.specs.Derivations.Handlers.{Candidate, Handler}
 use Rattle.nts_model.specs.Refutation.Choosing.{IsCandidateMet}
 use Rattle.nts_delegate.specs.Relevant.{built_by, IsIrrelevant, LeavesOut}
 use Rattle.nts_delegate.specs.Relevant.LeavesOut.{none, offered, left_out}
-use Rattle.nts_asking.specs.Telling.{Outcomes, Replies, Fails}
+use Rattle.nts_meaning.specs.Telling.{Outcomes, Replies, Fails}
 use Rattle.nts_theory.specs.Telling.Outcomes.{no_outcome, then_fails, then_replies}
 use Rattle.nts_theory.specs.Telling.Fails.{is_unmet}
 use Rattle.nts_unify.proofs.SavedLemmas.{push_inj}
-use Rattle.nts_asking.specs.Meant.{offers_of, AreOffered}
+use Rattle.nts_meaning.specs.Meant.{offers_of, AreOffered}
 use Rattle.nts_terms.specs.declared.handles.Goal.{Goal}
 use Rattle.nts_terms.specs.declared.modes.TypingMode.{TypingMode}
 use Rattle.nts_terms.specs.Modes.{mode_of}

@@ -23,7 +23,7 @@ use Rattle.nts_merging.specs.declared.merging.MergeCandidateInfo.{MergeCandidate
 use Rattle.nts_merging.specs.declared.merging.MergeCandidateInfo.TheVariants as info
 use Rattle.nts_merging.specs.Merging.{AppliesAlways, Merges, doubt_of}
 use Rattle.nts_theory.specs.Telling.{without_constraints, IsResponseOf}
-use Rattle.nts_asking.specs.Answering.{told_in, is_yes, verdict_at}
+use Rattle.nts_meaning.specs.Answering.{told_in, is_yes, verdict_at}
 use Rattle.nts_trying.specs.Found.{IsMerged, IsTaken, StandsForThem}
 use Rattle.nts_theory.specs.Telling.{IsIdentityAnswer, IsLabelOfKind, IsTermOfKind, AreTermsOfKinds, StandsForAll}
 use Rattle.nts_store.specs.Growth.{tree_at}

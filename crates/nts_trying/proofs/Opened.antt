@@ -41,16 +41,16 @@ use Rattle.nts_delegate.specs.Offered.{candidates_of}
 use Rattle.nts_delegate.specs.Relevant.{LeavesOut}
 use Rattle.nts_trying.proofs.LeftOut.{all_outcomes}
 use Rattle.nts_terms.specs.Handles.{HoldsGoal}
-use Rattle.nts_asking.specs.Evaluation.{Goes, IsPosed, IsAskedGoal, asked_terms}
+use Rattle.nts_meaning.specs.Evaluation.{Goes, IsPosed, IsAskedGoal, asked_terms}
 use Rattle.nts_trying.specs.Opening.{IsOpenedTo}
-use Rattle.nts_asking.specs.Meant.{IsServed, offers_of, IsTold, IsRefuted, CandidatesTell}
-use Rattle.nts_asking.proofs.Evaluating.{Knows-goes, offers-kept}
-use Rattle.nts_asking.proofs.Running.{term_table}
-use Rattle.nts_asking.specs.Telling.{Outcomes}
+use Rattle.nts_meaning.specs.Meant.{IsServed, offers_of, IsTold, IsRefuted, CandidatesTell}
+use Rattle.nts_meaning.proofs.Evaluating.{Knows-goes, offers-kept}
+use Rattle.nts_meaning.proofs.Running.{term_table}
+use Rattle.nts_meaning.specs.Telling.{Outcomes}
 use Rattle.nts_theory.specs.Telling.{IsPlainResponse, Verdict, IsReady, IsTraitGoal, StandsForAll}
 use Rattle.nts_theory.specs.Telling.Tells.{tells_nothing, tells_one}
 use Rattle.nts_theory.specs.Telling.Refutes.{all_fail}
-use Rattle.nts_asking.specs.Answering.{is_yes, verdict_at}
+use Rattle.nts_meaning.specs.Answering.{is_yes, verdict_at}
 use Rattle.nts_model.specs.Answers.Applying.{IsProperContent}
 use Rattle.nts_table.proofs.TermTables.{proper_content}
 use Rattle.nts_theory.proofs.Refutation.QueryLabels.{opened_goal_passes}

@@ -27,19 +27,19 @@ use Rattle.nts_canonical.specs.Building.{IsArgOf}
 use Rattle.nts_response.specs.declared.types.Response.{Response}
 use Rattle.nts_response.specs.Forms.{response_at}
 use Rattle.std.specs.Global.{Box}
-use Rattle.nts_asking.specs.Answering.{IfAnswered, verdict_at}
+use Rattle.nts_meaning.specs.Answering.{IfAnswered, verdict_at}
 use Rattle.nts_trying.specs.Found.{Found, IsMerged, kept_after}
-use Rattle.nts_asking.specs.Telling.{Outcomes, Replies, Fails}
+use Rattle.nts_meaning.specs.Telling.{Outcomes, Replies, Fails}
 use Rattle.nts_theory.specs.Telling.{IsPlainResponse, StandsForAll}
 use Rattle.nts_theory.specs.Telling.Outcomes.{no_outcome, then_fails, then_replies}
-use Rattle.nts_asking.specs.Meant.{HaveOutcomes, CandidatesTell, RepliesWith, FailsIn}
-use Rattle.nts_asking.proofs.AskedGoals.{trees_kept}
-use Rattle.nts_asking.proofs.Evaluating.{Goes-trans, Goes-extends}
+use Rattle.nts_meaning.specs.Meant.{HaveOutcomes, CandidatesTell, RepliesWith, FailsIn}
+use Rattle.nts_meaning.proofs.AskedGoals.{trees_kept}
+use Rattle.nts_meaning.proofs.Evaluating.{Goes-trans, Goes-extends}
 use Rattle.nts_trying.proofs.Labels.{only_back}
-use Rattle.nts_asking.proofs.Running.{candidate-kept}
+use Rattle.nts_meaning.proofs.Running.{candidate-kept}
 use Rattle.nts_trying.proofs.Probed.{found_later, found_with, found_still}
 use Rattle.nts_trying.proofs.MergedResponses.{doubt_unsure, told_unsure, merged_stands, merged_among, unsure_yes}
-use Rattle.nts_asking.proofs.Told.{verdict_same}
+use Rattle.nts_meaning.proofs.Told.{verdict_same}
 
 -- what was found for a goal in a store that has grown, seen from the smaller store
 pub found_earlier : {P Q : List Tree → Table → Type 0} {a b e : List Tree} {t : Table} {g : Goal} {qs : List GenericArg} (r : Canonical Response) → Extends a b → IsTable a t → HoldsGoal a g → All (IsArgOf a t.entries) qs → ((c : List Tree) (u : Table) → P c u → Q c u) → Found P b e t g qs r → Found Q a e t g qs r

@@ -31,28 +31,28 @@ use Rattle.nts_response.specs.declared.types.Response.{Response}
 use Rattle.nts_response.specs.Forms.{response_at, HoldsResponse}
 use Rattle.nts_response.proofs.Each.{response_kept}
 use Rattle.nts_model.proofs.Tables.Bringing.{only-refl}
-use Rattle.nts_asking.specs.Asking.{first_table, first_values, asked_environment, asked_predicate}
+use Rattle.nts_meaning.specs.Asking.{first_table, first_values, asked_environment, asked_predicate}
 use Rattle.nts_theory.specs.Telling.{IsResponseOf, Verdict, SaysOf, IsFound}
 use Rattle.nts_model.specs.Derivations.Handlers.{Handler}
 use Rattle.nts_terms.specs.declared.modes.TypingMode.{TypingMode}
 use Rattle.nts_terms.specs.Modes.{mode_of}
 use Rattle.nts_delegate.specs.declared.delegate.CandidateData.{CandidateData}
-use Rattle.nts_asking.specs.Telling.{Replies}
+use Rattle.nts_meaning.specs.Telling.{Replies}
 use Rattle.nts_theory.specs.Telling.{IsPlainResponse}
 use Rattle.nts_theory.specs.Telling.Replies.{replies}
-use Rattle.nts_asking.specs.Meant.{HasRunTo}
+use Rattle.nts_meaning.specs.Meant.{HasRunTo}
 use Rattle.nts_trying.specs.Found.{Found}
-use Rattle.nts_asking.specs.Answering.{is_kept, told_in, IsAnswerTo, TellsNoMore, is_yes}
-use Rattle.nts_asking.specs.Evaluation.{Goes, asked_terms}
-use Rattle.nts_asking.proofs.AnsweredQueries.{args_later, args_know, query_passes, query_table, query_says}
-use Rattle.nts_asking.proofs.AskedGoals.{trees_kept}
-use Rattle.nts_asking.proofs.Evaluating.{Goes-extends, committed}
-use Rattle.nts_asking.proofs.Fitting.{answer_to}
+use Rattle.nts_meaning.specs.Answering.{is_kept, told_in, IsAnswerTo, TellsNoMore, is_yes}
+use Rattle.nts_meaning.specs.Evaluation.{Goes, asked_terms}
+use Rattle.nts_meaning.proofs.AnsweredQueries.{args_later, args_know, query_passes, query_table, query_says}
+use Rattle.nts_meaning.proofs.AskedGoals.{trees_kept}
+use Rattle.nts_meaning.proofs.Evaluating.{Goes-extends, committed}
+use Rattle.nts_meaning.proofs.Fitting.{answer_to}
 use Rattle.nts_trying.proofs.MergedResponses.{told_unsure, unsure_yes}
-use Rattle.nts_asking.proofs.QueryTables.{first_sides}
+use Rattle.nts_meaning.proofs.QueryTables.{first_sides}
 use Rattle.nts_theory.proofs.Refutation.QueryLabels.{is_label_in, table_in}
 use Rattle.nts_search.proofs.StackLater.{response_same}
-use Rattle.nts_asking.proofs.Running.{term_table}
+use Rattle.nts_meaning.proofs.Running.{term_table}
 
 -- what was found stays found
 pub found_later : {P : List Tree → Table → Type 0} {a b e : List Tree} {t : Table} {g : Goal} {qs : List GenericArg} (r : Canonical Response) → Extends b e → Found P a b t g qs r → Found P a e t g qs r

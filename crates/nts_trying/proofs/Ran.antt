@@ -37,10 +37,10 @@ use Rattle.nts_theory.specs.Telling.{IsBegun, goals_with}
 use Rattle.nts_theory.specs.Telling.Fails.{is_refused}
 use Rattle.nts_trying.specs.Stepping.{ArePosed, AreSettled, terms_of}
 use Rattle.nts_trying.specs.Adding.{AreAdded}
-use Rattle.nts_asking.specs.Meant.{HasRunTo, FailsIn, ReachesBy, RefusesOneOf}
-use Rattle.nts_asking.specs.Running.{Stays, PremiseHolds, EachStays, StaysProved}
-use Rattle.nts_asking.specs.Evaluation.{Goes, IsPosed, asked_terms, goals_at}
-use Rattle.nts_asking.proofs.Running.{premise_stays, premises-kept}
+use Rattle.nts_meaning.specs.Meant.{HasRunTo, FailsIn, ReachesBy, RefusesOneOf}
+use Rattle.nts_meaning.specs.Running.{Stays, PremiseHolds, EachStays, StaysProved}
+use Rattle.nts_meaning.specs.Evaluation.{Goes, IsPosed, asked_terms, goals_at}
+use Rattle.nts_meaning.proofs.Running.{premise_stays, premises-kept}
 use Rattle.nts_trying.proofs.Stepping.{all_among}
 
 -- its equations and its constraints

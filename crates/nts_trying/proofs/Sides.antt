@@ -10,7 +10,7 @@ use Rattle.nts_store.specs.Growth.{tree_at}
 use Rattle.nts_terms.specs.declared.handles.Goal.{Goal}
 use Rattle.nts_table.specs.Tables.{Table}
 use Rattle.nts_delegate.specs.Candidates.{IsOverIn}
-use Rattle.nts_asking.specs.Evaluation.{AreValues}
+use Rattle.nts_meaning.specs.Evaluation.{AreValues}
 use Rattle.nts_trying.specs.Instances.{instance_at}
 
 values_closed : (ss : List Sort) (vs : List Tree) → AreValuesOf ss vs → (v : Tree) → Among vs v → IsClosed v

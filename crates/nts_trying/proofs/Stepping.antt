@@ -19,12 +19,12 @@ use Rattle.nts_delegate.specs.Offered.{path_kind_of, source_of}
 use Rattle.nts_theory.specs.Telling.{CanAsk, IsInductive}
 use Rattle.nts_theory.specs.Telling.RefusesOne.{cuts_one}
 use Rattle.nts_search.specs.Searching.{IsStack}
-use Rattle.nts_asking.specs.Searching.{IsHead, AreLater, IsGoalCut}
-use Rattle.nts_asking.proofs.Cuts.{goal_cut_before}
-use Rattle.nts_asking.proofs.Rounds.{not_cut}
+use Rattle.nts_meaning.specs.Searching.{IsHead, AreLater, IsGoalCut}
+use Rattle.nts_meaning.proofs.Cuts.{goal_cut_before}
+use Rattle.nts_meaning.proofs.Rounds.{not_cut}
 use Rattle.nts_trying.specs.Stopping.{IsTurnRefused, IsTurnCut, StopsIn, RefusesAmong}
-use Rattle.nts_asking.specs.Meant.{IsNestedSince}
-use Rattle.nts_asking.proofs.Searching.{stays_more, none_passed}
+use Rattle.nts_meaning.specs.Meant.{IsNestedSince}
+use Rattle.nts_meaning.proofs.Searching.{stays_more, none_passed}
 use Rattle.nts_model.specs.Terms.Trees.{Tree}
 use Rattle.nts_model.specs.Tables.Contents.{Content}
 use Rattle.nts_model.specs.Derivations.Sequents.{Premise}
@@ -47,17 +47,17 @@ use Rattle.nts_unify.specs.Reading.{content_of}
 use Rattle.nts_unify.specs.Lawful.{content_of-extended}
 use Rattle.nts_table.specs.Tables.{Table, IsTable}
 use Rattle.nts_response.specs.Forms.{premise_at}
-use Rattle.nts_asking.specs.Evaluation.{Goes, IsPosed, asked_terms, goals_at}
+use Rattle.nts_meaning.specs.Evaluation.{Goes, IsPosed, asked_terms, goals_at}
 use Rattle.nts_trying.specs.Stepping.{ArePosed, terms_of, AreLeft, AreSettled, left_after, none_left, is_left, is_done}
-use Rattle.nts_asking.specs.Telling.{Reaches, Asked, Refused}
+use Rattle.nts_meaning.specs.Telling.{Reaches, Asked, Refused}
 use Rattle.nts_theory.specs.Telling.Reaches.{asks_nothing, then_asks}
 use Rattle.nts_theory.specs.Telling.RefusesOne.{refuses_one}
-use Rattle.nts_asking.specs.Meant.{Since, IsProvedSince, IsProvedFromSince, EvaluatesUnder, IsRefusedUnder, ReachesBy, RefusesOneOf}
-use Rattle.nts_asking.proofs.Evaluating.{IsPosed-later, HoldsGoal-extended}
-use Rattle.nts_asking.proofs.Running.{both_sure, Stays-later}
+use Rattle.nts_meaning.specs.Meant.{Since, IsProvedSince, IsProvedFromSince, EvaluatesUnder, IsRefusedUnder, ReachesBy, RefusesOneOf}
+use Rattle.nts_meaning.proofs.Evaluating.{IsPosed-later, HoldsGoal-extended}
+use Rattle.nts_meaning.proofs.Running.{both_sure, Stays-later}
 use Rattle.nts_certainty.specs.declared.sources.HasChanged.{HasChanged}
-use Rattle.nts_asking.proofs.AskedGoals.{was_asked}
-use Rattle.nts_asking.proofs.BackEdges.{last_inductive}
+use Rattle.nts_meaning.proofs.AskedGoals.{was_asked}
+use Rattle.nts_meaning.proofs.BackEdges.{last_inductive}
 use Rattle.nts_search.specs.declared.stack.SearchGraph.{SearchGraph}
 
 -- elements of lists

@@ -32,9 +32,9 @@ use Rattle.nts_delegate.specs.Candidates.{KnowsGoal, IsOverIn, IsEquation, AreEq
 use Rattle.nts_delegate.proofs.Over.{leaf_known, over_knows}
 use Rattle.nts_delegate.specs.Offered.{equation_as, equation_of}
 use Rattle.nts_trying.specs.Instances.{instance_at}
-use Rattle.nts_asking.specs.Evaluation.{IsPosed}
+use Rattle.nts_meaning.specs.Evaluation.{IsPosed}
 use Rattle.nts_trying.specs.Choices.{EquatesCandidate}
-use Rattle.nts_asking.proofs.Running.{equation-kept}
+use Rattle.nts_meaning.proofs.Running.{equation-kept}
 use Rattle.nts_unify.proofs.Changes.{length-slots}
 
 -- new variables for a list of sorts

@@ -18,7 +18,7 @@ use Rattle.nts_terms.specs.declared.kinds.PredicateKind.{PredicateKind}
 use Rattle.nts_terms.specs.declared.kinds.PredicateKind.TheVariants as predicate
 use Rattle.nts_terms.specs.Kinds.{tree_of_clause, tree_of_statement, tree_of_predicate}
 use Rattle.nts_delegate.specs.OwnTerms.{both_false}
-use Rattle.nts_asking.specs.Evaluation.{IsAskedGoal}
+use Rattle.nts_meaning.specs.Evaluation.{IsAskedGoal}
 
 pub not_false : (b : Bool) → not b ≡ false → b ≡ true
 not_false true e = refl

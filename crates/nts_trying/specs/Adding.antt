@@ -11,7 +11,7 @@ use Rattle.nts_terms.specs.declared.handles.Goal.{Goal}
 use Rattle.nts_table.specs.Tables.{Table}
 use Rattle.nts_delegate.specs.declared.delegate.CandidateGoal.{CandidateGoal}
 use Rattle.nts_delegate.specs.Offered.{premise_of}
-use Rattle.nts_asking.specs.Evaluation.{asked_terms, goals_at}
+use Rattle.nts_meaning.specs.Evaluation.{asked_terms, goals_at}
 use Rattle.nts_theory.specs.Telling.{goals_with}
 use Rattle.nts_trying.specs.Stepping.{ArePosed, terms_of}
 

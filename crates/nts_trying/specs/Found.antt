@@ -19,10 +19,10 @@ use Rattle.nts_response.specs.Forms.{response_at, HoldsResponse}
 use Rattle.nts_merging.specs.declared.merging.MergeCandidateInfo.{MergeCandidateInfo}
 use Rattle.nts_merging.specs.declared.merging.MergeCandidateInfo.TheVariants as info
 use Rattle.nts_merging.specs.Merging.{Merges, doubt_of}
-use Rattle.nts_asking.specs.Evaluation.{Goes, asked_terms}
+use Rattle.nts_meaning.specs.Evaluation.{Goes, asked_terms}
 use Rattle.nts_theory.specs.Telling.{IsResponseOf, IsTermOfKind}
 use Rattle.nts_theory.specs.Telling.{IsPlainResponse}
-use Rattle.nts_asking.specs.Answering.{told_in, TellsNoMore}
+use Rattle.nts_meaning.specs.Answering.{told_in, TellsNoMore}
 
 -- a response of the store b says what a table found out of these terms: the table went on from the table t of the store a, for
 -- the goal, and is gone. Where the response is certain, P holds of that table and its store

@@ -7,7 +7,7 @@ use Rattle.nts_store.specs.declared.nodes.NodeId.{NodeId}
 use Rattle.nts_terms.specs.declared.handles.Goal.{Goal}
 use Rattle.nts_store.specs.Formed.{AreFormed}
 use Rattle.nts_store.specs.Growth.{tree_at, IsIn, AllIn}
-use Rattle.nts_asking.specs.Evaluation.{AreOfSorts}
+use Rattle.nts_meaning.specs.Evaluation.{AreOfSorts}
 
 -- terms of the store, of the sorts of the fresh variables
 pub record HoldsValues (ts : List Tree) (fresh : List Sort) (vs : List NodeId) : Type 0 where

@@ -2,7 +2,7 @@
 use Rattle.std.specs.Prelude.{◌≡◌, List, Option, Some, None}
 use Rattle.nts_model.specs.Terms.Trees.{Tree}
 use Rattle.nts_terms.specs.declared.handles.Goal.{Goal}
-use Rattle.nts_asking.specs.Evaluation.{IsAskedGoal}
+use Rattle.nts_meaning.specs.Evaluation.{IsAskedGoal}
 use Rattle.nts_trying.specs.declared.kinds.GoalRow.{GoalRow}
 use Rattle.nts_trying.specs.declared.kinds.GoalRow.TheVariants as row
 

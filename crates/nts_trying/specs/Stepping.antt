@@ -7,7 +7,7 @@ use Rattle.nts_certainty.specs.declared.certainty.Certainty.TheVariants as certa
 use Rattle.nts_certainty.specs.declared.sources.GoalSource.{GoalSource}
 use Rattle.nts_terms.specs.declared.handles.Goal.{Goal}
 use Rattle.nts_table.specs.Tables.{Table}
-use Rattle.nts_asking.specs.Evaluation.{IsPosed, asked_terms}
+use Rattle.nts_meaning.specs.Evaluation.{IsPosed, asked_terms}
 use Rattle.nts_trying.specs.declared.steps.AvailableDepth.{AvailableDepth}
 use Rattle.nts_trying.specs.declared.steps.AvailableDepth.TheVariants as available
 

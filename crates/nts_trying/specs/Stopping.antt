@@ -17,9 +17,9 @@ use Rattle.nts_delegate.specs.Offered.{path_kind_of, source_of}
 use Rattle.nts_search.specs.declared.stack.SearchGraph.{SearchGraph}
 use Rattle.nts_search.specs.declared.kinds.CurrentGoalKind.{CurrentGoalKind}
 use Rattle.nts_search.specs.Kinds.{goal_kind_of}
-use Rattle.nts_asking.specs.Evaluation.{goals_at}
-use Rattle.nts_asking.specs.Searching.{IsGoalCut}
-use Rattle.nts_asking.specs.Telling.{Reaches, Refused}
+use Rattle.nts_meaning.specs.Evaluation.{goals_at}
+use Rattle.nts_meaning.specs.Searching.{IsGoalCut}
+use Rattle.nts_meaning.specs.Telling.{Reaches, Refused}
 
 -- some of the goals were asked, which came to a table, and then it is the turn of one of them
 pub record Turn (h : Handler) (mode : TypingMode) (a : List Tree) (c : Content) (gs : List (GoalSource × Goal)) : Type 0 where

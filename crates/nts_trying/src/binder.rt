@@ -13,7 +13,7 @@ ghost use Rattle.nts_terms.specs.Rest.{Grows};
 ghost use Rattle.nts_unify.specs.Entries.{moved};
 ghost use Rattle.nts_unify.specs.Reading.{content_of};
 ghost use Rattle.nts_table.specs.Tables.{IsTable};
-ghost use Rattle.nts_asking.specs.Evaluation.{Goes, IsPosed};
+ghost use Rattle.nts_meaning.specs.Evaluation.{Goes, IsPosed};
 ghost use Rattle.nts_trying.specs.Opening.{IsOpenedTo, CannotOpen};
 
 use nts_model::{ClauseHead, Label, ListHead};

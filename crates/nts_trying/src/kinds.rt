@@ -7,7 +7,7 @@ ghost use Rattle.nts_model.specs.Derivations.Handlers.{meaning};
 ghost use Rattle.nts_search.specs.Kinds.{goal_kind_of};
 ghost use Rattle.nts_model.specs.Derivations.Sequents.{HasClosedStatements};
 ghost use Rattle.nts_store.specs.Growth.{tree_at};
-ghost use Rattle.nts_asking.specs.Evaluation.{IsAskedGoal};
+ghost use Rattle.nts_meaning.specs.Evaluation.{IsAskedGoal};
 ghost use Rattle.nts_trying.specs.Rows.{IsRowOf};
 ghost use Rattle.nts_terms.specs.Handles.{HoldsEnv, HoldsGoal};
 

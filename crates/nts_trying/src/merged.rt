@@ -12,10 +12,10 @@ ghost use Rattle.nts_canonical.specs.Forms.{kind_of_var};
 ghost use Rattle.nts_terms.specs.Handles.{HoldsArg};
 ghost use Rattle.nts_theory.specs.Telling.{IsLabelOfKind};
 ghost use Rattle.nts_trying.specs.Found.{IsMerged, IsOverTerms, StandsForThem, kept_after};
-ghost use Rattle.nts_asking.specs.Answering.{IfAnswered};
+ghost use Rattle.nts_meaning.specs.Answering.{IfAnswered};
 
-use nts_asking::boxed_response;
 use nts_canonical::CanonicalVarKind;
+use nts_meaning::boxed_response;
 use nts_merging::{MergeCandidateInfo, join_doubts, try_merge_candidates};
 use nts_model::{Constant, FreeRegion, Label, Leaf, VariableKind};
 use nts_response::CanonicalResponse;

@@ -6,8 +6,8 @@ ghost use Rattle.nts_certainty.specs.Certainties.{both};
 ghost use Rattle.nts_trying.specs.declared.steps.AvailableDepth.TheVariants as available;
 ghost use Rattle.nts_trying.specs.Stepping.{left_after, bound_of};
 
-use nts_asking::Evaluated;
 use nts_certainty::{Certainty, GoalSource, HasChanged};
+use nts_meaning::Evaluated;
 use nts_terms::Goal;
 use std::alloc::{AllocError, Global};
 

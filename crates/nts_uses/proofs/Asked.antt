@@ -14,7 +14,7 @@ use Rattle.nts_store.proofs.Growing.{Extends-trans, Extends-refl}
 use Rattle.nts_table.specs.TableLaws.{IsTable-extended}
 use Rattle.nts_delegate.specs.ClausesKept.{AreClausesReady-kept}
 use Rattle.nts_asking.proofs.Asking.{IsAdmitted-extended}
-use Rattle.nts_asking.proofs.Evaluating.{IsPosed-admitted}
+use Rattle.nts_meaning.proofs.Evaluating.{IsPosed-admitted}
 
 -- a side stays one
 pub plain_kept : {a b : List Tree} {t : Table} {p : Place} {x : NodeId} → Extends a b → IsTable a t → IsPlainSide p a t x → IsPlainSide p b t x

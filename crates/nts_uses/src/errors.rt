@@ -3,7 +3,7 @@ ghost use Rattle.std.specs.Prelude.{◌≡◌, Err, IfSome, OnOk, OnErr};
 ghost use Rattle.nts_model.specs.Terms.Trees.{any_argument};
 ghost use Rattle.nts_delegate.specs.Clauses.{AreClausesReady};
 ghost use Rattle.nts_table.specs.Tables.{IsTable, IsPlainSide};
-ghost use Rattle.nts_asking.specs.Evaluation.{Runs};
+ghost use Rattle.nts_meaning.specs.Evaluation.{Runs};
 ghost use Rattle.nts_contexts.specs.Contexts.{IsContextReady, KeepsContext};
 
 use crate::rule::is_plain;

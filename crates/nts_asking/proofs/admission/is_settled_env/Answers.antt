@@ -1,5 +1,5 @@
 use Rattle.nts_store.specs.Growth.{tree_at}
-use Rattle.nts_asking.specs.Evaluation.{is_type_variable}
+use Rattle.nts_meaning.specs.Evaluation.{is_type_variable}
 use Rattle.nts_asking.proofs.Admitting.{no_label}
 use Rattle.nts_asking.proofs.admission.is_settled_env.Goals as goal
 

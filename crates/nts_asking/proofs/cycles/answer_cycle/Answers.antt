@@ -2,8 +2,8 @@ use Rattle.std.proofs.Common.{◌≡◌, rules, inl}
 use Rattle.nts_certainty.specs.declared.sources.PathKind.TheVariants as path
 use Rattle.nts_store.proofs.Growing.{Extends-refl}
 use Rattle.nts_terms.proofs.Moved.{KeepsRest-refl}
-use Rattle.nts_asking.proofs.Searching.{Searches-refl}
-use Rattle.nts_asking.proofs.BackEdges.{searched_read, read_fits, read_answers, read_used, read_refuted, first_fits, first_answers, first_refuted}
+use Rattle.nts_meaning.proofs.Searching.{Searches-refl}
+use Rattle.nts_meaning.proofs.BackEdges.{searched_read, read_fits, read_answers, read_used, read_refuted, first_fits, first_answers, first_refuted}
 use Rattle.nts_asking.proofs.cycles.answer_cycle.Goals as goal
 
 pub returns-in_err-answer-clause-searches : goal.returns-in_err-answer-clause-searches

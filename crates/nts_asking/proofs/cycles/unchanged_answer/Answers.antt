@@ -3,9 +3,9 @@ use Rattle.nts_canonical.specs.Building.{kinds_of}
 use Rattle.nts_canonical.specs.declared.types.Canonical.{Canonical}
 use Rattle.nts_response.specs.declared.types.Response.{Response}
 use Rattle.nts_response.specs.Forms.{response_at}
-use Rattle.nts_asking.specs.Answering.{IsAnswerTo}
+use Rattle.nts_meaning.specs.Answering.{IsAnswerTo}
 use Rattle.nts_theory.specs.Telling.{SaysNothing}
-use Rattle.nts_asking.proofs.Unchanged.{unchanged_fits, nothing_said}
+use Rattle.nts_meaning.proofs.Unchanged.{unchanged_fits, nothing_said}
 use Rattle.nts_asking.proofs.cycles.unchanged_answer.Goals as goal
 
 pub returns-clause-fits : goal.returns-clause-fits

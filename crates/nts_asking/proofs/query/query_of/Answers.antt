@@ -1,6 +1,6 @@
 use Rattle.std.proofs.Common.{ap, ◌∙◌}
 use Rattle.nts_terms.specs.Modes.{mode_of}
-use Rattle.nts_asking.proofs.Queried.{query_made}
+use Rattle.nts_meaning.proofs.Queried.{query_made}
 use Rattle.nts_asking.proofs.query.query_of.Goals as goal
 
 pub returns-clause-query : goal.returns-clause-query

@@ -1,6 +1,6 @@
 use Rattle.std.proofs.Common.{refl}
 use Rattle.nts_canonical.specs.Building.{kinds_of}
-use Rattle.nts_asking.proofs.AnsweredQueries.{first_entries, query_environment, query_predicate}
+use Rattle.nts_meaning.proofs.AnsweredQueries.{first_entries, query_environment, query_predicate}
 use Rattle.nts_asking.proofs.query.query_table.Goals as goal
 
 pub returns-clause-begins : goal.returns-clause-begins

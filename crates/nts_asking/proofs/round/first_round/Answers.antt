@@ -1,5 +1,5 @@
 use Rattle.std.proofs.Common.{ap, ◌∙◌, rules}
-use Rattle.nts_asking.specs.declared.round.Round.{Round}
+use Rattle.nts_meaning.specs.declared.round.Round.{Round}
 use Rattle.nts_asking.proofs.round.first_round.Goals as goal
 
 pub returns-clause-first : goal.returns-clause-first

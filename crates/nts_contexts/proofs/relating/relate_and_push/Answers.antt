@@ -1,6 +1,6 @@
 use Rattle.std.proofs.Common.{refl, ◌∙◌, sym}
 use Rattle.nts_store.specs.Growth.{tree_at}
-use Rattle.nts_asking.proofs.Evaluating.{Runs-refl}
+use Rattle.nts_meaning.proofs.Evaluating.{Runs-refl}
 use Rattle.nts_contexts.proofs.Ended.{ended_runs}
 use Rattle.nts_contexts.proofs.Relates.{relate_runs, where_added, adds_related, adds_nothing}
 use Rattle.nts_contexts.proofs.relating.relate_and_push.Goals as goal

@@ -18,17 +18,17 @@ use Rattle.nts_delegate.proofs.Results.{IfOk-map, OnOk-map}
 use Rattle.nts_canonical.specs.Building.{kinds_of}
 use Rattle.nts_canonical.specs.Forms.{trees_of, form_of}
 use Rattle.nts_response.specs.Forms.{response_at}
-use Rattle.nts_asking.specs.Meant.{Since, meaning_since, IsProvedNow, IsNestedSince}
+use Rattle.nts_meaning.specs.Meant.{Since, meaning_since, IsProvedNow, IsNestedSince}
 use Rattle.nts_trying.specs.Stepping.{AreLeft, AreSettled, bound_of, none_left}
 use Rattle.nts_theory.specs.Telling.Reaches.{asks_nothing}
-use Rattle.nts_asking.proofs.Asking.{IsAskedGoal-extended, kind_asked}
-use Rattle.nts_asking.proofs.AskedGoals.{trees_kept, ok_both, ok_two, args_there, applicable, evaluates, evaluates_at, was_asked, asked_stays, asked_labels, query_cut, response_refused, ok_three}
-use Rattle.nts_asking.proofs.Cuts.{cut_at_first}
-use Rattle.nts_asking.proofs.AnsweredQueries.{first_entries, query_environment, query_predicate, args_later}
+use Rattle.nts_meaning.proofs.TraitsAsked.{IsAskedGoal-extended, kind_asked}
+use Rattle.nts_meaning.proofs.AskedGoals.{trees_kept, ok_both, ok_two, args_there, applicable, evaluates, evaluates_at, was_asked, asked_stays, asked_labels, query_cut, response_refused, ok_three}
+use Rattle.nts_meaning.proofs.Cuts.{cut_at_first}
+use Rattle.nts_meaning.proofs.AnsweredQueries.{first_entries, query_environment, query_predicate, args_later}
 use Rattle.nts_trying.proofs.Labels.{only_earlier, only_back, only_same, only_resolved, content_same}
-use Rattle.nts_asking.proofs.Evaluating.{Goes-trans, Goes-extends, Runs-trans, Runs-extends, Runs-refl, rolled_back, Since-later, offers-kept, IsPosed-later, AreValues-later, IsCandidate-extended, candidate_at, goes-back, HoldsGoal-extended}
+use Rattle.nts_meaning.proofs.Evaluating.{Goes-trans, Goes-extends, Runs-trans, Runs-extends, Runs-refl, rolled_back, Since-later, offers-kept, IsPosed-later, AreValues-later, IsCandidate-extended, candidate_at, goes-back, HoldsGoal-extended}
 use Rattle.nts_trying.proofs.Stepping.{among_get, posed_later, posed_left, only_one, only_left, reach_more, reach_still, after_error, stop_more, reach_step, stop_step, left_trans, settled_step, left_more, settled_proved, sure_more, left_refl}
-use Rattle.nts_asking.proofs.Running.{term_table, unread, HasRun, has_run, both_sure, constraints-kept, offered_there, Equates-later, Constrains-later}
+use Rattle.nts_meaning.proofs.Running.{term_table, unread, HasRun, has_run, both_sure, constraints-kept, offered_there, Equates-later, Constrains-later}
 use Rattle.nts_canonical.specs.declared.types.Canonical.{Canonical}
 use Rattle.nts_response.specs.declared.types.Response.{Response}
 use Rattle.nts_terms.specs.Handles.{HoldsGoal}
@@ -46,18 +46,18 @@ use Rattle.nts_theory.proofs.Derivations.Assuming.{covers_passed}
 use Rattle.nts_search.specs.Kinds.{goal_kind_of}
 use Rattle.nts_search.specs.Searching.{entry_at, entries_at}
 use Rattle.nts_search.proofs.Stacked.{entries_pushed, entries_popped}
-use Rattle.nts_asking.specs.Searching.{HeadsTell, IsAnswerTold, IsHeadAnswer, assumed_in}
-use Rattle.nts_asking.proofs.Searching.{Searches-refl, Searches-trans, search_later, search_grown, search_grows, search_covers, covers_grown, stays_more, served_more, tell_grown, heads_tell_later, search_counted, search_marked, search_marked_again, input_stands, head_answer_later, answer_told_later, form_later, input_later, later_long, goal_cut_earlier}
+use Rattle.nts_meaning.specs.Searching.{HeadsTell, IsAnswerTold, IsHeadAnswer, assumed_in}
+use Rattle.nts_meaning.proofs.Searching.{Searches-refl, Searches-trans, search_later, search_grown, search_grows, search_covers, covers_grown, stays_more, served_more, tell_grown, heads_tell_later, search_counted, search_marked, search_marked_again, input_stands, head_answer_later, answer_told_later, form_later, input_later, later_long, goal_cut_earlier}
 use Rattle.nts_search.specs.declared.stack.StackEntry.{StackEntry}
 use Rattle.nts_canonical.specs.declared.types.CanonicalInput.{CanonicalInput}
-use Rattle.nts_asking.specs.Answering.{IsAnswerTo, is_yes}
+use Rattle.nts_meaning.specs.Answering.{IsAnswerTo, is_yes}
 use Rattle.nts_model.specs.Searching.Stacks.{IsDerivedFrom, IsProvedFrom, assumptions}
 use Rattle.nts_trying.specs.Found.{Found}
 use Rattle.nts_model.specs.Answers.Responses.{answer_sequent}
-use Rattle.nts_asking.proofs.Rounds.{search_noted, own_asked, own_form, entry_held, round_proved, round_told, grown, ran, search_then, entry_of, holds_answer, search_pushed, tell_pushed, search_same, search_popped, round_closes, last_fits, last_told, last_refuted, last_each, cycle_told, cycle_refuted, cycle_derived, first_fits, first_told, round_ends, ended_entry}
+use Rattle.nts_meaning.proofs.Rounds.{search_noted, own_asked, own_form, entry_held, round_proved, round_told, grown, ran, search_then, entry_of, holds_answer, search_pushed, tell_pushed, search_same, search_popped, round_closes, last_fits, last_told, last_refuted, last_each, cycle_told, cycle_refuted, cycle_derived, first_fits, first_told, round_ends, ended_entry}
 use Rattle.nts_delegate.specs.Relevant.{LeavesOut}
 use Rattle.nts_trying.proofs.LeftOut.{all_outcomes, kept_offered}
-use Rattle.nts_asking.specs.declared.round.Round.{Round}
+use Rattle.nts_meaning.specs.declared.round.Round.{Round}
 use Rattle.nts_certainty.specs.declared.sources.GoalSource.TheVariants as source
 use Rattle.nts_store.specs.declared.fault.EvalError.TheVariants as EvalError
 use Rattle.nts_certainty.specs.declared.certainty.Certainty.TheVariants as certainty
@@ -67,7 +67,7 @@ use Rattle.nts_evaluation.proofs.Failing.{query_failed, goal_failed, try_failed}
 use Rattle.nts_evaluation.proofs.evaluate.+evaluate.Goals.{search-then-graph, search-else-graph}
 use Rattle.nts_evaluation.proofs.Deciding.{decides_fault, decides_error, decides_refused, decides_then, decides_grown, decides_later, same_search, then_same}
 use Rattle.nts_evaluation.proofs.DecidedCandidates.{all_merged, facts_merged}
-use Rattle.nts_asking.proofs.Searching.{nothing_stands}
+use Rattle.nts_meaning.proofs.Searching.{nothing_stands}
 use Rattle.nts_evaluation.proofs.FactQueries.{fact_query}
 use Rattle.nts_evaluation.proofs.FactTrials.{fact_asked}
 use Rattle.nts_evaluation.proofs.DecidedTrials.{refused_no}

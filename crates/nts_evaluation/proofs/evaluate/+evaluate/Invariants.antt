@@ -4,22 +4,22 @@ use Rattle.nts_model.specs.Tables.Passing.{BringsOnly}
 use Rattle.nts_unify.specs.Reading.{content_of}
 use Rattle.nts_terms.specs.Rest.{Grows}
 use Rattle.nts_certainty.specs.declared.certainty.Certainty.TheVariants as certainty
-use Rattle.nts_asking.specs.Meant.{AreOffered, IsServedSince, IsNestedSince, HaveOutcomes, ReachesBy}
-use Rattle.nts_asking.specs.Searching.{Searches, IsHeadAnswer, IsAnswerTold, assumed_in}
+use Rattle.nts_meaning.specs.Meant.{AreOffered, IsServedSince, IsNestedSince, HaveOutcomes, ReachesBy}
+use Rattle.nts_meaning.specs.Searching.{Searches, IsHeadAnswer, IsAnswerTold, assumed_in}
 use Rattle.nts_search.specs.Kinds.{goal_kind_of}
 use Rattle.nts_canonical.specs.Building.{kinds_of}
 use Rattle.nts_canonical.specs.Forms.{form_of, trees_of}
 use Rattle.nts_terms.specs.Modes.{mode_of}
 use Rattle.nts_trying.specs.Found.{Found}
 use Rattle.nts_trying.specs.Stepping.{ArePosed, AreLeft, AreSettled, terms_of, bound_of}
-use Rattle.nts_asking.specs.Evaluation.{Runs}
+use Rattle.nts_meaning.specs.Evaluation.{Runs}
 use Rattle.nts_evaluation.specs.Promises.{WhereTold}
 use Rattle.nts_evaluation.specs.Deciding.{IsQueryDecided, IsBelow, CanDecide, IsAsBefore, AreRootValues, CandidatesSettled, GoalsSettled, IsQueryAtFirst, ArePlainCandidates, IsOverIfSilent, IsFactForm}
 use Rattle.nts_evaluation.proofs.DecidedCandidates.{AreSoFar, Anything}
 use Rattle.nts_evaluation.proofs.DecidedSteps.{IsStepSoFar}
-use Rattle.nts_asking.specs.Meant.{rules_of, Always}
+use Rattle.nts_meaning.specs.Meant.{rules_of, Always}
 use Rattle.nts_evaluation.proofs.evaluate.+evaluate.Given as goal
-use Rattle.nts_asking.specs.Answering.{verdict_at}
+use Rattle.nts_meaning.specs.Answering.{verdict_at}
 
 abbrev pub decreases-evaluate_goal : goal.decreases-evaluate_goal
 decreases-evaluate_goal g l = 20 * l.depth + 18

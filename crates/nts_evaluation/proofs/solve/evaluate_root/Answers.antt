@@ -1,14 +1,14 @@
 use Rattle.std.proofs.Common.{◌≡◌, ◌∙◌, suc, arith, Err, rules, refl, true}
 use Rattle.nts_store.specs.declared.fault.EvalError.TheVariants as EvalError
 use Rattle.nts_unify.specs.Lawful.{content_of-extended}
-use Rattle.nts_asking.proofs.Running.{unread}
-use Rattle.nts_asking.proofs.Evaluating.{Goes-trans, Goes-extends, Runs-trans, Runs-extends, Since-later}
-use Rattle.nts_asking.proofs.AskedGoals.{evaluates_at}
+use Rattle.nts_meaning.proofs.Running.{unread}
+use Rattle.nts_meaning.proofs.Evaluating.{Goes-trans, Goes-extends, Runs-trans, Runs-extends, Since-later}
+use Rattle.nts_meaning.proofs.AskedGoals.{evaluates_at}
 use Rattle.std.proofs.Common.{subst}
 use Rattle.nts_certainty.specs.declared.sources.PathKind.TheVariants as path
 use Rattle.nts_delegate.specs.Offered.{path_kind_of}
-use Rattle.nts_asking.specs.Meant.{IsProvedFromSince}
-use Rattle.nts_asking.proofs.Rounds.{search_begun, tell_begun, nothing_left, not_cut}
+use Rattle.nts_meaning.specs.Meant.{IsProvedFromSince}
+use Rattle.nts_meaning.proofs.Rounds.{search_begun, tell_begun, nothing_left, not_cut}
 use Rattle.nts_evaluation.proofs.Deciding.{fault_is_decided, decides_error, begun_decides}
 use Rattle.nts_evaluation.proofs.FactRoots.{fact_form, never_refused, resolved_fact, begun_facts}
 use Rattle.nts_terms.specs.Modes.{mode_of}

@@ -1,6 +1,6 @@
-use Rattle.nts_asking.proofs.Running.{Stays-now}
+use Rattle.nts_meaning.proofs.Running.{Stays-now}
 use Rattle.nts_theory.proofs.Derivations.Rooted.{proved_held, proof_falls}
-use Rattle.nts_asking.proofs.Evaluating.{IsPosed-admitted, Since-now, each_of}
+use Rattle.nts_meaning.proofs.Evaluating.{IsPosed-admitted, Since-now, each_of}
 use Rattle.nts_evaluation.proofs.Coherence.{no_solution_under, keeps_solutions_under, each_kept}
 use Rattle.nts_evaluation.proofs.FactRoots.{fact_stands}
 use Rattle.nts_evaluation.proofs.solve.evaluate_root_goal.Goals as goal

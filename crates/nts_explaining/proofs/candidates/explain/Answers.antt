@@ -1,5 +1,5 @@
 use Rattle.nts_delegate.proofs.Results.{IfOk-map}
-use Rattle.nts_asking.proofs.Evaluating.{IsPosed-admitted, IsPosed-opened, rolled_back}
+use Rattle.nts_meaning.proofs.Evaluating.{IsPosed-admitted, IsPosed-opened, rolled_back}
 use Rattle.nts_explaining.proofs.Tried.{reasons_before}
 use Rattle.nts_explaining.proofs.candidates.explain.Goals as goal
 

@@ -1,4 +1,4 @@
-use Rattle.nts_asking.proofs.Evaluating.{Runs-trans}
+use Rattle.nts_meaning.proofs.Evaluating.{Runs-trans}
 use Rattle.nts_trying.proofs.Stepping.{posed_later}
 use Rattle.nts_explaining.proofs.conditions.ask_conditions.Goals as goal
 

@@ -1,6 +1,6 @@
 use Rattle.nts_table.specs.TableLaws.{IsTable-extended}
 use Rattle.nts_asking.proofs.Asking.{IsAdmitted-extended}
-use Rattle.nts_asking.proofs.Evaluating.{IsPosed-admitted}
+use Rattle.nts_meaning.proofs.Evaluating.{IsPosed-admitted}
 use Rattle.nts_faults.proofs.context.try_enter.Goals as goal
 
 pub enter-requires-clause-table : goal.enter-requires-clause-table

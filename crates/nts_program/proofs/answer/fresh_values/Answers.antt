@@ -1,7 +1,7 @@
 use Rattle.std.proofs.Common.{◌≡◌, List, [], ◌∷◌, map, refl, ap, ◌∙◌}
 use Rattle.nts_store.specs.declared.nodes.NodeId.{NodeId}
 use Rattle.nts_terms.specs.declared.handles.GenericArg.{GenericArg}
-use Rattle.nts_asking.proofs.Evaluating.{gave_fresh}
+use Rattle.nts_meaning.proofs.Evaluating.{gave_fresh}
 use Rattle.nts_store.specs.Growth.{tree_at}
 use Rattle.nts_program.proofs.Asking.{values-fresh}
 use Rattle.nts_wording.proofs.Places.{trees_unwrapped, variables_from}

@@ -6,7 +6,7 @@ use Rattle.nts_store.proofs.Escaping.{closed_by_facts, open_by_facts}
 use Rattle.nts_store.proofs.Growing.{Extends-refl}
 use Rattle.nts_terms.proofs.Moved.{KeepsRest-refl}
 use Rattle.nts_terms.proofs.Standing.{vars_tree}
-use Rattle.nts_asking.proofs.Evaluating.{Goes-extends, IsTermIn-later, env_term, kind-extended, goal_posed}
+use Rattle.nts_meaning.proofs.Evaluating.{Goes-extends, IsTermIn-later, env_term, kind-extended, goal_posed}
 use Rattle.nts_terms.specs.Kinds.{tree_of_statement}
 use Rattle.nts_theory.specs.Telling.{IsTraitStatement}
 use Rattle.nts_trying.proofs.Unasked.{other_predicate, other_clause}

@@ -2,7 +2,7 @@ use Rattle.std.proofs.Common.{rules, ◌≡◌, ◌+◌, [], ◌∷◌, Some}
 use Rattle.nts_store.specs.Growth.{tree_at}
 use Rattle.nts_store.proofs.Growing.{Extends-refl}
 use Rattle.nts_table.specs.TableLaws.{IsTable-extended}
-use Rattle.nts_asking.proofs.Evaluating.{Goes-extends}
+use Rattle.nts_meaning.proofs.Evaluating.{Goes-extends}
 use Rattle.nts_trying.proofs.Entering.{HaveEntered, have_entered, goes_entered}
 use Rattle.nts_trying.proofs.binder.open_args.Goals as goal
 

@@ -9,7 +9,7 @@ use Rattle.nts_store.specs.Growth.{tree_at, Extends}
 use Rattle.nts_store.proofs.Growing.{Extends-trans}
 use Rattle.nts_unify.specs.Reading.{content_of}
 use Rattle.nts_unify.specs.Lawful.{content_of-extended}
-use Rattle.nts_asking.proofs.Evaluating.{Goes-trans, Goes-extends}
+use Rattle.nts_meaning.proofs.Evaluating.{Goes-trans, Goes-extends}
 use Rattle.nts_trying.proofs.Entering.{opened_is_closed, knows_trait}
 use Rattle.nts_trying.proofs.binder.open_trait.Goals as goal
 

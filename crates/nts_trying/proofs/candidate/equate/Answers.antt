@@ -1,10 +1,10 @@
 use Rattle.std.proofs.Common.{◌≡◌, Err, arith, rules, ap, ◌<◌, get_or, length}
 use Rattle.nts_store.specs.declared.fault.EvalError.TheVariants as EvalError
 use Rattle.std.proofs.lemmas.List.{take_all}
-use Rattle.nts_asking.proofs.Running.{Equates-step}
+use Rattle.nts_meaning.proofs.Running.{Equates-step}
 use Rattle.nts_delegate.specs.declared.delegate.Equation.{Equation}
 use Rattle.nts_delegate.specs.Candidates.{IsEquation}
-use Rattle.nts_asking.proofs.Evaluating.{Runs-trans, AreValues-later, IsEquation-extended, equation_at, IsPosed-later}
+use Rattle.nts_meaning.proofs.Evaluating.{Runs-trans, AreValues-later, IsEquation-extended, equation_at, IsPosed-later}
 use Rattle.nts_trying.proofs.Trying.{equated_first, equated_more, none_meets}
 use Rattle.nts_trying.proofs.candidate.equate.Goals as goal
 use Rattle.nts_model.proofs.Tables.Bringing.{only-none, only-trans}

@@ -1,8 +1,8 @@
 use Rattle.std.proofs.Common.{take}
 use Rattle.nts_model.specs.Tables.Passing.{BringsOnly}
 use Rattle.nts_unify.specs.Reading.{content_of}
-use Rattle.nts_asking.specs.Running.{EquatesEach}
-use Rattle.nts_asking.specs.Evaluation.{Runs, AreValues, asked_terms}
+use Rattle.nts_meaning.specs.Running.{EquatesEach}
+use Rattle.nts_meaning.specs.Evaluation.{Runs, AreValues, asked_terms}
 use Rattle.nts_trying.specs.Choices.{EquatesCandidate}
 use Rattle.nts_trying.proofs.candidate.equate.Given as goal
 

@@ -1,4 +1,4 @@
-use Rattle.nts_asking.proofs.Evaluating.{runs-back, gave_fresh}
+use Rattle.nts_meaning.proofs.Evaluating.{runs-back, gave_fresh}
 use Rattle.nts_trying.proofs.Trying.{gave_freshened}
 use Rattle.nts_trying.proofs.candidate.fresh_values.Goals as goal
 use Rattle.nts_table.proofs.FreshLemmas.{fresh_brings}

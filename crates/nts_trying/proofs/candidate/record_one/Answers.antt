@@ -2,10 +2,10 @@ use Rattle.std.proofs.Common.{◌∙◌, map, ap, Some}
 use Rattle.nts_store.specs.Growth.{tree_at}
 use Rattle.nts_terms.proofs.Moved.{KeepsRest-refl}
 use Rattle.nts_table.specs.TableLaws.{IsTable-extended}
-use Rattle.nts_asking.proofs.Running.{constraint_stays, equality_stays}
+use Rattle.nts_meaning.proofs.Running.{constraint_stays, equality_stays}
 use Rattle.nts_delegate.proofs.Results.{OnOk-map}
 use Rattle.nts_trying.proofs.Instances.{held_values, instance_term}
-use Rattle.nts_asking.proofs.Evaluating.{Runs-trans, Runs-extends, can_fill}
+use Rattle.nts_meaning.proofs.Evaluating.{Runs-trans, Runs-extends, can_fill}
 use Rattle.nts_model.specs.Terms.Substitutions.{filled}
 use Rattle.nts_model.specs.Derivations.Handlers.{constraint_by}
 use Rattle.nts_unify.specs.Lawful.{content_of-extended}

@@ -2,7 +2,7 @@ use Rattle.std.proofs.Common.{◌≡◌, ◌<◌, ◌≤◌, arith, refl, sym, t
 use Rattle.nts_model.specs.Terms.Trees.{children, row_at, row_length}
 use Rattle.nts_store.specs.Growth.{tree_at}
 use Rattle.nts_terms.proofs.Standing.{env_tree}
-use Rattle.nts_asking.proofs.Asking.{closed_all}
+use Rattle.nts_meaning.proofs.TraitsAsked.{closed_all}
 use Rattle.nts_trying.proofs.Unasked.{in_row_at}
 use Rattle.nts_trying.proofs.kinds.statements_are_closed.Goals as goal
 

@@ -1,7 +1,7 @@
 use Rattle.nts_store.proofs.Growing.{Extends-trans}
 use Rattle.nts_table.specs.TableLaws.{IsTable-extended}
 use Rattle.nts_delegate.specs.ClausesKept.{AreClausesReady-kept}
-use Rattle.nts_asking.proofs.Evaluating.{Goes-extends, IsPosed-later, IsPosed-admitted}
+use Rattle.nts_meaning.proofs.Evaluating.{Goes-extends, IsPosed-later, IsPosed-admitted}
 use Rattle.nts_uses.proofs.Asked.{plain_kept}
 use Rattle.nts_uses.proofs.count.try_count.Goals as goal
 

@@ -1,8 +1,8 @@
 use Rattle.std.proofs.Common.{refl}
 use Rattle.nts_table.specs.TableLaws.{IsTable-extended}
 use Rattle.nts_asking.proofs.Asking.{IsAdmitted-extended}
-use Rattle.nts_asking.proofs.Evaluating.{IsPosed-admitted}
-use Rattle.nts_asking.proofs.Rounds.{search_begun}
+use Rattle.nts_meaning.proofs.Evaluating.{IsPosed-admitted}
+use Rattle.nts_meaning.proofs.Rounds.{search_begun}
 use Rattle.nts_uses.proofs.cycle.ask_in_a_search.Goals as goal
 
 pub query_of-requires : goal.query_of-requires

@@ -1,5 +1,5 @@
 use Rattle.std.proofs.Common.{map, refl}
-use Rattle.nts_asking.proofs.Evaluating.{Runs-refl}
+use Rattle.nts_meaning.proofs.Evaluating.{Runs-refl}
 use Rattle.nts_contexts.proofs.Frames.{keeps_refl, keeps_ran, posed_after, posed_more}
 use Rattle.nts_contexts.proofs.context.EvalCtxt.add_goals.Goals as goal
 

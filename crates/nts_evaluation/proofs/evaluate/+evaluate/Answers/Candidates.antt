@@ -13,15 +13,15 @@ use Rattle.nts_delegate.specs.Candidates.{IsCandidate}
 use Rattle.nts_delegate.specs.Offered.{certainty_of, candidate_of, premise_of, candidates_of}
 use Rattle.nts_delegate.proofs.Results.{IfOk-map}
 use Rattle.nts_canonical.specs.Forms.{trees_of}
-use Rattle.nts_asking.specs.Meant.{Since, rules_of}
+use Rattle.nts_meaning.specs.Meant.{Since, rules_of}
 use Rattle.nts_evaluation.proofs.Leaking.{checked}
-use Rattle.nts_asking.proofs.Asking.{IsAskedGoal-extended, kind_asked}
-use Rattle.nts_asking.proofs.AskedGoals.{trees_kept}
-use Rattle.nts_asking.proofs.AnsweredQueries.{args_later}
+use Rattle.nts_meaning.proofs.TraitsAsked.{IsAskedGoal-extended, kind_asked}
+use Rattle.nts_meaning.proofs.AskedGoals.{trees_kept}
+use Rattle.nts_meaning.proofs.AnsweredQueries.{args_later}
 use Rattle.nts_trying.proofs.Labels.{only_earlier, only_back}
-use Rattle.nts_asking.proofs.Evaluating.{Goes-trans, Goes-extends, Runs-trans, Runs-extends, rolled_back, Since-later, offers-kept, IsPosed-later, AreValues-later, IsCandidate-extended, candidate_at, goes-back, HoldsGoal-extended}
+use Rattle.nts_meaning.proofs.Evaluating.{Goes-trans, Goes-extends, Runs-trans, Runs-extends, rolled_back, Since-later, offers-kept, IsPosed-later, AreValues-later, IsCandidate-extended, candidate_at, goes-back, HoldsGoal-extended}
 use Rattle.nts_trying.proofs.Stepping.{stopped_refused, among_get}
-use Rattle.nts_asking.proofs.Running.{term_table, HasRun, has_run, both_sure, constraints-kept, offered_there, Equates-later, Constrains-later}
+use Rattle.nts_meaning.proofs.Running.{term_table, HasRun, has_run, both_sure, constraints-kept, offered_there, Equates-later, Constrains-later}
 use Rattle.nts_canonical.specs.declared.types.Canonical.{Canonical}
 use Rattle.nts_response.specs.declared.types.Response.{Response}
 use Rattle.nts_store.specs.Kept.{map-kept, AllIn-kept}
@@ -30,18 +30,18 @@ use Rattle.nts_trying.proofs.Probed.{found_in, found_still, went_in, plain_of, n
 use Rattle.nts_trying.proofs.Outcomes.{found_earlier, founds_more, founds_with, outcomes_first, outcomes_more, failed_of}
 use Rattle.nts_trying.proofs.Ran.{added_is, added_only, ran_to, ran_refused, all_proved, all_posed, proved_all, ok_inside}
 use Rattle.nts_model.specs.Derivations.Rules.{goal_kind}
-use Rattle.nts_asking.specs.Searching.{HeadsTell, assumed_in}
-use Rattle.nts_asking.proofs.Searching.{Searches-refl, Searches-trans, search_later, search_grown, search_grows, search_covers, covers_grown, served_more, tell_grown, heads_tell_later}
-use Rattle.nts_asking.specs.Answering.{is_yes, verdict_at}
-use Rattle.nts_asking.proofs.Rounds.{grown, ran, search_then}
+use Rattle.nts_meaning.specs.Searching.{HeadsTell, assumed_in}
+use Rattle.nts_meaning.proofs.Searching.{Searches-refl, Searches-trans, search_later, search_grown, search_grows, search_covers, covers_grown, served_more, tell_grown, heads_tell_later}
+use Rattle.nts_meaning.specs.Answering.{is_yes, verdict_at}
+use Rattle.nts_meaning.proofs.Rounds.{grown, ran, search_then}
 use Rattle.nts_delegate.specs.Relevant.{LeavesOut}
 use Rattle.nts_trying.proofs.LeftOut.{all_outcomes, kept_offered}
 use Rattle.nts_store.specs.declared.fault.EvalError.TheVariants as EvalError
 use Rattle.std.proofs.Common.{drop}
 use Rattle.std.proofs.lemmas.List.{drop_more}
 use Rattle.std.specs.Result.{is_err}
-use Rattle.nts_asking.specs.Answering.{is_kept}
-use Rattle.nts_asking.proofs.Running.{candidate-kept}
+use Rattle.nts_meaning.specs.Answering.{is_kept}
+use Rattle.nts_meaning.proofs.Running.{candidate-kept}
 use Rattle.nts_trying.proofs.Stepping.{among_get}
 use Rattle.nts_decisions.proofs.Faring.{among_by}
 use Rattle.nts_evaluation.specs.Deciding.{AreRootValues}
@@ -50,7 +50,7 @@ use Rattle.nts_evaluation.proofs.DecidedCandidates.{AreSoFar, none_held, so_far_
 use Rattle.nts_evaluation.proofs.FactTrials.{query_later, plain_later, over_after, facts_kept, fact_opened, held_met}
 use Rattle.nts_evaluation.specs.Deciding.{CandidatesSettled, IsOverIfSilent}
 use Rattle.nts_model.specs.Lists.{Among}
-use Rattle.nts_asking.specs.Answering.{IfAnswered, told_in}
+use Rattle.nts_meaning.specs.Answering.{IfAnswered, told_in}
 use Rattle.nts_response.specs.Forms.{response_at}
 use Rattle.nts_theory.specs.Telling.{IsResponseOf}
 use Rattle.nts_evaluation.proofs.DecidedTrials.{its_decided}

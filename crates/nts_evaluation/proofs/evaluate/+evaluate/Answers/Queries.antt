@@ -12,22 +12,22 @@ use Rattle.nts_delegate.proofs.Results.{IfOk-map, OnOk-map}
 use Rattle.nts_canonical.specs.Building.{kinds_of}
 use Rattle.nts_canonical.specs.Forms.{form_of}
 use Rattle.nts_response.specs.Forms.{response_at}
-use Rattle.nts_asking.specs.Meant.{Since, meaning_since, IsProvedNow}
-use Rattle.nts_asking.proofs.AskedGoals.{ok_both, ok_two, evaluates, asked_stays, asked_labels, response_refused, ok_three}
-use Rattle.nts_asking.proofs.Evaluating.{Runs-trans, Runs-extends, Since-later}
+use Rattle.nts_meaning.specs.Meant.{Since, meaning_since, IsProvedNow}
+use Rattle.nts_meaning.proofs.AskedGoals.{ok_both, ok_two, evaluates, asked_stays, asked_labels, response_refused, ok_three}
+use Rattle.nts_meaning.proofs.Evaluating.{Runs-trans, Runs-extends, Since-later}
 use Rattle.nts_trying.proofs.Probed.{found_fits, found_derived}
 use Rattle.nts_model.specs.Derivations.Proofs.{passed}
 use Rattle.nts_theory.proofs.Derivations.Assuming.{covers_passed}
 use Rattle.nts_search.specs.Searching.{entry_at, entries_at}
 use Rattle.nts_search.proofs.Stacked.{entries_popped}
-use Rattle.nts_asking.specs.Searching.{IsAnswerTold, IsHeadAnswer, assumed_in}
-use Rattle.nts_asking.proofs.Searching.{Searches-refl, Searches-trans, search_later, search_grown, search_grows, covers_grown, stays_more, tell_grown, heads_tell_later, search_unmarked, round_counted, form_later}
+use Rattle.nts_meaning.specs.Searching.{IsAnswerTold, IsHeadAnswer, assumed_in}
+use Rattle.nts_meaning.proofs.Searching.{Searches-refl, Searches-trans, search_later, search_grown, search_grows, covers_grown, stays_more, tell_grown, heads_tell_later, search_unmarked, round_counted, form_later}
 use Rattle.nts_search.specs.declared.stack.StackEntry.{StackEntry}
 use Rattle.nts_model.specs.Searching.Stacks.{IsDerivedFrom, IsProvedFrom, assumptions}
 use Rattle.nts_trying.specs.Found.{Found}
 use Rattle.nts_model.specs.Answers.Responses.{answer_sequent}
-use Rattle.nts_asking.proofs.Rounds.{search_noted, own_asked, own_form, round_proved, round_told, grown, ran, search_then, entry_of, holds_answer, search_pushed, tell_pushed, search_popped, round_closes, last_fits, last_told, last_refuted, last_each, first_fits, first_told, round_ends, ended_entry}
-use Rattle.nts_asking.specs.declared.round.Round.{Round}
+use Rattle.nts_meaning.proofs.Rounds.{search_noted, own_asked, own_form, round_proved, round_told, grown, ran, search_then, entry_of, holds_answer, search_pushed, tell_pushed, search_popped, round_closes, last_fits, last_told, last_refuted, last_each, first_fits, first_told, round_ends, ended_entry}
+use Rattle.nts_meaning.specs.declared.round.Round.{Round}
 use Rattle.nts_certainty.specs.declared.certainty.Certainty.TheVariants as certainty
 use Rattle.nts_table.specs.TableLaws.{IsTable-extended}
 use Rattle.nts_decisions.proofs.UnchangedAnswers.{own_granted}
@@ -36,7 +36,7 @@ use Rattle.nts_evaluation.proofs.Deciding.{decides_grown, decides_later, same_se
 use Rattle.nts_evaluation.proofs.DecidedTrials.{formed_before}
 use Rattle.nts_evaluation.proofs.DecidedQueries.{its_kinds, decided_there}
 use Rattle.nts_evaluation.proofs.DecidedRounds.{pushed_above, own_there, ended_decided, ended_fact, last_decided, applied_decided, as_query, originals_long, only_counted, round_query}
-use Rattle.nts_asking.proofs.Searching.{nothing_stands}
+use Rattle.nts_meaning.proofs.Searching.{nothing_stands}
 use Rattle.nts_evaluation.proofs.FactQueries.{fact_begun, nothing_above, round_fact, fact_query, last_fact, applied_fact}
 use Rattle.nts_evaluation.proofs.evaluate.+evaluate.Goals as goal
 

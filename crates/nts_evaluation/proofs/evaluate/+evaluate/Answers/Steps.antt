@@ -8,19 +8,19 @@ use Rattle.nts_terms.specs.declared.handles.Goal.{Goal}
 use Rattle.nts_terms.proofs.Moved.{KeepsRest-refl}
 use Rattle.nts_unify.specs.Lawful.{content_of-extended}
 use Rattle.nts_delegate.proofs.Results.{IfOk-map, OnOk-map}
-use Rattle.nts_asking.specs.Meant.{IsNestedSince}
+use Rattle.nts_meaning.specs.Meant.{IsNestedSince}
 use Rattle.nts_trying.specs.Stepping.{AreLeft, AreSettled, bound_of, none_left}
 use Rattle.nts_theory.specs.Telling.Reaches.{asks_nothing}
-use Rattle.nts_asking.proofs.AskedGoals.{evaluates_at}
-use Rattle.nts_asking.proofs.Cuts.{cut_at_first}
+use Rattle.nts_meaning.proofs.AskedGoals.{evaluates_at}
+use Rattle.nts_meaning.proofs.Cuts.{cut_at_first}
 use Rattle.nts_trying.proofs.Labels.{only_resolved}
-use Rattle.nts_asking.proofs.Evaluating.{Goes-trans, Goes-extends, Runs-trans, Runs-extends, Runs-refl, Since-later, IsPosed-later}
+use Rattle.nts_meaning.proofs.Evaluating.{Goes-trans, Goes-extends, Runs-trans, Runs-extends, Runs-refl, Since-later, IsPosed-later}
 use Rattle.nts_trying.proofs.Stepping.{among_get, posed_later, posed_left, only_one, only_left, reach_more, reach_still, after_error, stop_more, reach_step, stop_step, left_trans, settled_step, left_more, settled_proved, sure_more, left_refl}
-use Rattle.nts_asking.proofs.Running.{unread}
+use Rattle.nts_meaning.proofs.Running.{unread}
 use Rattle.nts_search.specs.Kinds.{goal_kind_of}
-use Rattle.nts_asking.specs.Searching.{assumed_in}
-use Rattle.nts_asking.proofs.Searching.{Searches-refl, Searches-trans, search_later, search_grows, search_covers, tell_grown, heads_tell_later, search_marked, goal_cut_earlier}
-use Rattle.nts_asking.proofs.Rounds.{ran, search_then}
+use Rattle.nts_meaning.specs.Searching.{assumed_in}
+use Rattle.nts_meaning.proofs.Searching.{Searches-refl, Searches-trans, search_later, search_grows, search_covers, tell_grown, heads_tell_later, search_marked, goal_cut_earlier}
+use Rattle.nts_meaning.proofs.Rounds.{ran, search_then}
 use Rattle.nts_certainty.specs.declared.sources.GoalSource.TheVariants as source
 use Rattle.nts_store.specs.declared.fault.EvalError.TheVariants as EvalError
 use Rattle.std.specs.Result.{is_err}

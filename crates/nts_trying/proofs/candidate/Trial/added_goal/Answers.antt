@@ -1,7 +1,7 @@
 use Rattle.std.proofs.Common.{◌∙◌}
 use Rattle.nts_table.specs.TableLaws.{IsTable-extended}
 use Rattle.nts_trying.proofs.Instances.{held_values, instance_term}
-use Rattle.nts_asking.proofs.Evaluating.{goal_posed, can_fill}
+use Rattle.nts_meaning.proofs.Evaluating.{goal_posed, can_fill}
 use Rattle.nts_trying.proofs.candidate.Trial.added_goal.Goals as goal
 use Rattle.nts_trying.proofs.Labels.{nested_only}
 

@@ -3,7 +3,7 @@ use Rattle.std.proofs.lemmas.List.{take_all}
 use Rattle.nts_store.proofs.Growing.{Extends-refl}
 use Rattle.nts_terms.proofs.Moved.{KeepsRest-refl}
 use Rattle.nts_trying.specs.Adding.{AreAdded}
-use Rattle.nts_asking.proofs.Evaluating.{Goes-extends, IsPosed-later, AreValues-later, IsNestedIn-extended, nested_at}
+use Rattle.nts_meaning.proofs.Evaluating.{Goes-extends, IsPosed-later, AreValues-later, IsNestedIn-extended, nested_at}
 use Rattle.nts_trying.proofs.Adding.{grown_more, added_none, added_more}
 use Rattle.nts_trying.proofs.candidate.Trial.added_goals.Goals as goal
 

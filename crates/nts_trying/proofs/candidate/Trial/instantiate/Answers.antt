@@ -2,7 +2,7 @@ use Rattle.std.proofs.Common.{refl, ap, ◌∙◌}
 use Rattle.nts_model.specs.Terms.Trees.{kind_of}
 use Rattle.nts_store.specs.Filled.{kind_of-filled}
 use Rattle.nts_store.proofs.Filling.{filled-known}
-use Rattle.nts_asking.proofs.Evaluating.{has-values}
+use Rattle.nts_meaning.proofs.Evaluating.{has-values}
 use Rattle.nts_trying.proofs.candidate.Trial.instantiate.Goals as goal
 
 pub instantiate_canonical-requires-clause-positions : goal.instantiate_canonical-requires-clause-positions

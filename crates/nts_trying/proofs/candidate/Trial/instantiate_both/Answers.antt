@@ -1,5 +1,5 @@
 use Rattle.nts_trying.proofs.Instances.{HoldsValues-extended, IsInstance-earlier, IsInstance-later}
-use Rattle.nts_asking.proofs.Evaluating.{IsOverIn-extended}
+use Rattle.nts_meaning.proofs.Evaluating.{IsOverIn-extended}
 use Rattle.nts_trying.proofs.candidate.Trial.instantiate_both.Goals as goal
 
 pub instantiate-requires-2-clause-over : goal.instantiate-requires-2-clause-over

@@ -1,0 +1,16 @@
+pub mod AnsweredQueries
+pub mod AskedGoals
+pub mod Evaluating
+pub mod Queried
+pub mod QueryTables
+pub mod Running
+pub mod SubClasses
+pub mod Told
+pub mod Fitting
+pub mod Searching
+pub mod Unchanged
+pub mod BackEdges
+pub mod Rounds
+pub mod FirstTables
+pub mod Cuts
+pub mod TraitsAsked

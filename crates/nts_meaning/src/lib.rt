@@ -1,0 +1,11 @@
+//! What an evaluation promises: what goals of a table mean, what their queries are told and refuted by, and the lemmas on these.
+//! Beside it stand the terms and the responses of a table that are asked and told.
+#![tactic(auto)]
+
+mod response;
+mod round;
+mod terms;
+
+pub use response::{Evaluated, boxed_response, make_response};
+pub use round::{Ended, Round};
+pub use terms::{resolve_goal, resolve_term};
