@@ -1,9 +1,10 @@
 -- How contexts end.
-use Rattle.std.proofs.Common.{◌≡◌, [], ◌∷◌, ◌++◌, Option, Some, None, refl, sym, ◌∙◌}
+use Rattle.std.proofs.Common.{◌≡◌, ◌⊎◌, inl, inr, [], ◌∷◌, ◌++◌, Option, Some, None, refl, sym, ◌∙◌}
 use Rattle.std.specs.Prelude.{IfSome, Result, Ok, Err, OnOk, OnErr}
 use Rattle.nts_store.specs.declared.fault.Fault.{Fault}
 use Rattle.nts_store.specs.declared.fault.Fault.TheVariants as fault
 use Rattle.nts_store.specs.declared.fault.EvalError.{EvalError}
+use Rattle.nts_store.specs.declared.fault.EvalError.TheVariants as error
 use Rattle.nts_store.specs.Errors.{error_of}
 use Rattle.nts_unify.specs.Entries.{Entries, front}
 use Rattle.nts_table.specs.Tables.{Table, IsTable}
@@ -18,6 +19,12 @@ pub answered : {R : Type 0} (o : Option Fault) (r a : Result R EvalError) → fa
 answered None r a n s f = (refl, s refl)
 answered (Some fault.Memory) r a n s f = (let no : Some fault.Memory ≡ None = rw f at n in absurd cc)
 answered (Some fault.Full) r a n s f = (let no : Some fault.Full ≡ None = rw f at n in absurd cc)
+
+-- where the universes ran out, that was answered, or kept before
+pub ran_out : {R : Type 0} (o : Option Fault) (r a : Result R EvalError) → r ≡ Err error.Full → (o ≡ None → r ≡ a) → IfSome o (λ f. r ≡ Err (error_of f)) → (a ≡ Err error.Full) ⊎ (o ≡ Some fault.Full)
+ran_out None r a q s f = inl (sym (s refl) ∙ q)
+ran_out (Some fault.Full) r a q s f = inr refl
+ran_out (Some fault.Memory) r a q s f = (let no : Err error.Memory ≡ Err error.Full = sym f ∙ q in absurd cc)
 
 -- .. and then the fault that is kept is the one that was
 pub same_after : {R : Type 0} (o : Option Fault) (r : Result R EvalError) → fault_in r ≡ None → fault_after o r ≡ o

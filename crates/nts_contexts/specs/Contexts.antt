@@ -1,9 +1,12 @@
 -- The context of an evaluation, as its callers see it.
-use Rattle.std.specs.Prelude.{◌≡◌, ℕ, List, [], ◌∷◌, ◌++◌, Some, None, IfSome, true, false, Result, OnOk}
+use Rattle.std.specs.Prelude.{◌≡◌, ◌⊎◌, ℕ, List, [], ◌∷◌, ◌++◌, Some, None, IfSome, true, false, Result, Err, OnOk}
 use Rattle.std.specs.Borrow.{MutBor}
 use Rattle.nts_model.specs.Terms.Trees.{Tree}
 use Rattle.nts_model.specs.Tables.Contents.{Content}
 use Rattle.nts_store.specs.declared.nodes.NodeId.{NodeId}
+use Rattle.nts_store.specs.declared.fault.Fault.TheVariants as fault
+use Rattle.nts_store.specs.declared.fault.EvalError.{EvalError}
+use Rattle.nts_store.specs.declared.fault.EvalError.TheVariants as error
 use Rattle.nts_store.specs.Growth.{tree_at}
 use Rattle.nts_terms.specs.declared.cx.Cx.{Cx}
 use Rattle.nts_terms.specs.declared.handles.Goal.{Goal}
@@ -104,3 +107,12 @@ pub record IsLeftByRoot {H R E : Type 0} (r : Result R E) (t : Table) (s : Cx) (
   pub cx : s ≡ c.cx.now
   pub table : OnOk r (t.entries ≡ c.table.now.entries)
   pub fault : c.state.now.fault ≡ None
+
+-- the universes ran out: that was answered, or the context keeps it as its fault
+abbrev pub RanOut : {H R : Type 0} → Result R EvalError → EvalCtxt H → Type 0
+RanOut r c = (r ≡ Err error.Full) ⊎ (c.state.now.fault ≡ Some fault.Full)
+
+-- .. in a closure whose calls are such, called with a context that begins so
+pub record RanOutIn {H R : Type 0} (calls : MutBor (EvalCtxt H) → Result R EvalError → MutBor (EvalCtxt H) → Type 0) (begins : EvalCtxt H → Type 0) : Type 0 where
+  pub answer : Result R EvalError
+  pub run : IsContextRun calls begins answer (RanOut answer)

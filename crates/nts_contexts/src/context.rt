@@ -1,11 +1,11 @@
 //! Contexts, and closures that work in them.
-ghost use Rattle.std.specs.Prelude.{◌≡◌, ◌++◌, ◌∷◌, [], length, None, Ok, Err, IfOk, IfErr, IfSome, IsSome, OnOk, OnErr};
+ghost use Rattle.std.specs.Prelude.{◌≡◌, ◌≢◌, ◌++◌, ◌∷◌, [], length, None, Ok, Err, IfOk, IfErr, IfSome, IsSome, OnOk, OnErr};
 ghost use Rattle.std.specs.Borrow.{MutBor};
 ghost use Rattle.nts_store.specs.Errors.{error_of};
 ghost use Rattle.nts_table.specs.Tables.{IsTable};
 ghost use Rattle.nts_meaning.specs.Evaluation.{Runs};
 ghost use Rattle.nts_contexts.specs.Faults.{fault_of, fault_in, fault_after, AnsweredNoFault};
-ghost use Rattle.nts_contexts.specs.Contexts.{IsContextReady, KeepsContext, IsOpened, IsRootContext, IsProbe, IsContextRun, IsLeftByRoot, IsCopy, EvaluatedNothing};
+ghost use Rattle.nts_contexts.specs.Contexts.{IsContextReady, KeepsContext, IsOpened, IsRootContext, IsProbe, IsContextRun, IsLeftByRoot, IsCopy, EvaluatedNothing, RanOutIn};
 
 use crate::state::EvalState;
 use nts_delegate::GoalHandler;
@@ -24,7 +24,7 @@ pub struct EvalCtxt<'a, H> {
 
 impl<'a, H: GoalHandler> EvalCtxt<'a, H> {
     /// What `f` answers in a root context, at the end of which no goals are to be left. Where `f` answers an error, or the
-    /// context has a fault, which is answered then, the table is as before.
+    /// context has a fault, which is answered then, the table is as before. It is `Full` only where `f` ran out of universes.
     pub fn enter_root<R: Drop, F: FnOnce(&mut EvalCtxt<'_, H>) -> Result<R, EvalError>>(
         table: &mut InferCtxt,
         cx: &mut Cx,
@@ -48,6 +48,8 @@ impl<'a, H: GoalHandler> EvalCtxt<'a, H> {
         ensures answers { AnsweredNoFault result → IsContextRun (λ b r a. F.post f b r a)
             (IsRootContext H.ready table.old cx.old handler.now root_depth span) result
             (IsLeftByRoot result table.new cx.new) }
+        ensures full { result ≡ Err EvalError.Full → RanOutIn (λ b r a. F.post f b r a)
+            (IsRootContext H.ready table.old cx.old handler.now root_depth span) }
     {
         let snapshot = table.start_snapshot()?;
         let mut state = EvalState {
@@ -77,7 +79,7 @@ impl<'a, H: GoalHandler> EvalCtxt<'a, H> {
     }
 
     /// What `f` answers in a context with the same goals. Afterwards the table, the goals and the taint are as before; a
-    /// fault that `f` met is kept.
+    /// fault that `f` met is kept. In a context without a fault it is `Full` only where `f` answers that.
     #[tactic(auto, using(crate::proofs::Frames::keeps_then, crate::proofs::Begun::probe_begun))]
     pub fn probe<R: Drop, F: FnOnce(&mut EvalCtxt<'_, H>) -> Result<R, EvalError>>(
         &mut self,
@@ -96,6 +98,8 @@ impl<'a, H: GoalHandler> EvalCtxt<'a, H> {
         ensures answers { AnsweredNoFault result → IsContextRun (λ b r a. F.post f b r a)
             (IsProbe H.ready self.old) result (λ c. c.state.now.fault ≡ self.new.state.now.fault) }
         ensures noted { IfSome (fault_in result) (λ f. IsSome self.new.state.now.fault) }
+        ensures full { self.old.state.now.fault ≡ None → result ≡ Err EvalError.Full → RanOutIn
+            (λ b r a. F.post f b r a) (IsProbe H.ready self.old) }
         ensures faulted { IfSome self.old.state.now.fault (λ f. result ≡ Err (error_of f)) }
     {
         let (mut state, snapshot) = self.begin_probe()?;
@@ -129,6 +133,7 @@ impl<'a, H: GoalHandler> EvalCtxt<'a, H> {
               self.old.state.now.fault result;
         } }
         ensures refused { IfErr result (λ e. IsSome (fault_of e)) }
+        ensures full { self.old.state.now.fault ≡ None → result ≢ Err EvalError.Full }
         ensures faulted { IfSome self.old.state.now.fault (λ f. result ≡ Err (error_of f)) }
     {
         self.state.check()?;
@@ -146,6 +151,7 @@ impl<'a, H: GoalHandler> EvalCtxt<'a, H> {
         ensures cx { self.new.cx ≡ self.old.cx }
         ensures handler { self.new.handler ≡ self.old.handler }
         ensures state { self.new.state ≡ self.old.state }
+        ensures full { result ≢ Err Fault.Full }
     {
         let state = self.state.copy(self.cx.alloc)?;
         let snapshot = self.table.start_snapshot()?;

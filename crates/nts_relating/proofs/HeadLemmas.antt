@@ -164,4 +164,3 @@ region_root ts e t l n r h k is i root =
       of_kind = cc;
       state = is_unset w.0.state (root.ends w.0 w.1) (λ v q. (h.sound.fits r (tree_at ts v) kind.Region (state ∙ ap (λ y. Some (state_with ts y)) q) region).1 refl);
     }
-

@@ -295,4 +295,3 @@ alone_label (label.Const q) e f = refl
 alone_label (label.Clause q) e f = refl
 alone_label (label.Predicate q) e f = refl
 alone_label (label.List q) e f = refl
-

@@ -654,4 +654,3 @@ if_plain ts us e m f a b (Err x) same k = tt
 pub if_ties : {A E : Type 0} (ts us : List Tree) (e m f : Entries) (r : Result A E) → OnOk r (f ≡ m) → OnOk r (TiesNew (content_of ts e) (content_of us m)) → OnOk r (TiesNew (content_of ts e) (content_of us f))
 if_ties ts us e m f (Ok v) same k = rw same k
 if_ties ts us e m f (Err x) same k = tt
-

@@ -73,4 +73,3 @@ pub rank-push : (r t : Tree) → IsRow r → variable_rank (row_push r t) ≡ 0
 rank-push empty t h = refl
 rank-push (more a b) t h = refl
 rank-push (node l c) t h = absurd h
-

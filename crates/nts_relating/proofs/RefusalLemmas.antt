@@ -219,4 +219,3 @@ refuse_heads ts e ps p a b l m ha hb ia ib two apart =
 -- what is refused later was refused before
 pub Refuses-before : {c d : Content} {ps qs : List (Tree × Tree)} → Reduces c d ps qs → Refuses d qs → Refuses c ps
 Refuses-before a h = record { none = λ w z q. (let r = a.complete w z q in h.none r.0.world r.0.solves r.1) }
-

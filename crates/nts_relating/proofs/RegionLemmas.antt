@@ -170,4 +170,3 @@ regions_recorded ts e f x h left right equal visible q =
       alike = AreAlike-regions d a b (IsSound-with_constraint c (recorded_of ts x) h.sound) left.free right.free held;
       brings = brings-with_constraint c (recorded_of ts x);
     })
-

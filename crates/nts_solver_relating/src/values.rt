@@ -114,6 +114,7 @@ impl RelateExt for InferCtxt {
             rhs.node(),
         )
     }
+
     fn eq_structurally_relating_aliases<T: Relate>(
         &mut self,
         cx: &mut Cx,

@@ -27,9 +27,9 @@ ghost use Rattle.nts_terms.specs.Rest.{Grows};
 
 use nts_certainty::GoalSource;
 use nts_delegate::{CandidateData, CandidateGoal, Equation, RegionConstraint};
+use nts_equating::relate_nodes;
 use nts_model::{Relation, Sort};
 use nts_store::{EvalError, Fault, NodeId, instantiate_canonical};
-use nts_equating::relate_nodes;
 use nts_table::InferCtxt;
 use nts_terms::{Cx, Goal, ParamEnv, Predicate, Region, Span, Ty, VisibleForLeakCheck};
 
