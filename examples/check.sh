@@ -1,7 +1,8 @@
 #!/usr/bin/env bash
 # Compares the library example of README.md with the crate that it is quoted from. Then runs each program NAME.nts of this
 # folder, over one build and without proof, and compares what it prints with NAME.out; and one whose types are nested 50,000 deep.
-# Where the proved program is built (the gate leaves it), it is then used by hand: each answer comes before the next line is sent.
+# The short texts of cases/ follow. Where the proved program is built (the gate leaves it), it runs these, and is then used by
+# hand: each answer comes before the next line is sent.
 set -u
 here=$(cd "$(dirname "$0")" && pwd)
 quoted=$(sed -n '/^```rust$/,/^```$/p' "$here/../README.md" | sed '1d;$d')
@@ -35,6 +36,7 @@ else
     echo "examples: not all print what they should"
     exit 1
 fi
+python3 "$here/cases.py" || exit 1
 
 by_hand() {
     coproc nts { "$here/../crates/nts/out/nts"; }

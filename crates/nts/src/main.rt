@@ -5,8 +5,6 @@
 #![tactic(auto)]
 
 #[cfg(test)]
-mod determinate_tests;
-#[cfg(test)]
 mod failing_tests;
 #[cfg(test)]
 mod limit_tests;

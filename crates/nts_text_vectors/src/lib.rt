@@ -1,4 +1,4 @@
-//! Tests of the text of `nts`: which lines are taken and as what, and why lines are refused.
+//! Tests of the text of `nts`: what its lines ask for.
 #![tactic(auto)]
 
 #[cfg(test)]

@@ -1,10 +1,9 @@
-//! Whole lines, and their refusals.
+//! What lines ask for, and the numbers of their names. Which lines are refused, and why, is told by `examples/cases`.
 
 use nts_model::{Sort, UintTy, Variance};
 use nts_text::*;
-use std::alloc::{AllocError, Global};
+use std::alloc::Global;
 use std::process::Abort;
-use std::test::Fail;
 
 /// What the lines before declared, and what the last line named.
 #[derive(Drop)]
@@ -20,225 +19,54 @@ impl Lines {
         Self { names, scope }
     }
 
-    fn read(&mut self, alloc: Global, line: &[u8]) -> Result<Option<Command>, TextError> {
-        read_command(alloc, line, &mut self.names, &mut self.scope)
+    /// What a line asks for that is taken.
+    fn read(&mut self, rt: &impl Abort, alloc: Global, line: &[u8]) -> Option<Command> {
+        let read = read_command(alloc, line, &mut self.names, &mut self.scope);
+        read.expect(rt, "a line that is taken")
     }
 
-    /// Reads lines until one is refused, and says which one and why, or `None` if all are taken.
-    fn read_all(&mut self, alloc: Global, text: &[u8]) -> Result<Option<(usize, Refusal)>, Fail> {
-        let mut reader = text;
-        let mut line = Vec::new(alloc);
-        for number in 1..1000usize {
-            if !next_line(&mut reader, &mut line)? {
-                break;
-            }
-            let read = self.read(alloc, &line);
-            if let Some(refusal) = refusal(read)? {
-                return Ok(Some((number, refusal)));
-            }
+    /// What the last of these lines asks for.
+    fn read_all(&mut self, rt: &impl Abort, alloc: Global, lines: &[&[u8]]) -> Command {
+        let mut last = None;
+        for line in lines {
+            last = self.read(rt, alloc, line);
         }
-        Ok(None)
-    }
-
-    /// Reads a line behind others, none of which is refused.
-    fn read_behind(
-        &mut self,
-        alloc: Global,
-        before: &[u8],
-        line: &[u8],
-    ) -> Result<Option<Command>, Fail> {
-        if self.read_all(alloc, before)?.is_some() {
-            return Err(Fail::from("a line before is refused"));
-        }
-        Ok(self.read(alloc, line)?)
+        last.expect(rt, "a command")
     }
 }
 
-/// Why a line is refused, or `None` if it is taken.
-fn refusal(read: Result<Option<Command>, TextError>) -> Result<Option<Refusal>, Fail> {
-    match read {
-        Ok(_) => Ok(None),
-        Err(TextError::Refused(refusal)) => Ok(Some(refusal)),
-        Err(TextError::Memory) => Err(Fail::from("out of memory")),
-    }
+/// What the last of these lines asks for. A function that owns names takes long to prove, so the tests leave it to this one.
+fn last_command(rt: &impl Abort, alloc: Global, lines: &[&[u8]]) -> Command {
+    Lines::new(alloc).read_all(rt, alloc, lines)
 }
 
-/// What a line asks for, behind other lines. A function that owns names lets control leave at one place
-/// alone: each more makes its proof ten seconds longer.
-fn command_behind(alloc: Global, before: &[u8], line: &[u8]) -> Result<Option<Command>, Fail> {
-    let mut lines = Lines::new(alloc);
-    lines.read_behind(alloc, before, line)
-}
-
-/// The first line that is refused, and why, or `None` if all are taken.
-fn refusal_of(alloc: Global, text: &[u8]) -> Result<Option<(usize, Refusal)>, Fail> {
-    Lines::new(alloc).read_all(alloc, text)
-}
-
-/// Sees that each of these lines is refused for that reason, as the line of that number, behind the text before it.
-fn refuse(
-    rt: &impl Abort,
-    alloc: Global,
-    before: &[u8],
-    number: usize,
-    refusal: Refusal,
-    lines: &[u8],
-) -> Result<(), Fail> {
-    let mut reader = lines;
-    let mut line = Vec::new(alloc);
-    for _ in 0..1000usize {
-        if !next_line(&mut reader, &mut line)? {
-            break;
-        }
-        let mut text = Vec::from_slice(alloc, before)?;
-        text.extend_from_slice(&line)?;
-        assert!(rt;
-            refusal_of(alloc, &text)? == Some((number, refusal)),
-            "in {text:?}"
-        );
-    }
-    Ok(())
-}
-
-#[test]
-fn refuses_commands(rt: HostRuntime) -> Result<(), Fail> {
-    let lines = b"gaol x\ngaol \x80\n\x80\n # x\nfor<a> T(a)\nalias A";
-    refuse(&rt, rt.alloc(), b"", 1, Refusal::UnknownCommand, lines)?;
-    let before = b"\n\n# note\n\t \n";
-    refuse(
-        &rt,
-        rt.alloc(),
-        before,
-        5,
-        Refusal::UnknownCommand,
-        b"goals",
-    )
-}
-
-#[test]
-fn refuses_syntax(rt: HostRuntime) -> Result<(), Fail> {
-    let lines = b"goal\ntype X\x80\ntype\x80\ntype X # note\ntype X\rY\ntype X()\ntype X(+type)\n\
-        type X(type,)\ntype ?X\ntrait T\ntrait T(-type)\ntrait T(type) inductive\nmode erased\n\
-        depth 65536 x\ndepth -1\ngoal Clone(\ngoal Clone\ngoal Clone(u8))\ngoal Clone(u8 u8)\n\
-        goal Clone(?x(u8))\ngoal Clone(u8), Clone(u8)\ngoal Clone(? x)\ngoal u8: 'a\ngoal?x: 'a\n\
-        impl T(u8) <-\nimpl T(u8), T(u8)\nimpl T(u8) <- T(u8) <- T(u8)";
-    refuse(&rt, rt.alloc(), b"", 1, Refusal::Syntax, lines)
-}
-
-/// A binder that is cut, empty, or in the wrong place, and marks that it may not bind.
-#[test]
-fn refuses_binders(rt: HostRuntime) -> Result<(), Fail> {
-    let lines = b"goal for<\ngoal for<a\ngoal for<a,\ngoal for<a>\ngoal for<a> T\ngoal for<a> T(\n\
-        goal for<> T(u8)\ngoal for<,> T(u8)\ngoal for<a,> T(a)\ngoal for<,a> T(a)\ngoal for<a b> T(a)\n\
-        goal for<a(u8)> T(a)\ngoal for<?a> T(u8)\ngoal for<!a> T(u8)\ngoal for<'?a> T(u8)\ngoal for<1> T(u8)\n\
-        goal for <a> T(a)\ngoal for<a>> T(a)\ngoal for<a), T(u8)\ngoal for<a> for<b> T(a)\ngoal for<for<a> T(a)\n\
-        goal T(for<a> a)\ngoal T(u8) for<a>\ngoal for<a> T(a), T(u8)\ngoal for<a> ?x(a)\nimpl for<a> T(a)\n\
-        impl T(u8) <- for<a>\nimpl T(u8) <- for<a> T(a) T(u8)\nimpl T(u8) <- T(u8), for<a>, T(u8)\n\
-        trait for<a> T(type)\ntype for<a>\ndepth for<a>\nmode for<a>";
-    refuse(&rt, rt.alloc(), b"", 1, Refusal::Syntax, lines)
-}
-
-#[test]
-fn refuses_numbers(rt: HostRuntime) -> Result<(), Fail> {
-    let lines = b"depth 65536\ndepth 99999999999999999999";
-    refuse(&rt, rt.alloc(), b"", 1, Refusal::NumberOutOfRange, lines)
-}
-
-#[test]
-fn refuses_names(rt: HostRuntime) -> Result<(), Fail> {
-    let alloc = rt.alloc();
-    let types = b"trait A(type)\n";
-    let regions = b"trait A(region)\n";
-    refuse(&rt, alloc, b"", 1, Refusal::UnknownName, b"goal Clone(u32)")?;
-    refuse(&rt, alloc, regions, 2, Refusal::UnknownName, b"goal A(Zzz)")?;
-    refuse(
-        &rt,
-        alloc,
-        types,
-        2,
-        Refusal::UnknownName,
-        b"goal A(Zzz(u8(u8)))",
-    )?;
-    refuse(&rt, alloc, types, 2, Refusal::NameDeclaredTwice, b"type A")?;
-    refuse(&rt, alloc, b"", 1, Refusal::NameDeclaredTwice, b"type u8")
-}
-
-#[test]
-fn refuses_arguments(rt: HostRuntime) -> Result<(), Fail> {
-    let alloc = rt.alloc();
-    let types = b"trait A(type)\n";
-    let regions = b"trait A(region)\n";
-    let lines = b"goal A(u8, u8)\ngoal A(u8, Zzz)\ngoal A(u8(u8))\ngoal A(A)\ngoal A('a)";
-    refuse(&rt, alloc, types, 2, Refusal::WrongArguments, lines)?;
-    let lines = b"goal A(u8)\nimpl A(!B)";
-    refuse(&rt, alloc, regions, 2, Refusal::WrongArguments, lines)?;
-    refuse(&rt, alloc, b"", 1, Refusal::WrongArguments, b"goal u8(u8)")?;
-    let lines = b"impl A(!B)\nimpl A(u8) <- A(!B), B(u8)";
-    refuse(&rt, alloc, types, 2, Refusal::ParameterInAClause, lines)?;
-    refuse(
-        &rt,
-        alloc,
-        regions,
-        2,
-        Refusal::ParameterInAClause,
-        b"impl A('b)",
-    )
-}
-
-/// The reasons about names of binders, among others from left to right.
-#[test]
-fn refuses_bound_names(rt: HostRuntime) -> Result<(), Fail> {
-    let alloc = rt.alloc();
-    let before = b"trait T(type, type)\ntrait S(region)\ntype V(type)\n";
-    let lines =
-        b"goal for<u8> T(u8, u8)\ngoal for<V> T(u8, u8)\ngoal for<T> S(Zzz)\ngoal for<'static> S('a)\n\
-        goal for<P, P> T(P, P)\ngoal for<'a, 'a> S('a)\ngoal for<P, 'a, P> Zzz(P)\n\
-        impl T(?x, ?x) <- S('?r), for<u8> S(u8)\nimpl T(?x, ?x) <- for<P, 'a, 'a> T(!A, P)";
-    refuse(&rt, alloc, before, 4, Refusal::NameDeclaredTwice, lines)?;
-    let lines =
-        b"goal for<P> S(P)\ngoal for<'a> T('a, u8)\ngoal for<P> T(P(u8), Zzz)\ngoal for<P> P(u8)\n\
-        goal for<P> V(u8)\ngoal for<P> T(u8)\nimpl S('?r) <- for<P> S(P), T(!A, u8)";
-    refuse(&rt, alloc, before, 4, Refusal::WrongArguments, lines)?;
-    let lines =
-        b"goal for<'P> T(P, P)\ngoal for<P> Zzz(P)\nimpl S('?r) <- for<P> T(P, P), T(P, P)\n\
-        impl S('?r) <- T(P, P), for<P> T(P, P)";
-    refuse(&rt, alloc, before, 4, Refusal::UnknownName, lines)?;
-    let lines = b"impl S('?r) <- for<P> S('P)\nimpl S('?r) <- for<'a> S('a), S('a)";
-    refuse(&rt, alloc, before, 4, Refusal::ParameterInAClause, lines)
-}
-
-#[test]
-fn takes_binders(rt: HostRuntime) -> Result<(), Fail> {
-    let text = b"trait T(type, type)\ntrait S(region)\ntype Ref(region, type)\ntype for\n\
-        goal for<P>T(P,?x)\ngoal\tfor< P , 'a , Q >\tT ( Ref('a, P), Q )\ngoal for<'a> S('a)\ngoal for<'b> S('a)\n\
-        goal for<P, 'P> T(P, Ref('P, u8))\ngoal T(for, for)\nimpl T(u8, ?x) <- for<P> T(P, ?x), for<P, 'a> T(P, Ref('a, P))\n\
-        impl S('?r) <- for<'a> S('a), T(u8, u8), for<'a> S('?r)\ntype P\ngoal for<Q> T(P, Q)";
-    assert!(rt; refusal_of(rt.alloc(), text)?.is_none());
-    Ok(())
-}
-
-#[test]
-fn takes(rt: HostRuntime) -> Result<(), Fail> {
-    let text = b"# note\r\n\n \t\nmode coherence\nmode postanalysis\r\n\tdepth 0000000000065535\n\
-        type type\ntype for\ntype Ref ( region , type )\ntype Fn(-type, =type, type)\n\
-        trait coinductive(type)coinductive\ntrait S(region)\n\
-        impl coinductive(Ref('static, ?x))<-coinductive(?x),S('?r)\n\
-        goal coinductive(Fn(type, for, Ref('a, !A)))";
-    assert!(rt; refusal_of(rt.alloc(), text)?.is_none());
-    Ok(())
-}
-
-/// The nodes of the predicate of a command that asks a goal.
-fn nodes_of(command: Option<Command>) -> Result<Vec<Resolved>, Fail> {
+/// Sees that a command asks a goal of these nodes, in parts.
+fn see_goal(rt: &impl Abort, command: &Command, parts: &[&[Resolved]]) {
     match command {
-        Some(Command::Goal(nodes)) => Ok(nodes),
-        _ => Err(Fail::from("no goal")),
+        Command::Goal(nodes) => see_nodes(rt, nodes, parts),
+        _ => panic!(rt; "no goal"),
     }
 }
 
-/// The nodes of the predicate of a line that asks a goal, behind the lines of these declarations.
-fn goal_nodes(alloc: Global, before: &[u8], line: &[u8]) -> Result<Vec<Resolved>, Fail> {
-    nodes_of(command_behind(alloc, before, line)?)
+/// Sees that a command states a clause of a head and a body of these nodes, the body in parts.
+fn see_clause(rt: &impl Abort, command: &Command, wanted: &[Resolved], parts: &[&[Resolved]]) {
+    match command {
+        Command::Impl { head, body } => {
+            assert!(rt; head.as_slice() == wanted);
+            see_nodes(rt, body, parts);
+        }
+        _ => panic!(rt; "no clause"),
+    }
+}
+
+fn see_nodes(rt: &impl Abort, nodes: &[Resolved], parts: &[&[Resolved]]) {
+    let mut seen = 0usize;
+    for part in parts {
+        let end = seen.saturating_add(part.len());
+        assert!(rt; nodes.get(seen..end) == Some(*part));
+        seen = end;
+    }
+    assert_eq!(rt; seen, nodes.len());
 }
 
 /// A type constructor, by its number and how many arguments it takes.
@@ -246,125 +74,114 @@ fn ctor(number: usize, arguments: usize) -> Resolved {
     Resolved::Ctor { number, arguments }
 }
 
+/// A trait, likewise.
+fn trait_of(number: usize, arguments: usize) -> Resolved {
+    Resolved::Trait { number, arguments }
+}
+
 #[test]
-fn numbers_names(rt: HostRuntime) -> Result<(), Fail> {
-    let before = b"trait S(type)\ntype V(type)\ntype Ref(region, type)\ntrait T(type, type)";
-    let line = b"goal T(Ref('?r, V(?y)), Ref('?r, V(!B)))";
-    let nodes = goal_nodes(rt.alloc(), before, line)?;
-    let head = Resolved::Trait {
-        number: 1,
-        arguments: 2,
-    };
-    let first = [head, ctor(1, 2), Resolved::RegionVariable(0), ctor(0, 1)];
-    let second = [
-        Resolved::TypeVariable(0),
-        ctor(1, 2),
-        Resolved::RegionVariable(0),
+fn numbers_names(rt: HostRuntime) {
+    let lines: [&[u8]; 5] = [
+        b"trait S(type)",
+        b"type V(type)",
+        b"type Ref(region, type)",
+        b"trait T(type, type)",
+        b"goal T(Ref('?r, V(?y)), Ref('?r, V(!B)))",
     ];
-    let third = [ctor(0, 1), Resolved::TypeParam(0)];
-    assert!(rt; nodes.get(..4) == Some(first.as_slice()));
-    assert!(rt; nodes.get(4..7) == Some(second.as_slice()));
-    assert!(rt; nodes.get(7..) == Some(third.as_slice()));
-    Ok(())
+    let region = Resolved::RegionVariable(0);
+    let first = [ctor(1, 2), region, ctor(0, 1), Resolved::TypeVariable(0)];
+    let second = [ctor(1, 2), region, ctor(0, 1), Resolved::TypeParam(0)];
+    let command = last_command(&rt, rt.alloc(), &lines);
+    see_goal(&rt, &command, &[&[trait_of(1, 2)], &first, &second]);
 }
 
 /// What a binder binds has its place in the list as its number, whatever its sort.
 #[test]
-fn numbers_bound_names(rt: HostRuntime) -> Result<(), Fail> {
-    let before = b"trait T(type, type)\ntype Ref(region, type)";
-    let line = b"goal for<'a, P, 'b> T(Ref('b, P), Ref('c, P))";
-    let nodes = goal_nodes(rt.alloc(), before, line)?;
-    let head = Resolved::Trait {
-        number: 0,
-        arguments: 2,
-    };
-    let binder = [
-        Resolved::Binds(Sort::Region),
-        Resolved::Binds(Sort::Ty),
-        Resolved::Binds(Sort::Region),
-        head,
+fn numbers_bound_names(rt: HostRuntime) {
+    let lines: [&[u8]; 3] = [
+        b"trait T(type, type)",
+        b"type Ref(region, type)",
+        b"goal for<'a, P, 'b> T(Ref('b, P), Ref('c, P))",
     ];
+    let region = Resolved::Binds(Sort::Region);
+    let binder = [region, Resolved::Binds(Sort::Ty), region];
     let first = [ctor(0, 2), Resolved::BoundRegion(2), Resolved::BoundType(1)];
     let second = [ctor(0, 2), Resolved::RegionParam(0), Resolved::BoundType(1)];
-    assert!(rt; nodes.get(..4) == Some(binder.as_slice()));
-    assert!(rt; nodes.get(4..7) == Some(first.as_slice()));
-    assert!(rt; nodes.get(7..) == Some(second.as_slice()));
-    Ok(())
-}
-
-/// The nodes of the head and of the body of a command that states a clause.
-fn clause_of(command: Option<Command>) -> Result<(Vec<Resolved>, Vec<Resolved>), Fail> {
-    match command {
-        Some(Command::Impl { head, body }) => Ok((head, body)),
-        _ => Err(Fail::from("no clause")),
-    }
-}
-
-/// The nodes of a line that states a clause, behind the lines of these declarations.
-fn clause_nodes(
-    alloc: Global,
-    before: &[u8],
-    line: &[u8],
-) -> Result<(Vec<Resolved>, Vec<Resolved>), Fail> {
-    clause_of(command_behind(alloc, before, line)?)
+    let command = last_command(&rt, rt.alloc(), &lines);
+    see_goal(
+        &rt,
+        &command,
+        &[&binder, &[trait_of(0, 2)], &first, &second],
+    );
 }
 
 /// Each predicate of a clause has names of its own.
 #[test]
-fn binds_in_each_predicate(rt: HostRuntime) -> Result<(), Fail> {
-    let line = b"impl S(u8) <- for<Q, P> S(P), S(u16), for<P> S(P)";
-    let (head, body) = clause_nodes(rt.alloc(), b"trait S(type)", line)?;
-    let trait_s = Resolved::Trait {
-        number: 0,
-        arguments: 1,
-    };
+fn binds_in_each_predicate(rt: HostRuntime) {
+    let lines: [&[u8]; 2] = [
+        b"trait S(type)",
+        b"impl S(u8) <- for<Q, P> S(P), S(u16), for<P> S(P)",
+    ];
+    let holds = trait_of(0, 1);
     let binds = Resolved::Binds(Sort::Ty);
-    let first = [binds, binds, trait_s, Resolved::BoundType(1)];
-    let second = [trait_s, Resolved::Uint(UintTy::U16)];
-    let third = [binds, trait_s, Resolved::BoundType(0)];
-    assert!(rt; head.as_slice() == [trait_s, Resolved::Uint(UintTy::U8)].as_slice());
-    assert!(rt; body.get(..4) == Some(first.as_slice()));
-    assert!(rt; body.get(4..6) == Some(second.as_slice()));
-    assert!(rt; body.get(6..) == Some(third.as_slice()));
-    Ok(())
+    let head = [holds, Resolved::Uint(UintTy::U8)];
+    let first = [binds, binds, holds, Resolved::BoundType(1)];
+    let second = [holds, Resolved::Uint(UintTy::U16)];
+    let third = [binds, holds, Resolved::BoundType(0)];
+    let command = last_command(&rt, rt.alloc(), &lines);
+    see_clause(&rt, &command, &head, &[&first, &second, &third]);
+}
+
+/// Adds so many bytes, or words.
+fn append(rt: &impl Abort, line: &mut Vec<u8>, count: usize, word: &[u8]) {
+    for _ in 0..count {
+        line.extend_from_slice(word).expect(rt, "memory");
+    }
 }
 
 /// A line that asks for a type below this many constructors.
-fn deep_line(alloc: Global, depth: usize) -> Result<Vec<u8>, AllocError> {
-    let mut line = Vec::from_slice(alloc, b"goal T(")?;
-    for _ in 0..depth {
-        line.extend_from_slice(b"V(")?;
+fn deep_line(rt: &impl Abort, line: &mut Vec<u8>, depth: usize) {
+    append(rt, line, 1, b"goal T(");
+    append(rt, line, depth, b"V(");
+    append(rt, line, 1, b"u8)");
+    append(rt, line, depth, b")");
+}
+
+fn see_deep(rt: &impl Abort, command: &Command, depth: usize) {
+    match command {
+        Command::Goal(nodes) => {
+            assert!(rt; nodes.len() == depth && nodes.last() == Some(&Resolved::Uint(UintTy::U8)));
+        }
+        _ => panic!(rt; "no goal"),
     }
-    line.extend_from_slice(b"u8)")?;
-    for _ in 0..depth {
-        line.push(b')')?;
-    }
-    Ok(line)
 }
 
 #[test]
-fn nests_deeply(rt: HostRuntime) -> Result<(), Fail> {
-    let line = deep_line(rt.alloc(), 100_000)?;
-    let nodes = goal_nodes(rt.alloc(), b"trait T(type)\ntype V(type)", &line)?;
-    assert_eq!(rt; nodes.len(), 100_002);
-    assert!(rt; nodes.last() == Some(&Resolved::Uint(UintTy::U8)));
-    Ok(())
+fn nests_deeply(rt: HostRuntime) {
+    let mut line = Vec::new(rt.alloc());
+    deep_line(&rt, &mut line, 100_000);
+    let lines: [&[u8]; 3] = [b"trait T(type)", b"type V(type)", &line];
+    see_deep(&rt, &last_command(&rt, rt.alloc(), &lines), 100_002);
 }
 
 #[test]
-fn ends_lines(rt: HostRuntime) -> Result<(), Fail> {
+fn ends_lines(rt: HostRuntime) {
     let mut reader = b"one\r\n\r\r\n\ntwo\r".as_slice();
     let mut line = Vec::new(rt.alloc());
     for want in [b"one".as_slice(), b"\r", b"", b"two"] {
-        assert!(rt; next_line(&mut reader, &mut line)?);
+        assert!(rt; next_line(&mut reader, &mut line) == Ok(true));
         assert!(rt; line.as_slice() == want);
     }
-    assert!(rt; !next_line(&mut reader, &mut line)?);
-    Ok(())
+    assert!(rt; next_line(&mut reader, &mut line) == Ok(false));
+}
+
+fn see_shown(rt: &impl Abort, alloc: Global, refusal: Refusal, words: &str) {
+    let shown = format!(in alloc; "{refusal}").expect(rt, "memory");
+    assert!(rt; shown.as_str() == words);
 }
 
 #[test]
-fn shows_refusals(rt: HostRuntime) -> Result<(), Fail> {
+fn shows_refusals(rt: HostRuntime) {
     for (refusal, words) in [
         (Refusal::UnknownCommand, "unknown command"),
         (Refusal::Syntax, "syntax"),
@@ -378,39 +195,24 @@ fn shows_refusals(rt: HostRuntime) -> Result<(), Fail> {
             "variable in an environment",
         ),
     ] {
-        let shown = format!(in rt.alloc(); "{refusal}")?;
-        assert_eq!(rt; shown.as_str(), words);
-    }
-    Ok(())
-}
-
-/// The number and the parameters of a command that declares a type.
-fn declared_type(command: Option<Command>) -> Result<(usize, Vec<Param>), Fail> {
-    match command {
-        Some(Command::Type { number, params }) => Ok((number, params)),
-        _ => Err(Fail::from("no type")),
+        see_shown(&rt, rt.alloc(), refusal, words);
     }
 }
 
-/// The number of a command that declares a trait, and whether it is coinductive.
-fn declared_trait(command: Option<Command>) -> Result<(usize, bool), Fail> {
+/// Sees that a command declares the type of this number, with these parameters.
+fn see_type(rt: &impl Abort, command: &Command, wanted: usize, of: &[Param]) {
     match command {
-        Some(
-            Command::Trait {
-                number,
-                coinductive,
-            },
-        ) => Ok((number, coinductive)),
-        _ => Err(Fail::from("no trait")),
+        Command::Type { number, params } => {
+            assert!(rt; *number == wanted && params.as_slice() == of);
+        }
+        _ => panic!(rt; "no type"),
     }
 }
 
 #[test]
-fn numbers_types(rt: HostRuntime) -> Result<(), Fail> {
-    let alloc = rt.alloc();
-    let line = b"type Fn(-type, =region)";
-    let (first, params) = declared_type(command_behind(alloc, b"", line)?)?;
-    let want = [
+fn numbers_types(rt: HostRuntime) {
+    let lines: [&[u8]; 2] = [b"type Fn(-type, =region)", b"type Leaf"];
+    let of = [
         Param {
             sort: Sort::Ty,
             variance: Variance::Contravariant,
@@ -420,58 +222,59 @@ fn numbers_types(rt: HostRuntime) -> Result<(), Fail> {
             variance: Variance::Invariant,
         },
     ];
-    assert_eq!(rt; first, 0);
-    assert!(rt; params.as_slice() == want.as_slice());
-    let (second, params) = declared_type(command_behind(alloc, line, b"type Leaf")?)?;
-    assert_eq!(rt; second, 1);
-    assert!(rt; params.is_empty());
-    Ok(())
+    let first = last_command(&rt, rt.alloc(), &lines[..1]);
+    see_type(&rt, &first, 0, &of);
+    let second = last_command(&rt, rt.alloc(), &lines);
+    see_type(&rt, &second, 1, &[]);
+}
+
+/// Sees that a command declares the trait of this number, coinductive or not.
+fn see_trait(rt: &impl Abort, command: &Command, wanted: usize, is: bool) {
+    match command {
+        Command::Trait {
+            number,
+            coinductive,
+        } => {
+            assert!(rt; *number == wanted && *coinductive == is);
+        }
+        _ => panic!(rt; "no trait"),
+    }
 }
 
 #[test]
-fn numbers_traits(rt: HostRuntime) -> Result<(), Fail> {
-    let alloc = rt.alloc();
-    let line = b"trait S(type, region)";
-    let (first, coinductive) = declared_trait(command_behind(alloc, b"", line)?)?;
-    assert_eq!(rt; first, 0);
-    assert!(rt; !coinductive);
-    let next = b"trait T(region) coinductive";
-    let (second, coinductive) = declared_trait(command_behind(alloc, line, next)?)?;
-    assert_eq!(rt; second, 1);
-    assert!(rt; coinductive);
-    Ok(())
+fn numbers_traits(rt: HostRuntime) {
+    let lines: [&[u8]; 2] = [b"trait S(type, region)", b"trait T(region) coinductive"];
+    let first = last_command(&rt, rt.alloc(), &lines[..1]);
+    see_trait(&rt, &first, 0, false);
+    let second = last_command(&rt, rt.alloc(), &lines);
+    see_trait(&rt, &second, 1, true);
 }
 
-fn see_types(rt: &impl Abort, alloc: Global, lines: &mut Lines) -> Result<(), Fail> {
-    lines.read(alloc, b"type Fn(-type, =region, type)")?;
-    let Some(function) = lines.names.types.first() else {
-        return Err(Fail::from("no type is listed"));
+fn see_signature(rt: &impl Abort, seen: &Signature, name: &[u8], sorts: &[Sort]) {
+    assert!(rt; seen.name.as_slice() == name && seen.sorts.as_slice() == sorts);
+}
+
+fn see_signatures(rt: &impl Abort, names: &NameTable) {
+    let ([function], [first, second]) = (names.types.as_slice(), names.traits.as_slice()) else {
+        panic!(rt; "not one type and two traits are listed");
     };
-    assert!(rt; function.name.as_slice() == b"Fn".as_slice());
-    assert!(rt; function.sorts.as_slice() == [Sort::Ty, Sort::Region, Sort::Ty].as_slice());
-    Ok(())
+    see_signature(rt, function, b"Fn", &[Sort::Ty, Sort::Region, Sort::Ty]);
+    see_signature(rt, first, b"S", &[Sort::Ty, Sort::Region]);
+    see_signature(rt, second, b"T", &[Sort::Region]);
+}
+
+fn see_listed(rt: &impl Abort, alloc: Global, names: &mut Lines) {
+    let lines: [&[u8]; 3] = [
+        b"type Fn(-type, =region, type)",
+        b"trait S(type, region)",
+        b"trait T(region) coinductive",
+    ];
+    names.read_all(rt, alloc, &lines);
+    see_signatures(rt, &names.names);
 }
 
 #[test]
-fn lists_types(rt: HostRuntime) -> Result<(), Fail> {
-    let mut lines = Lines::new(rt.alloc());
-    see_types(&rt, rt.alloc(), &mut lines)
-}
-
-fn see_traits(rt: &impl Abort, alloc: Global, lines: &mut Lines) -> Result<(), Fail> {
-    lines.read(alloc, b"trait S(type, region)")?;
-    lines.read(alloc, b"trait T(region) coinductive")?;
-    let [first, second] = lines.names.traits.as_slice() else {
-        return Err(Fail::from("not two traits are listed"));
-    };
-    assert!(rt; first.name.as_slice() == b"S".as_slice());
-    assert!(rt; first.sorts.as_slice() == [Sort::Ty, Sort::Region].as_slice());
-    assert!(rt; second.name.as_slice() == b"T".as_slice());
-    Ok(())
-}
-
-#[test]
-fn lists_traits(rt: HostRuntime) -> Result<(), Fail> {
-    let mut lines = Lines::new(rt.alloc());
-    see_traits(&rt, rt.alloc(), &mut lines)
+fn lists_names(rt: HostRuntime) {
+    let mut names = Lines::new(rt.alloc());
+    see_listed(&rt, rt.alloc(), &mut names);
 }
