@@ -61,41 +61,32 @@ impl Cx {
         ensures err { OnErr result (self.new.nodes ≡ self.old.nodes) }
         ensures memory { IsOkUnless result Fault.Memory }
     {
-        match kind {
+        let label = match kind {
             TyKind::Ctor(ctor, args) => {
                 let head = TyHead::Ctor(ctor.number);
-                self.make(Label::Ty(head), &[args.node])
+                return self.make(Label::Ty(head), &[args.node]);
             }
             TyKind::FnPtr(sig) => {
                 let children = [sig.vars.node, sig.value.inputs_and_output.node];
-                self.make(Label::Ty(TyHead::FnPtr), &children)
+                return self.make(Label::Ty(TyHead::FnPtr), &children);
             }
-            TyKind::Alias(alias) => self.make(alias.def_id.label(), &[alias.args.node]),
-            TyKind::Int(int) => self.make(Label::Ty(TyHead::Int(int)), &[]),
-            TyKind::Uint(uint) => self.make(Label::Ty(TyHead::Uint(uint)), &[]),
-            TyKind::Float(float) => self.make(Label::Ty(TyHead::Float(float)), &[]),
-            TyKind::Error => self.make(Label::Ty(TyHead::Error), &[]),
-            TyKind::Infer(infer) => {
-                let leaf = match infer {
-                    InferTy::TyVar(n) => Leaf::Variable(VariableKind::Ty, n),
-                    InferTy::IntVar(n) => Leaf::Variable(VariableKind::Int, n),
-                    InferTy::FloatVar(n) => Leaf::Variable(VariableKind::Float, n),
-                };
-                self.make(Label::Leaf(leaf), &[])
+            TyKind::Alias(alias) => return self.make(alias.def_id.label(), &[alias.args.node]),
+            TyKind::Int(int) => Label::Ty(TyHead::Int(int)),
+            TyKind::Uint(uint) => Label::Ty(TyHead::Uint(uint)),
+            TyKind::Float(float) => Label::Ty(TyHead::Float(float)),
+            TyKind::Error => Label::Ty(TyHead::Error),
+            TyKind::Infer(InferTy::TyVar(n)) => Label::Leaf(Leaf::Variable(VariableKind::Ty, n)),
+            TyKind::Infer(InferTy::IntVar(n)) => Label::Leaf(Leaf::Variable(VariableKind::Int, n)),
+            TyKind::Infer(InferTy::FloatVar(n)) => {
+                Label::Leaf(Leaf::Variable(VariableKind::Float, n))
             }
-            TyKind::Param(n) => {
-                let leaf = Leaf::TyConstant(Constant::Param(n));
-                self.make(Label::Leaf(leaf), &[])
-            }
+            TyKind::Param(n) => Label::Leaf(Leaf::TyConstant(Constant::Param(n))),
             TyKind::Placeholder(p) => {
-                let constant = Constant::Placeholder(p.universe, p.bound.var);
-                self.make(Label::Leaf(Leaf::TyConstant(constant)), &[])
+                Label::Leaf(Leaf::TyConstant(Constant::Placeholder(p.universe, p.bound.var)))
             }
-            TyKind::Bound(index, bound) => {
-                let label = Label::Bound(Sort::Ty, index, bound.var);
-                self.make(label, &[])
-            }
-        }
+            TyKind::Bound(index, bound) => Label::Bound(Sort::Ty, index, bound.var),
+        };
+        self.make(label, &[])
     }
 
     /// The region of that kind.
@@ -150,26 +141,22 @@ impl Cx {
         ensures err { OnErr result (self.new.nodes ≡ self.old.nodes) }
         ensures memory { IsOkUnless result Fault.Memory }
     {
-        match kind {
-            ConstKind::Param(n) => {
-                self.make(Label::Leaf(Leaf::ConstConstant(Constant::Param(n))), &[])
-            }
-            ConstKind::Infer(n) => {
-                self.make(Label::Leaf(Leaf::Variable(VariableKind::Const, n)), &[])
-            }
-            ConstKind::Bound(index, bound) => {
-                self.make(Label::Bound(Sort::Const, index, bound.var), &[])
-            }
+        let label = match kind {
+            ConstKind::Param(n) => Label::Leaf(Leaf::ConstConstant(Constant::Param(n))),
+            ConstKind::Infer(n) => Label::Leaf(Leaf::Variable(VariableKind::Const, n)),
+            ConstKind::Bound(index, bound) => Label::Bound(Sort::Const, index, bound.var),
             ConstKind::Placeholder(p) => {
-                let constant = Constant::Placeholder(p.universe, p.bound.var);
-                self.make(Label::Leaf(Leaf::ConstConstant(constant)), &[])
+                Label::Leaf(Leaf::ConstConstant(Constant::Placeholder(p.universe, p.bound.var)))
             }
-            ConstKind::Unevaluated(alias) => { self.make(alias.def_id.label(), &[alias.args.node]) }
+            ConstKind::Unevaluated(alias) => {
+                return self.make(alias.def_id.label(), &[alias.args.node]);
+            }
             ConstKind::Value { ty, bits } => {
-                self.make(Label::Const(ConstHead::Value(bits)), &[ty.node])
+                return self.make(Label::Const(ConstHead::Value(bits)), &[ty.node]);
             }
-            ConstKind::Error => self.make(Label::Const(ConstHead::Error), &[]),
-        }
+            ConstKind::Error => Label::Const(ConstHead::Error),
+        };
+        self.make(label, &[])
     }
 
     /// The predicate that states this of the variables of its binder.
