@@ -1,5 +1,7 @@
 //! Whether what a binder binds is of its list.
-ghost use Rattle.std.specs.Prelude.{◌≡◌, ◌↔◌, ◌≤◌, true, IfOk, IsTrue, IfSome, IfNone, length};
+ghost use Rattle.std.specs.Prelude.{◌≡◌, ◌↔◌, ◌≤◌, true, false, [], IfOk, IsTrue, length};
+ghost use Rattle.nts_model.specs.declared.labels.Label.TheVariants as labels;
+ghost use Rattle.nts_model.specs.declared.labels.ListHead.TheVariants as lists;
 ghost use Rattle.nts_model.specs.Terms.Trees.{children, IsClosedUnder};
 ghost use Rattle.nts_model.specs.Terms.Scoping.{HasSortAt, IsListed, AllListed};
 ghost use Rattle.nts_store.specs.Growth.{tree_at, IsIn};
@@ -35,32 +37,34 @@ pub(crate) fn all_listed(
         if here.is_empty() {
             return Ok(true);
         }
-        match next_level(alloc, nodes, sorts, level, &mut here)? {
-            Some(deeper) => here = deeper,
-            None => return Ok(false),
+        let mut deeper = BTreeSet::new(alloc);
+        if !next_level(nodes, sorts, level, &mut here, &mut deeper)? {
+            return Ok(false);
         }
+        here = deeper;
     }
     Ok(true)
 }
 
-/// The terms one binder deeper that are left to visit, or nothing if a variable is not of the list.
+/// Puts the terms one binder deeper that are left to visit into `deeper`, and says whether all variables are of the list: if one
+/// is not, nothing more is looked at.
 fn next_level(
-    alloc: Global,
     nodes: &Nodes,
     sorts: NodeId,
     level: usize,
     here: &mut BTreeSet<usize>,
-) -> Result<Option<BTreeSet<usize>>, AllocError>
+    deeper: &mut BTreeSet<usize>,
+) -> Result<bool, AllocError>
     requires sorts { IsIn nodes.now sorts }
     requires within { above here.old.keys ≤ length nodes.now }
-    ensures next { IfOk result (λ o. IfSome o (λ deeper. IsNextLevel
-        (children (tree_at nodes.now sorts)) level nodes.now here.old.keys deeper.keys)) }
-    ensures none { IfOk result (λ o. IfNone o (AllListedAt (children (tree_at nodes.now sorts))
-        level nodes.now here.old.keys → ⊥)) }
+    requires empty { deeper.old.keys ≡ [] }
+    ensures next { IfOk result (λ b. b ≡ true → IsNextLevel (children (tree_at nodes.now sorts))
+        level nodes.now here.old.keys deeper.new.keys) }
+    ensures none { IfOk result (λ b. b ≡ false → AllListedAt (children (tree_at nodes.now sorts))
+        level nodes.now here.old.keys → ⊥) }
 {
     // Equal terms have one number, and children stand before their parents. So where the last number
     // comes first, each node is visited once at each level, however often the tree has it.
-    let mut deeper = BTreeSet::new(alloc);
     while let Some(number) = here.pop_last() {
         let term = NodeId { number };
         if is_closed_under(nodes, level, term) {
@@ -68,7 +72,7 @@ fn next_level(
         }
         let label = nodes.label(term);
         if !is_listed(nodes, sorts, level, label) {
-            return Ok(None);
+            return Ok(false);
         }
         let binds = binders_of(label) > 0;
         for i in 0..nodes.child_count(term) {
@@ -80,7 +84,7 @@ fn next_level(
             }
         }
     }
-    Ok(Some(deeper))
+    Ok(true)
 }
 
 /// Whether no bound variable of that level or above escapes.
@@ -112,6 +116,19 @@ fn has_sort_at(nodes: &Nodes, sorts: NodeId, n: usize, sort: Sort) -> bool
     requires { IsIn nodes.now sorts }
     ensures { IsTrue result ↔ HasSortAt (children (tree_at nodes.now sorts)) n sort }
 {
-    n < nodes.child_count(sorts)
-        && nodes.label(nodes.child(sorts, n)) == Label::List(ListHead::Sort(sort))
+    if n < nodes.child_count(sorts) {
+        is_sort(nodes.label(nodes.child(sorts, n)), sort)
+    } else {
+        false
+    }
+}
+
+/// Whether a label is that sort in a list of sorts.
+fn is_sort(label: Label, sort: Sort) -> bool
+    ensures { IsTrue result ↔ (label ≡ labels.List (lists.Sort sort)) }
+{
+    match label {
+        Label::List(ListHead::Sort(listed)) => listed == sort,
+        _ => false,
+    }
 }

@@ -22,7 +22,7 @@ loop-number-preserved-then-is_closed_under c =
     left_skipped _ _ _ _ _ _ _ _ c.loop-number.invariant c.in-Some.ensures.removal (c.is_closed_under.ensures c.if-is_closed_under.true)
 
 pub returns-then-not-is_listed-clause-none : goal.returns-then-not-is_listed-clause-none
-returns-then-not-is_listed-clause-none c = λ h.
+returns-then-not-is_listed-clause-none c = λ q h.
     let p = left_fails _ _ _ _ _ _ _ _ _ _ c.loop-number.invariant c.in-Some.ensures.removal c.label-label.ensures.is h in
     let yes : IsTrue c.is_listed.result = c.is_listed.ensures.1 p in
     cc
