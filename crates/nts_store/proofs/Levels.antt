@@ -13,7 +13,7 @@ use Rattle.nts_model.specs.declared.labels.Label.TheVariants as label
 use Rattle.nts_model.specs.Terms.Trees.{Tree, empty, more, node, binders, row_length, row_at, row_take, IsRow, IsClosedUnder}
 use Rattle.nts_model.specs.Terms.Scoping.{IsListed, AllListed}
 use Rattle.nts_model.proofs.Terms.Scoping.{closed_listed}
-use Rattle.nts_store.specs.Levels.{above, AllListedAt, IsNextLevel}
+use Rattle.nts_store.specs.Levels.{above, AllListedAt}
 use Rattle.nts_store.proofs.Growing.{row_take-all}
 use Rattle.nts_store.proofs.Pending.{cmp-equal, above-insert, above-last, above-all}
 

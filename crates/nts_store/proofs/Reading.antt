@@ -1,10 +1,10 @@
 -- The lemmas that readers of a node want.
-use Rattle.std.proofs.Common.{◌≡◌, ℕ, zero, suc, ◌+◌, ◌<◌, ◌≤◌, List, [], ◌∷◌, length, get_or, drop, refl, ap, ◌∙◌, arith}
-use Rattle.nts_model.specs.Terms.Trees.{Tree, more}
+use Rattle.std.proofs.Common.{◌≡◌, ℕ, ◌≤◌, List, [], ◌∷◌, length, drop, refl, arith}
+use Rattle.nts_model.specs.Terms.Trees.{Tree}
 use Rattle.nts_store.specs.declared.type_flags.TypeFlags.{TypeFlags}
 use Rattle.nts_store.specs.declared.nodes.NodeId.{NodeId}
-use Rattle.nts_store.specs.TypeFlags.{flags_of, no_flags, joined}
-use Rattle.nts_store.specs.Growth.{tree_at, trees_at}
+use Rattle.nts_store.specs.TypeFlags.{flags_of, no_flags}
+use Rattle.nts_store.specs.Growth.{trees_at}
 use Rattle.nts_store.proofs.Growing.{row_length-trees_at, IsRow-trees_at, row_at-trees_at, AllIn-get_or, AllBelow-get_or}
 
 pub ruleset rows = (row_length-trees_at, IsRow-trees_at, row_at-trees_at, AllIn-get_or, AllBelow-get_or)

@@ -4,7 +4,7 @@ use Rattle.nts_model.specs.declared.labels.ListHead.TheVariants as list
 use Rattle.nts_model.specs.declared.labels.Label.TheVariants as label
 use Rattle.nts_model.specs.Terms.Trees.{Tree, empty, node}
 use Rattle.nts_store.specs.declared.nodes.NodeId.{NodeId}
-use Rattle.nts_store.specs.Growth.{tree_at, IsIn, AreApart, IsTheOne}
+use Rattle.nts_store.specs.Growth.{AreApart, IsTheOne}
 
 -- a list of no arguments, and one of no predicates
 abbrev arguments : Tree
