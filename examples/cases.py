@@ -112,6 +112,7 @@ def all_cases():
 
 
 def shown(output):
+    """The lines of an output, each as far as a reader looks."""
     return [line[:200] for line in output.decode(errors="backslashreplace").split("\n")]
 
 
@@ -125,7 +126,7 @@ def faults_proved(case):
     if run.returncode != case.status:
         faults.append(f"status {run.returncode} in place of {case.status}")
     if run.stdout != case.output:
-        faults += difflib.unified_diff(shown(case.output), shown(run.stdout), "wanted", "printed", lineterm="")
+        faults += ["other output", *difflib.ndiff(shown(case.output), shown(run.stdout))]
     return faults
 
 
