@@ -5,8 +5,10 @@
 #![tactic(auto)]
 
 mod fixture;
+mod named;
 mod tables;
 mod terms;
 
 pub use fixture::Fixture;
+pub use named::{BYTE, Make, Name, Names, Type, WORD};
 pub use tables::table_in;

@@ -1,109 +1,163 @@
 //! Calls of the table that the other tests do not make.
-use crate::fixture::{
-    changed, equates_regions, outlives, region_infer, relates, tells, variable_of,
-};
+ghost use Rattle.nts_table.specs.Tables.{IsTable};
+
+use crate::fixture::{equates_regions, outlives, region_infer, tells, uint, variable_of};
+use crate::steps::Step::{Changed, Let, Relates, Resolves};
+use crate::steps::{Step, plays};
 use nts_equating::relate_nodes;
-use nts_fixtures::Fixture;
-use nts_model::{Relation, UintTy, Variance};
+use nts_fixtures::Make::Var;
+use nts_fixtures::{BYTE, Fixture};
+use nts_model::{Relation, UintTy, VariableKind, Variance};
 use nts_solver_relating::RelateExt;
 use nts_store::EvalError;
 use nts_table::InferCtxt;
 use nts_terms::{
-    AliasDefId, AliasKind, AliasTerm, Cx, Region, RegionKind, Span, TraitRef, TyKind, TypingMode,
+    AliasDefId, AliasKind, AliasTerm, Region, RegionKind, Span, TraitId, TraitRef, Ty, TypingMode,
     VisibleForLeakCheck,
 };
 use nts_unify::{Constraint, State};
 use std::process::Abort;
-use std::test::Fail;
 
 #[test]
 fn related(rt: HostRuntime) {
-    let mut cx = Cx::new(rt.alloc());
-    let mut table = InferCtxt::new(rt.alloc(), TypingMode::PostAnalysis);
-    let env = cx.mk_env(&[]).expect(&rt, "memory");
-    let byte = cx.mk_ty(TyKind::Uint(UintTy::U8)).expect(&rt, "memory");
-    let ty = table.next_ty_infer(&mut cx).expect(&rt, "memory");
-    let goals = table.relate(&mut cx, env, ty, Variance::Invariant, byte, Span(0));
-    let left = goals.expect(&rt, "memory").len();
-    let state = variable_of(&rt, &table, 0).state;
-    assert!(rt; left == 0 && matches!(state, State::Known(_)));
+    let mut fixture = Fixture::new(rt.alloc()).expect(&rt, "memory");
+    see_related(&rt, &mut fixture).expect(&rt, "memory");
 }
 
-#[test]
-fn read_back(rt: HostRuntime) -> Result<(), Fail> {
-    let mut fixture = Fixture::new(rt.alloc())?;
-    let ty = fixture.ty_var()?;
-    let byte = fixture.uint(UintTy::U8)?;
-    changed(&rt, &fixture, ty, false);
-    relates(&rt, &mut fixture, ty, byte)?;
-    changed(&rt, &fixture, ty, true);
-    assert!(rt; fixture.resolved(ty)? == byte);
+fn see_related(rt: &impl Abort, fixture: &mut Fixture) -> Result<(), EvalError>
+    requires { IsTable fixture.old.cx.nodes fixture.old.table }
+{
+    let hole = fixture.ty_var()?;
+    let ty = Ty { node: hole.node };
+    let byte = uint(fixture, UintTy::U8)?;
+    fixture.seen(ty)?;
+    fixture.seen(byte)?;
+    let (cx, table) = (&mut fixture.cx, &mut fixture.table);
+    let goals = table.relate(cx, fixture.env, ty, Variance::Invariant, byte, Span(0))?;
+    let state = variable_of(rt, &fixture.table, 0).state;
+    assert!(rt; goals.is_empty() && matches!(state, State::Known(_)));
     Ok(())
 }
 
 #[test]
+fn read_back(rt: HostRuntime) {
+    const STEPS: &[Step] = &[
+        Let("ty", Var(VariableKind::Ty)),
+        Let("byte", BYTE),
+        Changed("ty", false),
+        Relates("ty", "byte"),
+        Changed("ty", true),
+        Resolves("ty", "byte"),
+    ];
+    plays(&rt, rt.alloc(), STEPS);
+}
+
+#[test]
 fn refused(rt: HostRuntime) {
-    let mut cx = Cx::new(rt.alloc());
-    let mut table = InferCtxt::new(rt.alloc(), TypingMode::PostAnalysis);
-    let env = cx.mk_env(&[]).expect(&rt, "memory");
-    let byte = cx.mk_ty(TyKind::Uint(UintTy::U8)).expect(&rt, "memory");
-    let word = cx.mk_ty(TyKind::Uint(UintTy::U32)).expect(&rt, "memory");
-    relate_nodes(rt.alloc(), &mut cx.nodes, &mut table, byte.node, byte.node).expect(&rt, "memory");
-    let apart = table.eq_structurally_relating_aliases(&mut cx, env, byte, word, Span(0));
-    assert!(rt; matches!(apart, Err(EvalError::NoSolution)));
+    let mut fixture = Fixture::new(rt.alloc()).expect(&rt, "memory");
+    equate_nodes(&mut fixture).expect(&rt, "memory");
+    let apart = equate_two(&mut fixture);
+    assert!(rt; apart == Err(EvalError::NoSolution));
+}
+
+/// Makes a type one with itself, by its node.
+fn equate_nodes(fixture: &mut Fixture) -> Result<(), EvalError>
+    requires { IsTable fixture.old.cx.nodes fixture.old.table }
+    ensures { IsTable fixture.new.cx.nodes fixture.new.table }
+{
+    let byte = uint(fixture, UintTy::U8)?;
+    fixture.seen(byte)?;
+    let alloc = fixture.cx.alloc;
+    let (nodes, table) = (&mut fixture.cx.nodes, &mut fixture.table);
+    relate_nodes(alloc, nodes, table, byte.node, byte.node)
+}
+
+/// Makes two types of integers one.
+fn equate_two(fixture: &mut Fixture) -> Result<(), EvalError>
+    requires { IsTable fixture.old.cx.nodes fixture.old.table }
+{
+    let byte = uint(fixture, UintTy::U8)?;
+    let word = uint(fixture, UintTy::U32)?;
+    if fixture.seen(byte).is_err() || fixture.seen(word).is_err() {
+        return Err(EvalError::Full);
+    }
+    let (cx, table) = (&mut fixture.cx, &mut fixture.table);
+    table.eq_structurally_relating_aliases(cx, fixture.env, byte, word, Span(0))
 }
 
 #[test]
-fn heads(rt: HostRuntime) {
-    let mut cx = Cx::new(rt.alloc());
-    let mut table = InferCtxt::new(rt.alloc(), TypingMode::PostAnalysis);
-    let env = cx.mk_env(&[]).expect(&rt, "memory");
-    let none = cx.mk_args(&[]).expect(&rt, "memory");
-    let clone = cx.declare_trait(&[]).expect(&rt, "memory");
-    let copy = cx.declare_trait(&[]).expect(&rt, "memory");
-    let item = cx
-        .declare_alias(&[], AliasKind::Projection)
-        .expect(&rt, "memory");
-    let cloning = TraitRef {
-        def_id: clone,
-        args: none,
-    };
-    let copying = TraitRef {
-        def_id: copy,
-        args: none,
-    };
-    table
-        .eq_structurally_relating_aliases(&mut cx, env, cloning, cloning, Span(0))
-        .expect(&rt, "memory");
-    let apart = table.eq_structurally_relating_aliases(&mut cx, env, cloning, copying, Span(0));
+fn heads_of_traits(rt: HostRuntime) {
+    let mut fixture = Fixture::new(rt.alloc()).expect(&rt, "memory");
+    see_traits(&rt, &mut fixture).expect(&rt, "memory");
+}
+
+fn see_traits(rt: &impl Abort, fixture: &mut Fixture) -> Result<(), EvalError>
+    requires { IsTable fixture.old.cx.nodes fixture.old.table }
+{
+    let clone = fixture.cx.declare_trait(&[])?;
+    let copy = fixture.cx.declare_trait(&[])?;
+    equate_traits(fixture, clone, clone)?;
+    let apart = equate_traits(fixture, clone, copy);
     assert!(rt; matches!(apart, Err(EvalError::NoSolution)));
-    let alias = AliasTerm {
-        def_id: AliasDefId::Ty(item),
-        args: none,
-    };
-    table
-        .eq_structurally_relating_aliases(&mut cx, env, alias, alias, Span(0))
-        .expect(&rt, "memory");
+    Ok(())
+}
+
+/// Makes two traits without arguments one.
+fn equate_traits(fixture: &mut Fixture, x: TraitId, y: TraitId) -> Result<(), EvalError>
+    requires { IsTable fixture.old.cx.nodes fixture.old.table }
+    ensures { IsTable fixture.new.cx.nodes fixture.new.table }
+{
+    let args = fixture.args(&[])?;
+    fixture.seen(args)?;
+    let (cx, table) = (&mut fixture.cx, &mut fixture.table);
+    let x = TraitRef { def_id: x, args };
+    let y = TraitRef { def_id: y, args };
+    table.eq_structurally_relating_aliases(cx, fixture.env, x, y, Span(0))
 }
 
 #[test]
-fn each_constraint_once(rt: HostRuntime) -> Result<(), Fail> {
-    let mut fixture = Fixture::new(rt.alloc())?;
-    let a = region_infer(&mut fixture)?;
-    let b = region_infer(&mut fixture)?;
+fn heads_of_aliases(rt: HostRuntime) {
+    let mut fixture = Fixture::new(rt.alloc()).expect(&rt, "memory");
+    equate_alias(&mut fixture).expect(&rt, "memory");
+}
+
+/// Makes an alias without arguments one with itself.
+fn equate_alias(fixture: &mut Fixture) -> Result<(), EvalError>
+    requires { IsTable fixture.old.cx.nodes fixture.old.table }
+{
+    let item = fixture.declare_alias(&[], AliasKind::Projection)?;
+    let def_id = AliasDefId::Ty(item);
+    let args = fixture.args(&[])?;
+    fixture.seen(args)?;
+    let alias = AliasTerm { def_id, args };
+    let (cx, table) = (&mut fixture.cx, &mut fixture.table);
+    table.eq_structurally_relating_aliases(cx, fixture.env, alias, alias, Span(0))
+}
+
+#[test]
+fn each_constraint_once(rt: HostRuntime) {
+    let mut fixture = Fixture::new(rt.alloc()).expect(&rt, "memory");
+    see_each_once(&rt, &mut fixture).expect(&rt, "memory");
+}
+
+fn see_each_once(rt: &impl Abort, fixture: &mut Fixture) -> Result<(), EvalError>
+    requires { IsTable fixture.old.cx.nodes fixture.old.table }
+{
+    let a = region_infer(fixture)?;
+    let b = region_infer(fixture)?;
     let fixed = fixture.region(RegionKind::ReStatic)?;
     let fixed = Region { node: fixed.node };
-    outlives(&mut fixture, fixed, a, VisibleForLeakCheck::No)?;
-    outlives(&mut fixture, b, a, VisibleForLeakCheck::Yes)?;
-    outlives(&mut fixture, fixed, b, VisibleForLeakCheck::Yes)?;
-    equates_regions(&rt, &mut fixture, a, b)?;
+    outlives(fixture, fixed, a, VisibleForLeakCheck::No)?;
+    outlives(fixture, b, a, VisibleForLeakCheck::Yes)?;
+    outlives(fixture, fixed, b, VisibleForLeakCheck::Yes)?;
+    equates_regions(rt, fixture, a, b)?;
     let only = Constraint {
         relation: Relation::RegionOutlives,
         left: fixed.node,
         right: a.node,
         is_visible: false,
     };
-    tells(&rt, &mut fixture, &[only]);
+    tells(rt, fixture, &[only]);
     Ok(())
 }
 

@@ -1,76 +1,82 @@
 //! Terms that are nested very deep, and terms that share very much.
-use crate::fixture::{empty_knows, equates, has, refuses, relates};
-use nts_fixtures::Fixture;
-use nts_model::UintTy;
-use nts_unify::State;
-use std::test::Fail;
+use crate::steps::Step::{
+    Counts, Equates, IsForeign, Known, Let, Link, Refuses, Relates, Resolves, Universe,
+};
+use crate::steps::{Step, plays};
+use nts_fixtures::Make::{Ladder, Nested, Var};
+use nts_fixtures::{BYTE, WORD};
+use nts_model::VariableKind::Ty;
 
 #[test]
-fn variables_of_a_ladder(rt: HostRuntime) -> Result<(), Fail> {
-    let mut fixture = Fixture::new(rt.alloc())?;
-    let hole = fixture.ty_var()?;
-    let tall = fixture.ladder(hole, 60)?;
-    fixture.seen(tall)?;
-    assert!(rt; !empty_knows(&rt, &fixture.cx, tall));
-    Ok(())
+fn variables_of_a_ladder(rt: HostRuntime) {
+    const STEPS: &[Step] = &[
+        Let("hole", Var(Ty)),
+        Let("tall", Ladder("hole", 60)),
+        IsForeign("tall"),
+    ];
+    plays(&rt, rt.alloc(), STEPS);
 }
 
 /// Two ladders over two variables: each pair of their nodes is related once.
 #[test]
-fn two_ladders(rt: HostRuntime) -> Result<(), Fail> {
-    let mut fixture = Fixture::new(rt.alloc())?;
-    let first = fixture.ty_var()?;
-    let second = fixture.ty_var()?;
-    let left = fixture.ladder(first, 60)?;
-    let right = fixture.ladder(second, 60)?;
-    relates(&rt, &mut fixture, left, right)?;
-    has(&rt, &fixture, 1, 0, State::Link(0));
-    assert!(rt; fixture.resolved(right)? == left);
-    Ok(())
+fn two_ladders(rt: HostRuntime) {
+    const STEPS: &[Step] = &[
+        Let("first", Var(Ty)),
+        Let("second", Var(Ty)),
+        Let("left", Ladder("first", 60)),
+        Let("right", Ladder("second", 60)),
+        Relates("left", "right"),
+        Link(1, 0, 0),
+        Resolves("right", "left"),
+    ];
+    plays(&rt, rt.alloc(), STEPS);
 }
 
 /// What was met before stays met when a variable gets a value.
 #[test]
-fn a_ladder_of_a_type(rt: HostRuntime) -> Result<(), Fail> {
-    let mut fixture = Fixture::new(rt.alloc())?;
-    let hole = fixture.ty_var()?;
-    let byte = fixture.uint(UintTy::U8)?;
-    let word = fixture.uint(UintTy::U32)?;
-    let left = fixture.ladder(hole, 60)?;
-    let right = fixture.ladder(byte, 60)?;
-    let other = fixture.ladder(word, 60)?;
-    relates(&rt, &mut fixture, left, right)?;
-    has(&rt, &fixture, 0, 0, State::Known(byte.node));
-    refuses(&rt, &mut fixture, left, other)?;
-    refuses(&rt, &mut fixture, right, other)?;
-    Ok(())
+fn a_ladder_of_a_type(rt: HostRuntime) {
+    const STEPS: &[Step] = &[
+        Let("hole", Var(Ty)),
+        Let("byte", BYTE),
+        Let("word", WORD),
+        Let("left", Ladder("hole", 60)),
+        Let("right", Ladder("byte", 60)),
+        Let("other", Ladder("word", 60)),
+        Relates("left", "right"),
+        Known(0, 0, "byte"),
+        Refuses("left", "other"),
+        Refuses("right", "other"),
+    ];
+    plays(&rt, rt.alloc(), STEPS);
 }
 
 /// A ladder as the value of a variable: each of its nodes is made once.
 #[test]
-fn a_ladder_for_a_variable(rt: HostRuntime) -> Result<(), Fail> {
-    let mut fixture = Fixture::new(rt.alloc())?;
-    let low = fixture.ty_var()?;
-    fixture.universe()?;
-    let high = fixture.ty_var()?;
-    let tall = fixture.ladder(high, 60)?;
-    relates(&rt, &mut fixture, low, tall)?;
-    assert!(rt; fixture.counts() == (3, 0));
-    assert!(rt; fixture.resolved(low)? == tall);
-    refuses(&rt, &mut fixture, high, tall)?;
-    Ok(())
+fn a_ladder_for_a_variable(rt: HostRuntime) {
+    const STEPS: &[Step] = &[
+        Let("low", Var(Ty)),
+        Universe,
+        Let("high", Var(Ty)),
+        Let("tall", Ladder("high", 60)),
+        Relates("low", "tall"),
+        Counts(3, 0),
+        Resolves("low", "tall"),
+        Refuses("high", "tall"),
+    ];
+    plays(&rt, rt.alloc(), STEPS);
 }
 
 /// A term that is nested very deep, as the value of a variable.
 #[test]
-fn a_deep_term_for_a_variable(rt: HostRuntime) -> Result<(), Fail> {
-    let mut fixture = Fixture::new(rt.alloc())?;
-    let low = fixture.ty_var()?;
-    fixture.universe()?;
-    let high = fixture.ty_var()?;
-    let deep = fixture.nested(high, 100_000)?;
-    equates(&mut fixture, low, deep)?;
-    assert!(rt; fixture.counts() == (3, 0));
-    has(&rt, &fixture, 2, 0, State::Link(1));
-    Ok(())
+fn a_deep_term_for_a_variable(rt: HostRuntime) {
+    const STEPS: &[Step] = &[
+        Let("low", Var(Ty)),
+        Universe,
+        Let("high", Var(Ty)),
+        Let("deep", Nested("high", 100_000)),
+        Equates("low", "deep"),
+        Counts(3, 0),
+        Link(2, 0, 1),
+    ];
+    plays(&rt, rt.alloc(), STEPS);
 }

@@ -9,23 +9,23 @@ ghost use Rattle.nts_table.specs.Frames.{ChangesEntries};
 ghost use Rattle.nts_table.specs.Tables.{IsTable};
 
 use nts_fixtures::Fixture;
-use nts_model::Variance;
+use nts_model::{UintTy, Variance};
 use nts_solver_relating::RelateExt;
 use nts_store::EvalError;
 use nts_table::{InferCtxt, is_unbound};
 use nts_terms::{
-    AliasDefId, AliasId, AliasTerm, Cx, GenericArg, Region, Span, Stored, Ty, TypingMode,
-    VisibleForLeakCheck,
+    AliasDefId, AliasId, AliasTerm, Const, Cx, GenericArg, Region, Span, Stored, Term, Ty,
+    TypingMode, VisibleForLeakCheck,
 };
 use nts_unify::{Constraint, State, Variable};
 use std::process::Abort;
 
 /// Whether a table without variables knows a term.
-pub fn empty_knows<T: Stored>(rt: &impl Abort, cx: &Cx, x: T) -> bool
+pub fn empty_knows<T: Stored>(cx: &Cx, x: T) -> Result<bool, EvalError>
     requires { IsIn cx.now.nodes (T.id x) }
 {
     let table = InferCtxt::new(cx.alloc, TypingMode::PostAnalysis);
-    table.knows(cx, x).expect(rt, "memory")
+    Ok(table.knows(cx, x)?)
 }
 
 /// A variable of a table.
@@ -50,28 +50,13 @@ pub fn region_infer(fixture: &mut Fixture) -> Result<Region, EvalError>
     Ok(fixture.table.next_region_infer(&mut fixture.cx)?)
 }
 
-/// A new const variable.
-pub fn const_var(fixture: &mut Fixture) -> Result<GenericArg, EvalError>
+/// A type of integers without a sign.
+pub fn uint(fixture: &mut Fixture, kind: UintTy) -> Result<Ty, EvalError>
     requires { IsTable fixture.old.cx.nodes fixture.old.table }
     ensures { IsTable fixture.new.cx.nodes fixture.new.table }
 {
-    Ok(fixture.table.next_const_infer(&mut fixture.cx)?.into())
-}
-
-/// A new variable of integer types.
-pub fn int_var(fixture: &mut Fixture) -> Result<GenericArg, EvalError>
-    requires { IsTable fixture.old.cx.nodes fixture.old.table }
-    ensures { IsTable fixture.new.cx.nodes fixture.new.table }
-{
-    Ok(fixture.table.next_int_infer(&mut fixture.cx)?.into())
-}
-
-/// A new variable of float types.
-pub fn float_var(fixture: &mut Fixture) -> Result<GenericArg, EvalError>
-    requires { IsTable fixture.old.cx.nodes fixture.old.table }
-    ensures { IsTable fixture.new.cx.nodes fixture.new.table }
-{
-    Ok(fixture.table.next_float_infer(&mut fixture.cx)?.into())
+    let ty = fixture.uint(kind)?;
+    Ok(Ty { node: ty.node })
 }
 
 /// Adds a duplicate of a hidden type of an alias over nothing.
@@ -172,10 +157,18 @@ pub fn has_alias(fixture: &mut Fixture, x: GenericArg) -> Result<bool, EvalError
     Ok(fixture.table.has_alias(&mut fixture.cx, x)?)
 }
 
-/// Sees whether a variable has got a value or another root.
-pub fn changed(rt: &impl Abort, fixture: &Fixture, x: GenericArg, expected: bool) {
-    assert!(rt; fixture.cx.holds(x));
-    assert!(rt; fixture.table.is_changed_arg(&fixture.cx, x) == expected);
+/// Whether a variable has got a value or another root, or has not, as is expected.
+pub fn is_changed(fixture: &Fixture, x: GenericArg, expected: bool) -> Result<bool, EvalError> {
+    if !fixture.cx.holds(x) {
+        return Err(EvalError::NoSolution);
+    }
+    Ok(fixture.table.is_changed_arg(&fixture.cx, x) == expected)
+}
+
+/// Whether a table without variables does not know a term that the table knows.
+pub fn is_foreign(fixture: &Fixture, x: GenericArg) -> Result<bool, EvalError> {
+    fixture.seen(x)?;
+    Ok(!empty_knows(&fixture.cx, x)?)
 }
 
 /// Makes two arguments one, with aliases as they stand.
@@ -189,40 +182,55 @@ pub fn equates(fixture: &mut Fixture, x: GenericArg, y: GenericArg) -> Result<()
     table.eq_structurally_relating_aliases(cx, fixture.env, x, y, Span(0))
 }
 
-/// Relates two arguments without aliases, and says whether they were made one.
-#[tactic(auto, using(crate::proofs::Conditions::conditions))]
-fn relate(
-    rt: &impl Abort,
-    fixture: &mut Fixture,
-    x: GenericArg,
-    y: GenericArg,
-) -> Result<bool, EvalError>
+/// Makes a region one with itself.
+pub fn equates_region(fixture: &mut Fixture, x: GenericArg) -> Result<(), EvalError>
     requires { IsTable fixture.old.cx.nodes fixture.old.table }
     ensures { IsTable fixture.new.cx.nodes fixture.new.table }
 {
-    assert!(rt; !has_alias(fixture, x)?);
-    assert!(rt; !has_alias(fixture, y)?);
+    let x = Region { node: x.node };
+    fixture.seen(x)?;
     let (cx, table) = (&mut fixture.cx, &mut fixture.table);
-    let found = table.relate(cx, fixture.env, x, Variance::Invariant, y, Span(0));
-    if matches!(found, Err(EvalError::NoSolution)) {
-        return Ok(false);
-    }
-    assert!(rt; found?.len() == 0);
-    Ok(true)
+    table.eq_structurally_relating_aliases(cx, fixture.env, x, x, Span(0))
 }
 
-/// Sees that two arguments are made one.
-pub fn relates(
-    rt: &impl Abort,
-    fixture: &mut Fixture,
-    x: GenericArg,
-    y: GenericArg,
-) -> Result<(), EvalError>
+/// Makes a const one with itself.
+pub fn equates_const(fixture: &mut Fixture, x: GenericArg) -> Result<(), EvalError>
     requires { IsTable fixture.old.cx.nodes fixture.old.table }
     ensures { IsTable fixture.new.cx.nodes fixture.new.table }
 {
-    assert!(rt; relate(rt, fixture, x, y)?);
-    Ok(())
+    let x = Const { node: x.node };
+    fixture.seen(x)?;
+    let (cx, table) = (&mut fixture.cx, &mut fixture.table);
+    table.eq_structurally_relating_aliases(cx, fixture.env, x, x, Span(0))
+}
+
+/// Makes a type or a const one with itself, as a term.
+pub fn equates_term(fixture: &mut Fixture, x: GenericArg) -> Result<(), EvalError>
+    requires { IsTable fixture.old.cx.nodes fixture.old.table }
+    ensures { IsTable fixture.new.cx.nodes fixture.new.table }
+{
+    let x = Term { node: x.node };
+    fixture.seen(x)?;
+    let (cx, table) = (&mut fixture.cx, &mut fixture.table);
+    table.eq_structurally_relating_aliases(cx, fixture.env, x, x, Span(0))
+}
+
+/// Relates two arguments without aliases, and says whether they were made one. No goals are left.
+#[tactic(auto, using(crate::proofs::Conditions::conditions))]
+pub fn relates(fixture: &mut Fixture, x: GenericArg, y: GenericArg) -> Result<bool, EvalError>
+    requires { IsTable fixture.old.cx.nodes fixture.old.table }
+    ensures { IsTable fixture.new.cx.nodes fixture.new.table }
+{
+    if has_alias(fixture, x)? || has_alias(fixture, y)? {
+        return Err(EvalError::NoSolution);
+    }
+    let (cx, table) = (&mut fixture.cx, &mut fixture.table);
+    match table.relate(cx, fixture.env, x, Variance::Invariant, y, Span(0)) {
+        Ok(goals) if goals.is_empty() => Ok(true),
+        Ok(_) => Err(EvalError::Full),
+        Err(EvalError::NoSolution) => Ok(false),
+        Err(error) => Err(error),
+    }
 }
 
 /// What can be read of a table.
@@ -234,21 +242,14 @@ struct Shown {
     universe: u32,
 }
 
-/// Sees that two arguments are refused, from either side, and that the table is as before.
-pub fn refuses(
-    rt: &impl Abort,
-    fixture: &mut Fixture,
-    x: GenericArg,
-    y: GenericArg,
-) -> Result<(), EvalError>
+/// Whether two arguments are refused, from either side, and the table is as before.
+pub fn refuses(fixture: &mut Fixture, x: GenericArg, y: GenericArg) -> Result<bool, EvalError>
     requires { IsTable fixture.old.cx.nodes fixture.old.table }
     ensures { IsTable fixture.new.cx.nodes fixture.new.table }
 {
     let before = show(fixture)?;
-    assert!(rt; !relate(rt, fixture, x, y)?);
-    assert!(rt; !relate(rt, fixture, y, x)?);
-    assert!(rt; before == show(fixture)?);
-    Ok(())
+    let refused = !relates(fixture, x, y)? && !relates(fixture, y, x)?;
+    Ok(refused && before == show(fixture)?)
 }
 
 fn show(fixture: &Fixture) -> Result<Shown, EvalError>
@@ -273,9 +274,11 @@ fn show(fixture: &Fixture) -> Result<Shown, EvalError>
     })
 }
 
-/// Sees that a variable has that state and universe.
-pub fn has(rt: &impl Abort, fixture: &Fixture, n: usize, universe: u32, state: State) {
-    let variable = variable_of(rt, &fixture.table, n);
-    assert!(rt; variable.state == state);
-    assert!(rt; variable.universe == universe);
+/// Whether a variable has that state and universe.
+pub fn has(fixture: &Fixture, n: usize, universe: u32, state: State) -> bool {
+    if n >= fixture.table.variable_count() {
+        return false;
+    }
+    let variable = fixture.table.variable(n);
+    variable.state == state && variable.universe == universe
 }

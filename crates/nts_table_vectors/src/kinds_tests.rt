@@ -2,85 +2,101 @@
 ghost use Rattle.std.specs.Prelude.{◌≡◌, []};
 ghost use Rattle.nts_table.specs.Tables.{IsTable};
 
-use crate::fixture::{
-    const_var, duplicates, float_var, has, hidden, hidden_since, hide_beside, int_var, refuses,
-    relates,
-};
-use nts_fixtures::Fixture;
-use nts_model::{FloatTy, IntTy, UintTy};
+use crate::fixture::{duplicates, hidden, hidden_since, hide_beside, uint};
+use crate::steps::Step::{Known, Let, Link, Refuses, Relates, Resolves, Universe, Unset};
+use crate::steps::{Step, plays};
+use nts_fixtures::Make::{ConstParam, Type, Var, Wrap};
+use nts_fixtures::Type::{Float, Int};
+use nts_fixtures::{BYTE, Fixture, WORD};
+use nts_model::{FloatTy, IntTy, UintTy, VariableKind};
 use nts_store::EvalError;
 use nts_table::InferCtxt;
-use nts_terms::{AliasDefId, AliasId, AliasKind, ConstKind, Cx, Ty, TyKind, TypingMode};
-use nts_unify::State;
+use nts_terms::{AliasDefId, AliasId, AliasKind, Cx, Ty, TypingMode};
 use std::process::Abort;
-use std::test::Fail;
 
 #[test]
-fn integers(rt: HostRuntime) -> Result<(), Fail> {
-    let mut fixture = Fixture::new(rt.alloc())?;
-    fixture.universe()?;
-    let number = int_var(&mut fixture)?;
-    has(&rt, &fixture, 0, 0, State::Unset);
-    let byte = fixture.uint(UintTy::U8)?;
-    let signed = fixture.ty(TyKind::Int(IntTy::I64))?;
-    let real = fixture.ty(TyKind::Float(FloatTy::F32))?;
-    let bytes = fixture.wrap(byte)?;
-    refuses(&rt, &mut fixture, number, real)?;
-    refuses(&rt, &mut fixture, number, bytes)?;
-    relates(&rt, &mut fixture, number, byte)?;
-    has(&rt, &fixture, 0, 0, State::Known(byte.node));
-    refuses(&rt, &mut fixture, signed, number)?;
-    Ok(())
+fn integers(rt: HostRuntime) {
+    const STEPS: &[Step] = &[
+        Universe,
+        Let("number", Var(VariableKind::Int)),
+        Unset(0, 0),
+        Let("byte", BYTE),
+        Let("signed", Type(Int(IntTy::I64))),
+        Let("real", Type(Float(FloatTy::F32))),
+        Let("bytes", Wrap("byte")),
+        Refuses("number", "real"),
+        Refuses("number", "bytes"),
+        Relates("number", "byte"),
+        Known(0, 0, "byte"),
+        Refuses("signed", "number"),
+    ];
+    plays(&rt, rt.alloc(), STEPS);
 }
 
 #[test]
-fn floats(rt: HostRuntime) -> Result<(), Fail> {
-    let mut fixture = Fixture::new(rt.alloc())?;
-    let first = float_var(&mut fixture)?;
-    let second = float_var(&mut fixture)?;
-    let number = int_var(&mut fixture)?;
-    let byte = fixture.uint(UintTy::U8)?;
-    let real = fixture.ty(TyKind::Float(FloatTy::F64))?;
-    refuses(&rt, &mut fixture, first, byte)?;
-    refuses(&rt, &mut fixture, first, number)?;
-    relates(&rt, &mut fixture, second, first)?;
-    has(&rt, &fixture, 1, 0, State::Link(0));
-    relates(&rt, &mut fixture, second, real)?;
-    has(&rt, &fixture, 0, 0, State::Known(real.node));
-    Ok(())
+fn floats(rt: HostRuntime) {
+    const STEPS: &[Step] = &[
+        Let("first", Var(VariableKind::Float)),
+        Let("second", Var(VariableKind::Float)),
+        Let("number", Var(VariableKind::Int)),
+        Let("byte", BYTE),
+        Let("real", Type(Float(FloatTy::F64))),
+        Refuses("first", "byte"),
+        Refuses("first", "number"),
+        Relates("second", "first"),
+        Link(1, 0, 0),
+        Relates("second", "real"),
+        Known(0, 0, "real"),
+    ];
+    plays(&rt, rt.alloc(), STEPS);
 }
 
 #[test]
-fn a_variable_for_a_type(rt: HostRuntime) -> Result<(), Fail> {
-    let mut fixture = Fixture::new(rt.alloc())?;
-    let hole = fixture.ty_var()?;
-    let number = int_var(&mut fixture)?;
-    let real = float_var(&mut fixture)?;
-    let word = fixture.uint(UintTy::U32)?;
-    relates(&rt, &mut fixture, number, hole)?;
-    has(&rt, &fixture, 0, 0, State::Known(number.node));
-    has(&rt, &fixture, 1, 0, State::Unset);
-    refuses(&rt, &mut fixture, hole, real)?;
-    assert!(rt; fixture.resolved(hole)? == number);
-    relates(&rt, &mut fixture, hole, word)?;
-    has(&rt, &fixture, 1, 0, State::Known(word.node));
-    assert!(rt; fixture.resolved(hole)? == word);
-    Ok(())
+fn a_variable_for_a_type(rt: HostRuntime) {
+    const STEPS: &[Step] = &[
+        Let("hole", Var(VariableKind::Ty)),
+        Let("number", Var(VariableKind::Int)),
+        Let("real", Var(VariableKind::Float)),
+        Let("word", WORD),
+        Relates("number", "hole"),
+        Known(0, 0, "number"),
+        Unset(1, 0),
+        Refuses("hole", "real"),
+        Resolves("hole", "number"),
+        Relates("hole", "word"),
+        Known(1, 0, "word"),
+        Resolves("hole", "word"),
+    ];
+    plays(&rt, rt.alloc(), STEPS);
 }
 
 #[test]
-fn integers_of_two_types(rt: HostRuntime) -> Result<(), Fail> {
-    let mut fixture = Fixture::new(rt.alloc())?;
-    let left = fixture.ty_var()?;
-    let right = fixture.ty_var()?;
-    let first = int_var(&mut fixture)?;
-    let second = int_var(&mut fixture)?;
-    relates(&rt, &mut fixture, left, first)?;
-    relates(&rt, &mut fixture, right, second)?;
-    relates(&rt, &mut fixture, left, right)?;
-    has(&rt, &fixture, 3, 0, State::Link(2));
-    assert!(rt; fixture.resolved(right)? == first);
-    Ok(())
+fn integers_of_two_types(rt: HostRuntime) {
+    const STEPS: &[Step] = &[
+        Let("left", Var(VariableKind::Ty)),
+        Let("right", Var(VariableKind::Ty)),
+        Let("first", Var(VariableKind::Int)),
+        Let("second", Var(VariableKind::Int)),
+        Relates("left", "first"),
+        Relates("right", "second"),
+        Relates("left", "right"),
+        Link(3, 0, 2),
+        Resolves("right", "first"),
+    ];
+    plays(&rt, rt.alloc(), STEPS);
+}
+
+#[test]
+fn consts(rt: HostRuntime) {
+    const STEPS: &[Step] = &[
+        Let("size", Var(VariableKind::Const)),
+        Let("param", ConstParam(0)),
+        Let("hole", Var(VariableKind::Ty)),
+        Refuses("hole", "size"),
+        Relates("size", "param"),
+        Known(0, 0, "param"),
+    ];
+    plays(&rt, rt.alloc(), STEPS);
 }
 
 #[test]
@@ -120,68 +136,65 @@ fn see_shallow(rt: &impl Abort, cx: &mut Cx, table: &mut InferCtxt)
 }
 
 #[test]
-fn consts(rt: HostRuntime) -> Result<(), Fail> {
-    let mut fixture = Fixture::new(rt.alloc())?;
-    let size = const_var(&mut fixture)?;
-    let param = fixture.konst(ConstKind::Param(0))?;
-    let hole = fixture.ty_var()?;
-    refuses(&rt, &mut fixture, hole, size)?;
-    relates(&rt, &mut fixture, size, param)?;
-    has(&rt, &fixture, 0, 0, State::Known(param.node));
-    Ok(())
+fn hidden_types(rt: HostRuntime) {
+    let mut fixture = Fixture::new(rt.alloc()).expect(&rt, "memory");
+    see_hidden(&rt, &mut fixture).expect(&rt, "memory");
 }
 
-/// A type of integers without a sign.
-fn uint(fixture: &mut Fixture, kind: UintTy) -> Result<Ty, EvalError>
+fn see_hidden(rt: &impl Abort, fixture: &mut Fixture) -> Result<(), EvalError>
     requires { IsTable fixture.old.cx.nodes fixture.old.table }
-    ensures { IsTable fixture.new.cx.nodes fixture.new.table }
 {
-    let ty = fixture.uint(kind)?;
-    Ok(Ty { node: ty.node })
-}
-
-#[test]
-fn hidden_types(rt: HostRuntime) -> Result<(), Fail> {
-    let mut fixture = Fixture::new(rt.alloc())?;
     let alias = fixture.declare_alias(&[], AliasKind::Opaque)?;
-    let byte = uint(&mut fixture, UintTy::U8)?;
-    let word = uint(&mut fixture, UintTy::U32)?;
-    hidden(&rt, &fixture, &[]);
+    let byte = uint(fixture, UintTy::U8)?;
+    let word = uint(fixture, UintTy::U32)?;
+    hidden(rt, fixture, &[]);
     assert!(rt; fixture.hide(alias, &[], byte)? == None);
-    hidden(&rt, &fixture, &[byte]);
+    hidden(rt, fixture, &[byte]);
     assert!(rt; fixture.hide(alias, &[], word)? == Some(byte));
-    hidden(&rt, &fixture, &[word]);
+    hidden(rt, fixture, &[word]);
     Ok(())
 }
 
 #[test]
-fn duplicates_of_hidden_types(rt: HostRuntime) -> Result<(), Fail> {
-    let mut fixture = Fixture::new(rt.alloc())?;
+fn duplicates_of_hidden_types(rt: HostRuntime) {
+    let mut fixture = Fixture::new(rt.alloc()).expect(&rt, "memory");
+    see_duplicates(&rt, &mut fixture).expect(&rt, "memory");
+}
+
+fn see_duplicates(rt: &impl Abort, fixture: &mut Fixture) -> Result<(), EvalError>
+    requires { IsTable fixture.old.cx.nodes fixture.old.table }
+{
     let alias = fixture.declare_alias(&[], AliasKind::Opaque)?;
-    let byte = uint(&mut fixture, UintTy::U8)?;
-    let word = uint(&mut fixture, UintTy::U32)?;
+    let byte = uint(fixture, UintTy::U8)?;
+    let word = uint(fixture, UintTy::U32)?;
     assert!(rt; fixture.hide(alias, &[], byte)? == None);
-    hide_beside(&mut fixture, alias, word)?;
+    hide_beside(fixture, alias, word)?;
     let snapshot = fixture.table.start_snapshot()?;
-    hide_beside(&mut fixture, alias, byte)?;
-    duplicates(&rt, &fixture, &[word, byte]);
+    hide_beside(fixture, alias, byte)?;
+    duplicates(rt, fixture, &[word, byte]);
     fixture.table.rollback_to(snapshot);
-    duplicates(&rt, &fixture, &[word]);
+    duplicates(rt, fixture, &[word]);
     Ok(())
 }
 
 #[test]
-fn lists_of_hidden_types(rt: HostRuntime) -> Result<(), Fail> {
-    let mut fixture = Fixture::new(rt.alloc())?;
+fn lists_of_hidden_types(rt: HostRuntime) {
+    let mut fixture = Fixture::new(rt.alloc()).expect(&rt, "memory");
+    see_lists(&rt, &mut fixture).expect(&rt, "memory");
+}
+
+fn see_lists(rt: &impl Abort, fixture: &mut Fixture) -> Result<(), EvalError>
+    requires { IsTable fixture.old.cx.nodes fixture.old.table }
+{
     let alias = fixture.declare_alias(&[], AliasKind::Opaque)?;
-    let byte = uint(&mut fixture, UintTy::U8)?;
-    let word = uint(&mut fixture, UintTy::U32)?;
+    let byte = uint(fixture, UintTy::U8)?;
+    let word = uint(fixture, UintTy::U32)?;
     assert!(rt; fixture.hide(alias, &[], byte)? == None);
-    hide_beside(&mut fixture, alias, word)?;
-    see_lookup(&rt, &fixture.table, alias, byte);
-    hidden_since(&rt, &fixture, 0, &[byte]);
-    hidden_since(&rt, &fixture, 1, &[]);
-    hidden_since(&rt, &fixture, 7, &[]);
+    hide_beside(fixture, alias, word)?;
+    see_lookup(rt, &fixture.table, alias, byte);
+    hidden_since(rt, fixture, 0, &[byte]);
+    hidden_since(rt, fixture, 1, &[]);
+    hidden_since(rt, fixture, 7, &[]);
     Ok(())
 }
 

@@ -14,4 +14,6 @@ mod refusing_tests;
 #[cfg(test)]
 mod relating_tests;
 #[cfg(test)]
+mod steps;
+#[cfg(test)]
 mod tests;

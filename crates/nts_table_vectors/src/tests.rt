@@ -33,7 +33,7 @@ fn see_variables(rt: &impl Abort, cx: &mut Cx, table: &mut InferCtxt)
         .expect(rt, "memory");
     assert!(rt; args.len(cx) == 2);
     assert!(rt; table.knows(cx, args).expect(rt, "memory"));
-    assert!(rt; !empty_knows(rt, cx, args));
+    assert!(rt; !empty_knows(cx, args).expect(rt, "memory"));
     let nodes = table.fresh_nodes(cx, &[Sort::Const]);
     assert!(rt; nodes.expect(rt, "memory").len() == 1);
     let like = table

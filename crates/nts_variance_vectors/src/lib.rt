@@ -2,4 +2,6 @@
 #![tactic(auto)]
 
 #[cfg(test)]
+mod steps;
+#[cfg(test)]
 mod tests;
