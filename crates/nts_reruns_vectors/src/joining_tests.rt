@@ -1,100 +1,83 @@
 //! Conditions joined.
+use crate::conditions::Condition::{Always, Ids, IdsOrOpen, Never, Open};
+use crate::conditions::{Condition, condition_of, is};
 use nts_certainty::RerunCondition;
-use nts_terms::AliasId;
+use nts_store::EvalError;
 use std::alloc::Global;
-use std::test::Fail;
+use std::process::Abort;
 
-fn id(number: usize) -> AliasId {
-    AliasId { number }
+/// A step of a test, which starts with no condition.
+enum Step {
+    /// What there is is joined to this condition, which takes its place.
+    JoinedTo(Condition),
+    /// This condition is joined to what there is.
+    Joins(Condition),
+    /// What there is is this condition.
+    Is(Condition),
 }
 
-/// The condition that names these ids.
-pub(crate) fn stored(alloc: Global, numbers: &[usize]) -> Result<RerunCondition, Fail> {
-    Ok(RerunCondition::OpaqueInStorage(ids_of(alloc, numbers)?))
-}
+use Step::{Is, JoinedTo, Joins};
 
-/// The same, or a hidden type that is a type variable.
-pub(crate) fn stored_or_open(alloc: Global, numbers: &[usize]) -> Result<RerunCondition, Fail> {
-    Ok(RerunCondition::OpaqueInStorageOrAnyOpaqueHasInferAsHidden(ids_of(alloc, numbers)?))
-}
-
-pub(crate) fn ids_of(alloc: Global, numbers: &[usize]) -> Result<Vec<AliasId>, Fail> {
-    let mut ids = Vec::new(alloc);
-    for number in numbers {
-        ids.push(id(*number))?;
-    }
-    Ok(ids)
-}
-
-/// What becomes of the first condition when the second one is joined.
-fn joined(mut first: RerunCondition, second: RerunCondition) -> Result<RerunCondition, Fail> {
-    first.join(&second)?;
-    Ok(first)
-}
-
-fn names(condition: &RerunCondition, numbers: &[usize]) -> bool {
-    match condition {
-        RerunCondition::OpaqueInStorage(ids) => are(ids, numbers),
-        _ => false,
+fn plays(rt: &impl Abort, alloc: Global, steps: &[Step]) {
+    let mut condition = RerunCondition::Never;
+    for n in 0..steps.len() {
+        let played = play(alloc, &mut condition, &steps[n]);
+        assert!(rt; matches!(played, Ok(true)), "step {n}");
     }
 }
 
-fn names_or_open(condition: &RerunCondition, numbers: &[usize]) -> bool {
-    match condition {
-        RerunCondition::OpaqueInStorageOrAnyOpaqueHasInferAsHidden(ids) => are(ids, numbers),
-        _ => false,
-    }
-}
-
-fn are(ids: &[AliasId], numbers: &[usize]) -> bool {
-    if ids.len() != numbers.len() {
-        return false;
-    }
-    for i in 0..ids.len() {
-        if ids[i].number != numbers[i] {
-            return false;
+fn play(alloc: Global, condition: &mut RerunCondition, step: &Step) -> Result<bool, EvalError> {
+    match step {
+        Step::JoinedTo(first) => {
+            let mut first = condition_of(alloc, *first)?;
+            first.join(condition)?;
+            *condition = first;
+            Ok(true)
         }
+        Step::Joins(other) => {
+            condition.join(&condition_of(alloc, *other)?)?;
+            Ok(true)
+        }
+        Step::Is(wanted) => Ok(is(condition, *wanted)),
     }
-    true
 }
 
 #[test]
-fn ids_are_united(rt: HostRuntime) -> Result<(), Fail> {
-    let alloc = rt.alloc();
-    let both = joined(stored(alloc, &[1, 2])?, stored(alloc, &[2, 3, 1])?)?;
-    assert!(rt; names(&both, &[1, 2, 3]));
-    Ok(())
+fn ids_are_united(rt: HostRuntime) {
+    const STEPS: &[Step] = &[
+        JoinedTo(Ids(&[1, 2])),
+        Joins(Ids(&[2, 3, 1])),
+        Is(Ids(&[1, 2, 3])),
+    ];
+    plays(&rt, rt.alloc(), STEPS);
 }
 
 #[test]
-fn ids_behind_open_types(rt: HostRuntime) -> Result<(), Fail> {
-    let left = joined(
-        RerunCondition::AnyOpaqueHasInferAsHidden,
-        stored(rt.alloc(), &[4])?,
-    )?;
-    assert!(rt; names_or_open(&left, &[4]));
-    Ok(())
+fn ids_behind_open_types(rt: HostRuntime) {
+    const STEPS: &[Step] = &[JoinedTo(Open), Joins(Ids(&[4])), Is(IdsOrOpen(&[4]))];
+    plays(&rt, rt.alloc(), STEPS);
 }
 
 #[test]
-fn open_types_behind_ids(rt: HostRuntime) -> Result<(), Fail> {
-    let alloc = rt.alloc();
-    let right = joined(
-        stored(alloc, &[4])?,
-        RerunCondition::AnyOpaqueHasInferAsHidden,
-    )?;
-    let most = joined(stored(alloc, &[6])?, right)?;
-    assert!(rt; names_or_open(&most, &[6, 4]));
-    Ok(())
+fn open_types_behind_ids(rt: HostRuntime) {
+    const STEPS: &[Step] = &[
+        JoinedTo(Ids(&[4])),
+        Joins(Open),
+        JoinedTo(Ids(&[6])),
+        Is(IdsOrOpen(&[6, 4])),
+    ];
+    plays(&rt, rt.alloc(), STEPS);
 }
 
 #[test]
-fn nothing_and_always(rt: HostRuntime) -> Result<(), Fail> {
-    let alloc = rt.alloc();
-    let same = joined(stored(alloc, &[7])?, RerunCondition::Never)?;
-    let other = joined(RerunCondition::Never, same)?;
-    assert!(rt; names(&other, &[7]));
-    let all = joined(other, RerunCondition::Always)?;
-    assert!(rt; matches!(all, RerunCondition::Always));
-    Ok(())
+fn nothing_and_always(rt: HostRuntime) {
+    const STEPS: &[Step] = &[
+        JoinedTo(Ids(&[7])),
+        Joins(Never),
+        JoinedTo(Never),
+        Is(Ids(&[7])),
+        Joins(Always),
+        Is(Always),
+    ];
+    plays(&rt, rt.alloc(), STEPS);
 }

@@ -2,6 +2,8 @@
 #![tactic(auto)]
 
 #[cfg(test)]
+mod conditions;
+#[cfg(test)]
 mod decision_tests;
 #[cfg(test)]
 mod joining_tests;

@@ -1,10 +1,11 @@
 //! Goals that stalled.
 use nts_certainty::Certainty;
 use nts_stalling::{GoalStalledOn, is_still_stalled};
+use nts_store::EvalError;
 use nts_table::InferCtxt;
 use nts_terms::{Cx, GenericArg, InferTy, TyKind, TypingMode};
 use std::alloc::Global;
-use std::test::Fail;
+use std::process::Abort;
 
 /// A goal that stalled on a variable and a sub root, when the table had so many hidden types.
 fn stalled(
@@ -12,12 +13,12 @@ fn stalled(
     opaques: usize,
     var: GenericArg,
     root: usize,
-) -> Result<GoalStalledOn, Fail> {
+) -> Result<GoalStalledOn, EvalError> {
     let vars = vec![in alloc; var]?;
     let roots = vec![in alloc; root]?;
     match GoalStalledOn::new(opaques, vars, roots, Certainty::AMBIGUOUS) {
         Some(kept) => Ok(kept),
-        None => Err(Fail::new("a doubt is kept")),
+        None => Err(EvalError::NoSolution),
     }
 }
 
@@ -27,10 +28,10 @@ fn stalls(
     opaques: usize,
     var: GenericArg,
     root: usize,
-) -> Result<bool, Fail> {
+) -> Result<bool, EvalError> {
     let kept = stalled(cx.alloc, opaques, var, root)?;
     if !kept.is_of_store(cx) {
-        return Err(Fail::new("no argument of the store"));
+        return Err(EvalError::NoSolution);
     }
     Ok(is_still_stalled(table, cx, &kept))
 }
@@ -43,32 +44,34 @@ fn nothing_is_kept_of_a_yes(rt: HostRuntime) {
 }
 
 #[test]
-fn a_goal_stalls_while_nothing_changes(rt: HostRuntime) -> Result<(), Fail> {
+fn a_goal_stalls_while_nothing_changes(rt: HostRuntime) {
     let mut cx = Cx::new(rt.alloc());
     let mut table = InferCtxt::new(rt.alloc(), TypingMode::PostAnalysis);
-    let var = table.next_ty_infer(&mut cx)?.into();
-    assert!(rt; stalls(&table, &cx, 0, var, 0)?);
-    assert!(rt; !stalls(&table, &cx, 5, var, 0)?);
-    assert!(rt; !stalls(&table, &cx, 0, var, 9)?);
-    Ok(())
+    let var = table.next_ty_infer(&mut cx).expect(&rt, "memory").into();
+    see_changes(&rt, &cx, &table, var);
+}
+
+fn see_changes(rt: &impl Abort, cx: &Cx, table: &InferCtxt, var: GenericArg) {
+    assert!(rt; stalls(table, cx, 0, var, 0).expect(rt, "memory"));
+    assert!(rt; !stalls(table, cx, 5, var, 0).expect(rt, "memory"));
+    assert!(rt; !stalls(table, cx, 0, var, 9).expect(rt, "memory"));
 }
 
 #[test]
-fn what_the_table_lacks_has_changed(rt: HostRuntime) -> Result<(), Fail> {
+fn what_the_table_lacks_has_changed(rt: HostRuntime) {
     let mut cx = Cx::new(rt.alloc());
     let mut table = InferCtxt::new(rt.alloc(), TypingMode::PostAnalysis);
-    table.next_ty_infer(&mut cx)?;
-    let other = cx.mk_ty(TyKind::Infer(InferTy::TyVar(7)))?.into();
-    assert!(rt; !stalls(&table, &cx, 0, other, 0)?);
-    Ok(())
+    table.next_ty_infer(&mut cx).expect(&rt, "memory");
+    let other = cx.mk_ty(TyKind::Infer(InferTy::TyVar(7)));
+    let other = other.expect(&rt, "memory").into();
+    assert!(rt; !stalls(&table, &cx, 0, other, 0).expect(&rt, "memory"));
 }
 
 #[test]
-fn without_short_cuts_no_goal_stalls(rt: HostRuntime) -> Result<(), Fail> {
+fn without_short_cuts_no_goal_stalls(rt: HostRuntime) {
     let mut cx = Cx::new(rt.alloc());
     cx.set_disable_fast_paths(true);
     let mut table = InferCtxt::new(rt.alloc(), TypingMode::PostAnalysis);
-    let var = table.next_ty_infer(&mut cx)?.into();
-    assert!(rt; !stalls(&table, &cx, 0, var, 0)?);
-    Ok(())
+    let var = table.next_ty_infer(&mut cx).expect(&rt, "memory").into();
+    assert!(rt; !stalls(&table, &cx, 0, var, 0).expect(&rt, "memory"));
 }
