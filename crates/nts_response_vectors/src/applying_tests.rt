@@ -1,161 +1,192 @@
 //! Responses applied to tables, case by case.
+ghost use Rattle.nts_table.specs.Tables.{IsTable};
 
-use crate::fixture::{applies, certain, const_at, refuses, region_at, sub_root};
+use crate::fixture::{applies, certain, region_at};
+use crate::steps::Step::{
+    Alike, Applies, InUniverse, Let, Refuses, Resolves, Shares, Universes, Variables,
+};
+use crate::steps::{Certain, Step, plays};
 use nts_canonical::CanonicalVarKind;
+use nts_canonical::CanonicalVarKind::{Const, Int, PlaceholderTy};
 use nts_delegate::RegionConstraint;
-use nts_fixtures::Fixture;
+use nts_fixtures::Make::{ConstPosition, RootVar, Type};
+use nts_fixtures::Type::Position;
+use nts_fixtures::{BYTE, Fixture, WORD};
 use nts_model::{Relation, Sort, UintTy, VariableKind};
 use nts_store::EvalError;
+use nts_store::EvalError::{Full, NoSolution};
 use nts_table::InferCtxt;
 use nts_terms::{
     AliasDefId, AliasKind, AliasTerm, BoundTy, GenericArg, PlaceholderType, Region, Ty,
     VisibleForLeakCheck,
 };
 use std::process::Abort;
-use std::test::Fail;
 
-/// The kind of a type variable of the root, with that sub root.
-fn ty_kind(sub_root: usize) -> CanonicalVarKind {
-    CanonicalVarKind::Ty { ui: 0, sub_root }
+/// The kind of a type variable of the root, whose sub root is the first position.
+const FIRST: CanonicalVarKind = CanonicalVarKind::Ty { ui: 0, sub_root: 0 };
+
+#[test]
+fn a_position_twice_makes_two_variables_one(rt: HostRuntime) {
+    const STEPS: &[Step] = &[
+        Let("x", RootVar(VariableKind::Ty)),
+        Let("y", RootVar(VariableKind::Ty)),
+        Let("z", RootVar(VariableKind::Ty)),
+        Let("position", Type(Position(0))),
+        Applies(&["x", "y"], Certain(0, &[FIRST], &["position", "position"])),
+        Alike("x", "y"),
+        Resolves("z", "z"),
+    ];
+    plays(&rt, rt.alloc(), STEPS);
 }
 
 #[test]
-fn a_position_twice_makes_two_variables_one(rt: HostRuntime) -> Result<(), Fail> {
-    let mut fixture = Fixture::new(rt.alloc())?;
-    let x = fixture.root_var(VariableKind::Ty)?;
-    let y = fixture.root_var(VariableKind::Ty)?;
-    let z = fixture.root_var(VariableKind::Ty)?;
-    let position = fixture.position(0)?;
-    let response = certain(rt.alloc(), 0, &[ty_kind(0)], &[position, position])?;
-    applies(&rt, &mut fixture, &[x, y], &response)?;
-    let value = fixture.resolved(y)?;
-    assert!(rt; fixture.resolved(x)? == value);
-    assert!(rt; fixture.resolved(z)? == z);
-    Ok(())
+fn kinds_without_values_and_odd_sub_roots(rt: HostRuntime) {
+    const SECOND: CanonicalVarKind = CanonicalVarKind::Ty { ui: 0, sub_root: 1 };
+    const EIGHTH: CanonicalVarKind = CanonicalVarKind::Ty { ui: 0, sub_root: 7 };
+    const STEPS: &[Step] = &[
+        Let("x", RootVar(VariableKind::Ty)),
+        Let("byte", BYTE),
+        Applies(&["x"], Certain(0, &[FIRST, EIGHTH, Int, SECOND], &["byte"])),
+        Resolves("x", "byte"),
+        Variables(5),
+    ];
+    plays(&rt, rt.alloc(), STEPS);
 }
 
 #[test]
-fn kinds_without_values_and_odd_sub_roots(rt: HostRuntime) -> Result<(), Fail> {
-    let mut fixture = Fixture::new(rt.alloc())?;
-    let x = fixture.root_var(VariableKind::Ty)?;
-    let byte = fixture.uint(UintTy::U8)?;
-    let kinds = [ty_kind(0), ty_kind(7), CanonicalVarKind::Int, ty_kind(1)];
-    let response = certain(rt.alloc(), 0, &kinds, &[byte])?;
-    applies(&rt, &mut fixture, &[x], &response)?;
-    assert!(rt; fixture.resolved(x)? == byte);
-    assert!(rt; fixture.table.variable_count() == 5);
-    Ok(())
+fn variables_of_one_sub_root_are_of_one_class(rt: HostRuntime) {
+    const THIRD: CanonicalVarKind = CanonicalVarKind::Ty { ui: 0, sub_root: 2 };
+    const STEPS: &[Step] = &[
+        Let("x", RootVar(VariableKind::Ty)),
+        Let("y", RootVar(VariableKind::Ty)),
+        Let("z", RootVar(VariableKind::Ty)),
+        Let("first", Type(Position(0))),
+        Let("second", Type(Position(1))),
+        Let("third", Type(Position(2))),
+        Applies(
+            &["x", "y", "z"],
+            Certain(0, &[FIRST, FIRST, THIRD], &["first", "second", "third"]),
+        ),
+        Shares(0, 1, true),
+        Shares(0, 2, false),
+        Resolves("x", "x"),
+        Resolves("y", "y"),
+    ];
+    plays(&rt, rt.alloc(), STEPS);
 }
 
 #[test]
-fn variables_of_one_sub_root_are_of_one_class(rt: HostRuntime) -> Result<(), Fail> {
-    let mut fixture = Fixture::new(rt.alloc())?;
-    let x = fixture.root_var(VariableKind::Ty)?;
-    let y = fixture.root_var(VariableKind::Ty)?;
-    let z = fixture.root_var(VariableKind::Ty)?;
-    let (first, second) = (fixture.position(0)?, fixture.position(1)?);
-    let third = fixture.position(2)?;
-    let kinds = [ty_kind(0), ty_kind(0), ty_kind(2)];
-    let response = certain(rt.alloc(), 0, &kinds, &[first, second, third])?;
-    applies(&rt, &mut fixture, &[x, y, z], &response)?;
-    let root = sub_root(&rt, &fixture, 0);
-    assert!(rt; root == sub_root(&rt, &fixture, 1) && root != sub_root(&rt, &fixture, 2));
-    assert!(rt; fixture.resolved(x)? == x);
-    assert!(rt; fixture.resolved(y)? == y);
-    Ok(())
+fn an_original_of_the_kind_is_guessed(rt: HostRuntime) {
+    const STEPS: &[Step] = &[
+        Let("x", RootVar(VariableKind::Int)),
+        Let("position", Type(Position(0))),
+        Applies(&["x"], Certain(0, &[Int], &["position"])),
+        Variables(1),
+    ];
+    plays(&rt, rt.alloc(), STEPS);
 }
 
 #[test]
-fn an_original_of_the_kind_is_guessed(rt: HostRuntime) -> Result<(), Fail> {
-    let mut fixture = Fixture::new(rt.alloc())?;
-    let x = fixture.root_var(VariableKind::Int)?;
-    let position = fixture.position(0)?;
-    let response = certain(rt.alloc(), 0, &[CanonicalVarKind::Int], &[position])?;
-    applies(&rt, &mut fixture, &[x], &response)?;
-    assert!(rt; fixture.table.variable_count() == 1);
-    Ok(())
-}
-
-#[test]
-fn a_placeholder_that_the_original_cannot_name(rt: HostRuntime) -> Result<(), Fail> {
-    let mut fixture = Fixture::new(rt.alloc())?;
-    let x = fixture.root_var(VariableKind::Ty)?;
-    let placeholder = PlaceholderType {
+fn a_placeholder_that_the_original_cannot_name(rt: HostRuntime) {
+    const PLACEHOLDER: PlaceholderType = PlaceholderType {
         universe: 1,
         bound: BoundTy { var: 0 },
     };
-    let position = fixture.position(0)?;
-    let kinds = [CanonicalVarKind::PlaceholderTy(placeholder)];
-    let response = certain(rt.alloc(), 1, &kinds, &[position])?;
-    refuses(&rt, &mut fixture, &[x], &response, EvalError::NoSolution);
-    assert!(rt; fixture.table.universe() == 0);
-    assert!(rt; fixture.resolved(x)? == x);
-    Ok(())
+    const STEPS: &[Step] = &[
+        Let("x", RootVar(VariableKind::Ty)),
+        Let("position", Type(Position(0))),
+        Refuses(
+            &["x"],
+            Certain(1, &[PlaceholderTy(PLACEHOLDER)], &["position"]),
+            NoSolution,
+        ),
+        InUniverse(0),
+        Resolves("x", "x"),
+    ];
+    plays(&rt, rt.alloc(), STEPS);
 }
 
 #[test]
-fn more_universes_than_there_are(rt: HostRuntime) -> Result<(), Fail> {
-    let mut fixture = Fixture::new(rt.alloc())?;
-    fixture.table.create_universes(1)?;
-    let response = certain(rt.alloc(), 4_294_967_295, &[], &[])?;
-    refuses(&rt, &mut fixture, &[], &response, EvalError::Full);
-    assert!(rt; fixture.table.universe() == 1);
-    let response = certain(rt.alloc(), 4_294_967_294, &[], &[])?;
-    applies(&rt, &mut fixture, &[], &response)?;
-    assert!(rt; fixture.table.universe() == 4_294_967_295);
-    Ok(())
+fn more_universes_than_there_are(rt: HostRuntime) {
+    const STEPS: &[Step] = &[
+        Universes(1),
+        Refuses(&[], Certain(4_294_967_295, &[], &[]), Full),
+        InUniverse(1),
+        Applies(&[], Certain(4_294_967_294, &[], &[])),
+        InUniverse(4_294_967_295),
+    ];
+    plays(&rt, rt.alloc(), STEPS);
 }
 
 #[test]
-fn a_last_value_that_does_not_match(rt: HostRuntime) -> Result<(), Fail> {
-    let mut fixture = Fixture::new(rt.alloc())?;
-    let x = fixture.root_var(VariableKind::Ty)?;
-    let byte = fixture.uint(UintTy::U8)?;
-    let word = fixture.uint(UintTy::U32)?;
-    let response = certain(rt.alloc(), 0, &[ty_kind(0)], &[byte, byte])?;
-    refuses(
-        &rt,
-        &mut fixture,
-        &[x, word],
-        &response,
-        EvalError::NoSolution,
-    );
-    assert!(rt; fixture.resolved(x)? == x);
-    assert!(rt; fixture.table.variable_count() == 1);
-    Ok(())
+fn a_last_value_that_does_not_match(rt: HostRuntime) {
+    const STEPS: &[Step] = &[
+        Let("x", RootVar(VariableKind::Ty)),
+        Let("byte", BYTE),
+        Let("word", WORD),
+        Refuses(
+            &["x", "word"],
+            Certain(0, &[FIRST], &["byte", "byte"]),
+            NoSolution,
+        ),
+        Resolves("x", "x"),
+        Variables(1),
+    ];
+    plays(&rt, rt.alloc(), STEPS);
 }
 
 #[test]
-fn a_position_of_another_sort(rt: HostRuntime) -> Result<(), Fail> {
-    let mut fixture = Fixture::new(rt.alloc())?;
-    let x = fixture.root_var(VariableKind::Ty)?;
-    let position = const_at(&mut fixture, 0)?;
-    let response = certain(rt.alloc(), 0, &[CanonicalVarKind::Const(0)], &[position])?;
-    refuses(&rt, &mut fixture, &[x], &response, EvalError::NoSolution);
-    assert!(rt; fixture.resolved(x)? == x);
-    Ok(())
+fn a_position_of_another_sort(rt: HostRuntime) {
+    const STEPS: &[Step] = &[
+        Let("x", RootVar(VariableKind::Ty)),
+        Let("position", ConstPosition(0)),
+        Refuses(&["x"], Certain(0, &[Const(0)], &["position"]), NoSolution),
+        Resolves("x", "x"),
+    ];
+    plays(&rt, rt.alloc(), STEPS);
 }
 
 #[test]
-fn the_leak_check_sees_what_the_query_showed(rt: HostRuntime) -> Result<(), Fail> {
-    let mut fixture = Fixture::new(rt.alloc())?;
+fn the_leak_check_sees_what_the_query_showed(rt: HostRuntime) {
+    let mut fixture = Fixture::new(rt.alloc()).expect(&rt, "memory");
+    see_the_leak_check(&rt, &mut fixture).expect(&rt, "memory");
+}
+
+fn see_the_leak_check(rt: &impl Abort, fixture: &mut Fixture) -> Result<(), EvalError>
+    requires { IsTable fixture.old.cx.nodes fixture.old.table }
+{
     let a = fixture.root_var(VariableKind::Region)?;
     let b = fixture.root_var(VariableKind::Region)?;
-    let left = region_at(&mut fixture, 0)?;
-    let right = region_at(&mut fixture, 1)?;
-    let kinds = [CanonicalVarKind::Region(0), CanonicalVarKind::Region(0)];
-    let mut response = certain(rt.alloc(), 0, &kinds, &[left, right])?;
+    let left = region_at(fixture, 0)?;
+    let right = region_at(fixture, 1)?;
     let outlives = RegionConstraint {
         relation: Relation::RegionOutlives,
         left,
         right: Region { node: right.node },
     };
+    apply_outlives(rt, fixture, &[a, b], outlives)?;
+    assert!(rt; fixture.table.variable_count() == 2);
+    see_recorded(rt, &fixture.table, a, b);
+    Ok(())
+}
+
+/// Applies the response to two regions that one outlives the other, which the leak check does not see.
+fn apply_outlives(
+    rt: &impl Abort,
+    fixture: &mut Fixture,
+    originals: &[GenericArg],
+    outlives: RegionConstraint,
+) -> Result<(), EvalError>
+    requires { IsTable fixture.old.cx.nodes fixture.old.table }
+    ensures { IsTable fixture.new.cx.nodes fixture.new.table }
+{
+    let alloc = fixture.cx.alloc;
+    let kinds = [CanonicalVarKind::Region(0), CanonicalVarKind::Region(0)];
+    let values = [outlives.left, GenericArg::from(outlives.right)];
+    let mut response = certain(alloc, 0, &kinds, &values)?;
     let constraints = &mut response.value.external_constraints.region_constraints;
     constraints.push((outlives, VisibleForLeakCheck::No))?;
-    applies(&rt, &mut fixture, &[a, b], &response)?;
-    assert!(rt; fixture.table.variable_count() == 2);
-    see_recorded(&rt, &fixture.table, a, b);
-    Ok(())
+    applies(rt, fixture, originals, &response)
 }
 
 /// The one constraint of a table, which the leak check does not see.
@@ -168,24 +199,47 @@ fn see_recorded(rt: &impl Abort, table: &InferCtxt, left: GenericArg, right: Gen
 }
 
 #[test]
-fn a_hidden_type_that_gives_place_becomes_a_duplicate(rt: HostRuntime) -> Result<(), Fail> {
-    let mut fixture = Fixture::new(rt.alloc())?;
+fn a_hidden_type_that_gives_place_becomes_a_duplicate(rt: HostRuntime) {
+    let mut fixture = Fixture::new(rt.alloc()).expect(&rt, "memory");
+    see_a_duplicate(&rt, &mut fixture).expect(&rt, "memory");
+}
+
+fn see_a_duplicate(rt: &impl Abort, fixture: &mut Fixture) -> Result<(), EvalError>
+    requires { IsTable fixture.old.cx.nodes fixture.old.table }
+{
     let alias = fixture.declare_alias(&[Sort::Ty], AliasKind::Opaque)?;
     let a = fixture.root_var(VariableKind::Ty)?;
     let byte = fixture.uint(UintTy::U8)?;
     let word = fixture.uint(UintTy::U32)?;
     let older = fixture.hide(alias, &[word], Ty { node: a.node })?;
     assert!(rt; older.is_none());
-    let key = AliasTerm {
-        def_id: AliasDefId::Ty(alias),
-        args: fixture.args(&[word])?,
-    };
-    let mut response = certain(rt.alloc(), 0, &[], &[])?;
-    let hidden = &mut response.value.external_constraints.opaque_types;
-    hidden.push((key, Ty { node: byte.node }))?;
-    applies(&rt, &mut fixture, &[], &response)?;
-    see_hidden(&rt, &fixture.table, byte, a);
+    let def_id = AliasDefId::Ty(alias);
+    let args = fixture.args(&[word])?;
+    apply_hidden(
+        rt,
+        fixture,
+        AliasTerm { def_id, args },
+        Ty { node: byte.node },
+    )?;
+    see_hidden(rt, &fixture.table, byte, a);
     Ok(())
+}
+
+/// Applies the response, to nothing, that an alias hides a type.
+fn apply_hidden(
+    rt: &impl Abort,
+    fixture: &mut Fixture,
+    alias: AliasTerm,
+    ty: Ty,
+) -> Result<(), EvalError>
+    requires { IsTable fixture.old.cx.nodes fixture.old.table }
+    ensures { IsTable fixture.new.cx.nodes fixture.new.table }
+{
+    let alloc = fixture.cx.alloc;
+    let mut response = certain(alloc, 0, &[], &[])?;
+    let hidden = &mut response.value.external_constraints.opaque_types;
+    hidden.push((alias, ty))?;
+    applies(rt, fixture, &[], &response)
 }
 
 /// The one hidden type of a table, and its one duplicate.

@@ -17,8 +17,7 @@ use nts_response::{
 };
 use nts_store::EvalError;
 use nts_terms::{
-    BoundConst, BoundRegion, ConstKind, GenericArg, Goal, RegionKind, Span, UniverseIndex,
-    VisibleForLeakCheck,
+    BoundRegion, GenericArg, Goal, RegionKind, Span, UniverseIndex, VisibleForLeakCheck,
 };
 use std::alloc::Global;
 use std::process::Abort;
@@ -30,15 +29,6 @@ pub fn region_at(fixture: &mut Fixture, var: usize) -> Result<GenericArg, EvalEr
 {
     let index = BoundVarIndexKind::Canonical;
     fixture.region(RegionKind::ReBound(index, BoundRegion { var }))
-}
-
-/// A position of a const.
-pub fn const_at(fixture: &mut Fixture, var: usize) -> Result<GenericArg, EvalError>
-    requires { IsTable fixture.old.cx.nodes fixture.old.table }
-    ensures { IsTable fixture.new.cx.nodes fixture.new.table }
-{
-    let index = BoundVarIndexKind::Canonical;
-    fixture.konst(ConstKind::Bound(index, BoundConst { var }))
 }
 
 /// A certain response of these kinds, with these values alone.
@@ -80,23 +70,8 @@ pub fn applies(
     Ok(())
 }
 
-/// Sees that a response that fits these originals is refused so.
-pub fn refuses(
-    rt: &impl Abort,
-    fixture: &mut Fixture,
-    originals: &[GenericArg],
-    response: &CanonicalResponse,
-    error: EvalError,
-)
-    requires { IsTable fixture.old.cx.nodes fixture.old.table }
-    ensures { IsTable fixture.new.cx.nodes fixture.new.table }
-{
-    let goals = apply(rt, fixture, originals, response);
-    assert!(rt; goals.err() == Some(error));
-}
-
 /// Applies a response that fits these originals.
-fn apply(
+pub fn apply(
     rt: &impl Abort,
     fixture: &mut Fixture,
     originals: &[GenericArg],
@@ -184,12 +159,4 @@ fn are_originals(rt: &impl Abort, fixture: &Fixture, originals: &[GenericArg])
         assert!(rt; table.knows(cx, originals[i]).expect(rt, "memory"));
         assert!(rt; !cx.has_escaping_bound_vars(originals[i]));
     }
-}
-
-/// The sub root of a type variable.
-pub fn sub_root(rt: &impl Abort, fixture: &Fixture, n: usize) -> usize
-    requires { IsTable fixture.now.cx.nodes fixture.now.table }
-{
-    assert!(rt; n < fixture.table.variable_count());
-    fixture.table.sub_unification_table_root_var(n)
 }

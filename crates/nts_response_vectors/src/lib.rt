@@ -10,4 +10,6 @@ mod same_tests;
 #[cfg(test)]
 mod state_tests;
 #[cfg(test)]
+mod steps;
+#[cfg(test)]
 mod tests;

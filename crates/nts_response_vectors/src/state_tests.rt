@@ -1,4 +1,5 @@
 //! States put into tables and made from them, case by case.
+ghost use Rattle.nts_table.specs.Tables.{IsTable};
 
 use crate::fixture::{instantiate, state};
 use nts_canonical::CanonicalVarKind;
@@ -8,29 +9,29 @@ use nts_response::CanonicalState;
 use nts_store::EvalError;
 use nts_terms::GenericArg;
 use std::process::Abort;
-use std::test::Fail;
 
 /// The kind of a type variable of the root.
-fn ty_kind() -> CanonicalVarKind {
-    CanonicalVarKind::Ty { ui: 0, sub_root: 0 }
-}
+const TY: CanonicalVarKind = CanonicalVarKind::Ty { ui: 0, sub_root: 0 };
 
 #[test]
-fn a_value_without_an_original_gets_one(rt: HostRuntime) -> Result<(), Fail> {
-    let mut fixture = Fixture::new(rt.alloc())?;
+fn a_value_without_an_original_gets_one(rt: HostRuntime) {
+    let mut fixture = Fixture::new(rt.alloc()).expect(&rt, "memory");
+    let mut originals = Vec::new(rt.alloc());
+    see_a_new_original(&rt, &mut fixture, &mut originals).expect(&rt, "memory");
+}
+
+fn see_a_new_original(
+    rt: &impl Abort,
+    fixture: &mut Fixture,
+    originals: &mut Vec<GenericArg>,
+) -> Result<(), EvalError>
+    requires { IsTable fixture.old.cx.nodes fixture.old.table }
+{
     let word = fixture.uint(UintTy::U32)?;
     let position = fixture.position(0)?;
-    let mut originals = Vec::new(rt.alloc());
     originals.push(word)?;
-    let payload = instantiate(
-        &rt,
-        &mut fixture,
-        &mut originals,
-        &[ty_kind()],
-        &[word, position],
-        1,
-    )?;
-    let made = second(&rt, &originals, word);
+    let payload = instantiate(rt, fixture, originals, &[TY], &[word, position], 1)?;
+    let made = second(rt, originals, word);
     let value = fixture.resolved(payload)?;
     assert!(rt; fixture.resolved(made)? == value);
     Ok(())
@@ -45,37 +46,46 @@ fn second(rt: &impl Abort, originals: &[GenericArg], first: GenericArg) -> Gener
 }
 
 #[test]
-fn a_refused_state_leaves_all_as_before(rt: HostRuntime) -> Result<(), Fail> {
-    let mut fixture = Fixture::new(rt.alloc())?;
+fn a_refused_state_leaves_all_as_before(rt: HostRuntime) {
+    let mut fixture = Fixture::new(rt.alloc()).expect(&rt, "memory");
+    let mut originals = Vec::new(rt.alloc());
+    see_a_refusal(&rt, &mut fixture, &mut originals).expect(&rt, "memory");
+}
+
+fn see_a_refusal(
+    rt: &impl Abort,
+    fixture: &mut Fixture,
+    originals: &mut Vec<GenericArg>,
+) -> Result<(), EvalError>
+    requires { IsTable fixture.old.cx.nodes fixture.old.table }
+{
     let byte = fixture.uint(UintTy::U8)?;
     let word = fixture.uint(UintTy::U32)?;
     let position = fixture.position(0)?;
-    let mut originals = Vec::new(rt.alloc());
     originals.push(byte)?;
-    let refused = instantiate(
-        &rt,
-        &mut fixture,
-        &mut originals,
-        &[ty_kind()],
-        &[word, position],
-        1,
-    );
-    let before = originals.as_slice() == [byte].as_slice();
+    let refused = instantiate(rt, fixture, originals, &[TY], &[word, position], 1);
+    assert!(rt; matches!(refused, Err(EvalError::NoSolution)));
+    assert!(rt; originals.as_slice() == [byte].as_slice());
     assert!(rt; fixture.table.variable_count() == 0);
     assert!(rt; fixture.table.universe() == 0);
-    assert!(rt; before && matches!(refused, Err(EvalError::NoSolution)));
     Ok(())
 }
 
 #[test]
-fn equal_leaves_of_a_state_are_one_position(rt: HostRuntime) -> Result<(), Fail> {
-    let mut fixture = Fixture::new(rt.alloc())?;
+fn equal_leaves_of_a_state_are_one_position(rt: HostRuntime) {
+    let mut fixture = Fixture::new(rt.alloc()).expect(&rt, "memory");
+    see_positions(&rt, &mut fixture).expect(&rt, "memory");
+}
+
+fn see_positions(rt: &impl Abort, fixture: &mut Fixture) -> Result<(), EvalError>
+    requires { IsTable fixture.old.cx.nodes fixture.old.table }
+{
     let x = fixture.root_var(VariableKind::Ty)?;
     let first = fixture.position(0)?;
     let second = fixture.position(1)?;
-    has(&rt, &state(&mut fixture, x, x)?, first, 1);
+    has(rt, &state(fixture, x, x)?, first, 1);
     let y = fixture.root_var(VariableKind::Ty)?;
-    has(&rt, &state(&mut fixture, x, y)?, second, 2);
+    has(rt, &state(fixture, x, y)?, second, 2);
     Ok(())
 }
 

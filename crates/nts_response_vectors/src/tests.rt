@@ -13,6 +13,7 @@ use nts_response::{
     CanonicalResponse, ExternalConstraintsData, Response, clone_response,
     has_no_inference_or_external_constraints, is_identity, response_no_constraints_raw,
 };
+use nts_store::EvalError;
 use nts_table::InferCtxt;
 use nts_terms::{
     BoundRegion, BoundTy, Cx, GenericArg, Goal, PlaceholderRegion, Predicate, Region, RegionKind,
@@ -82,21 +83,37 @@ fn has_positions(rt: &impl Abort, cx: &mut Cx, response: &CanonicalResponse, pos
 }
 
 #[test]
-fn universes_are_counted_from_the_greatest_of_the_input(rt: HostRuntime) -> Result<(), Fail> {
+fn universes_are_counted_from_the_greatest_of_the_input(rt: HostRuntime) {
     let mut cx = Cx::new(rt.alloc());
-    let mut table = table_in(&cx, 3)?;
-    let far = table.variable_in_universe(&mut cx, VariableKind::Ty, 3, None)?;
-    let near = table.variable_in_universe(&mut cx, VariableKind::Ty, 1, None)?;
-    let fixed = region(&rt, &mut cx, &table, RegionKind::ReStatic);
+    let mut table = table_in(&cx, 3).expect(&rt, "memory");
+    see_universes(&rt, &mut cx, &mut table);
+}
+
+fn see_universes(rt: &impl Abort, cx: &mut Cx, table: &mut InferCtxt)
+    requires { IsTable cx.old.nodes table.old }
+{
+    let far = ty_var(rt, cx, table, 3);
+    let near = ty_var(rt, cx, table, 1);
+    let fixed = region(rt, cx, table, RegionKind::ReStatic);
     let trivial = RegionConstraint {
         relation: Relation::RegionOutlives,
         left: fixed.into(),
         right: fixed,
     };
-    let found = response(&rt, &table, &mut cx, far, near, trivial);
-    has_positions(&rt, &mut cx, &found, &[0, 1]);
-    see_far_and_near(&rt, &found);
-    Ok(())
+    let found = response(rt, table, cx, far, near, trivial);
+    has_positions(rt, cx, &found, &[0, 1]);
+    see_far_and_near(rt, &found);
+}
+
+/// A type variable of that universe.
+fn ty_var(rt: &impl Abort, cx: &mut Cx, table: &mut InferCtxt, universe: u32) -> GenericArg
+    requires { IsTable cx.old.nodes table.old }
+    ensures { IsTable cx.new.nodes table.new }
+{
+    assert!(rt; universe <= table.universe());
+    table
+        .variable_in_universe(cx, VariableKind::Ty, universe, None)
+        .expect(rt, "memory")
 }
 
 /// The far variable is of the universe after the greatest of the input, and the near one of the root.
@@ -111,26 +128,31 @@ fn see_far_and_near(rt: &impl Abort, found: &CanonicalResponse) {
 }
 
 #[test]
-fn equal_leaves_have_one_position_and_static_has_none(rt: HostRuntime) -> Result<(), Fail> {
+fn equal_leaves_have_one_position_and_static_has_none(rt: HostRuntime) {
     let mut cx = Cx::new(rt.alloc());
-    let mut table = table_in(&cx, 3)?;
-    let x = table.variable_in_universe(&mut cx, VariableKind::Ty, 0, None)?;
+    let mut table = table_in(&cx, 3).expect(&rt, "memory");
+    see_equal_leaves(&rt, &mut cx, &mut table);
+}
+
+fn see_equal_leaves(rt: &impl Abort, cx: &mut Cx, table: &mut InferCtxt)
+    requires { IsTable cx.old.nodes table.old }
+{
+    let x = ty_var(rt, cx, table, 0);
     let placeholder = PlaceholderRegion {
         universe: 3,
         bound: BoundRegion { var: 7 },
     };
-    let a = region(&rt, &mut cx, &table, RegionKind::RePlaceholder(placeholder));
-    let fixed = region(&rt, &mut cx, &table, RegionKind::ReStatic);
+    let a = region(rt, cx, table, RegionKind::RePlaceholder(placeholder));
+    let fixed = region(rt, cx, table, RegionKind::ReStatic);
     let outlives = RegionConstraint {
         relation: Relation::RegionOutlives,
         left: a.into(),
         right: fixed,
     };
-    let found = response(&rt, &table, &mut cx, x, x, outlives);
-    has_positions(&rt, &mut cx, &found, &[0, 0]);
-    see_placeholder(&rt, &found);
-    see_outlives(&rt, &mut cx, &found, fixed);
-    Ok(())
+    let found = response(rt, table, cx, x, x, outlives);
+    has_positions(rt, cx, &found, &[0, 0]);
+    see_placeholder(rt, &found);
+    see_outlives(rt, cx, &found, fixed);
 }
 
 /// The second position is the placeholder, of the universe after the greatest of the input.
@@ -162,16 +184,17 @@ fn see_outlives(rt: &impl Abort, cx: &mut Cx, found: &CanonicalResponse, fixed: 
 }
 
 #[test]
-fn what_found_nothing_out_has_its_positions_as_values(rt: HostRuntime) -> Result<(), Fail> {
+fn what_found_nothing_out_has_its_positions_as_values(rt: HostRuntime) {
+    const KINDS: &[CanonicalVarKind] = &[
+        CanonicalVarKind::Ty { ui: 0, sub_root: 0 },
+        CanonicalVarKind::Int,
+        CanonicalVarKind::Region(2),
+    ];
     let mut cx = Cx::new(rt.alloc());
-    let mut kinds = Vec::new(rt.alloc());
-    kinds.push(CanonicalVarKind::Ty { ui: 0, sub_root: 0 })?;
-    kinds.push(CanonicalVarKind::Int)?;
-    kinds.push(CanonicalVarKind::Region(2))?;
+    let kinds = KINDS.to_vec(rt.alloc()).expect(&rt, "memory");
     let certainty = Certainty::overflow(true);
-    let found = response_no_constraints_raw(&mut cx, 2, kinds, certainty)?;
-    see_nothing_found(&rt, &mut cx, &found);
-    Ok(())
+    let found = response_no_constraints_raw(&mut cx, 2, kinds, certainty);
+    see_nothing_found(&rt, &mut cx, &found.expect(&rt, "memory"));
 }
 
 fn see_nothing_found(rt: &impl Abort, cx: &mut Cx, found: &CanonicalResponse)
@@ -210,11 +233,19 @@ fn see_orders(rt: &impl Abort, cx: &Cx, first: GenericArg, second: GenericArg) {
 }
 
 #[test]
-fn a_clone_has_what_its_source_has(rt: HostRuntime) -> Result<(), Fail> {
-    let mut fixture = Fixture::new(rt.alloc())?;
+fn a_clone_has_what_its_source_has(rt: HostRuntime) {
+    let mut fixture = Fixture::new(rt.alloc()).expect(&rt, "memory");
+    let copy = cloned(&mut fixture).expect(&rt, "memory");
+    see_clone(&rt, &copy);
+}
+
+/// A clone of a response with a goal.
+fn cloned(fixture: &mut Fixture) -> Result<CanonicalResponse, EvalError>
+    requires { IsTable fixture.old.cx.nodes fixture.old.table }
+{
     let first = fixture.position(0)?;
     let kind = CanonicalVarKind::Ty { ui: 3, sub_root: 0 };
-    let mut response = certain(rt.alloc(), 5, &[kind], &[first, first])?;
+    let mut response = certain(fixture.cx.alloc, 5, &[kind], &[first, first])?;
     let goal = Goal {
         param_env: fixture.env,
         predicate: Predicate { node: first.node },
@@ -224,9 +255,7 @@ fn a_clone_has_what_its_source_has(rt: HostRuntime) -> Result<(), Fail> {
         .external_constraints
         .normalization_nested_goals;
     goals.push((GoalSource::Misc, goal))?;
-    let copy = clone_response(&response)?;
-    see_clone(&rt, &copy);
-    Ok(())
+    Ok(clone_response(&response)?)
 }
 
 fn see_clone(rt: &impl Abort, copy: &CanonicalResponse) {
