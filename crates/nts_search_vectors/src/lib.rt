@@ -6,4 +6,6 @@ mod fixture;
 #[cfg(test)]
 mod stack_tests;
 #[cfg(test)]
+mod steps;
+#[cfg(test)]
 mod tests;

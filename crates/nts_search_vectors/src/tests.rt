@@ -1,9 +1,10 @@
 //! Steps and first answers, case by case.
 use crate::fixture::input_of;
 use nts_certainty::{Certainty, GoalSource, PathKind};
+use nts_response::CanonicalResponse;
 use nts_search::{CurrentGoalKind, initial_provisional_result, step_kind_for_source};
 use nts_terms::{Cx, TypingMode};
-use std::test::Fail;
+use std::process::Abort;
 
 #[test]
 fn a_condition_counts_as_its_goal_does(rt: HostRuntime) {
@@ -31,35 +32,42 @@ fn other_sources_count_alike_below_each_goal(rt: HostRuntime) {
 }
 
 #[test]
-fn a_coinductive_cycle_holds_at_first(rt: HostRuntime) -> Result<(), Fail> {
+fn a_coinductive_cycle_holds_at_first(rt: HostRuntime) {
     let mut cx = Cx::new(rt.alloc());
     let input = input_of(&mut cx, &rt, &[], TypingMode::Coherence);
-    let first = initial_provisional_result(&mut cx, PathKind::Coinductive, &input)?;
-    let response = first.ok_or("an answer")?;
+    let first = initial_provisional_result(&mut cx, PathKind::Coinductive, &input);
+    let response = first.expect(&rt, "memory").expect(&rt, "an answer");
+    see_a_yes(&rt, &response);
+}
+
+fn see_a_yes(rt: &impl Abort, response: &CanonicalResponse) {
     assert!(rt; response.value.certainty == Certainty::Yes);
     assert!(rt; response.value.var_values.len() == 1);
     assert!(rt; response.value.external_constraints.is_empty());
-    Ok(())
 }
 
 #[test]
-fn an_inductive_cycle_is_refuted_where_nothing_is_added(rt: HostRuntime) -> Result<(), Fail> {
+fn an_inductive_cycle_is_refuted_where_nothing_is_added(rt: HostRuntime) {
     let mut cx = Cx::new(rt.alloc());
     let input = input_of(&mut cx, &rt, &[], TypingMode::PostAnalysis);
-    let first = initial_provisional_result(&mut cx, PathKind::Inductive, &input)?;
-    assert!(rt; first.is_none());
-    let first = initial_provisional_result(&mut cx, PathKind::Unknown, &input)?;
-    let response = first.ok_or("an answer")?;
-    assert!(rt; response.value.certainty == Certainty::overflow(false));
-    Ok(())
+    let first = initial_provisional_result(&mut cx, PathKind::Inductive, &input);
+    assert!(rt; first.expect(&rt, "memory").is_none());
 }
 
 #[test]
-fn an_inductive_cycle_is_a_doubt_in_coherence(rt: HostRuntime) -> Result<(), Fail> {
+fn an_unknown_cycle_is_a_doubt(rt: HostRuntime) {
+    let mut cx = Cx::new(rt.alloc());
+    let input = input_of(&mut cx, &rt, &[], TypingMode::PostAnalysis);
+    let first = initial_provisional_result(&mut cx, PathKind::Unknown, &input);
+    let response = first.expect(&rt, "memory").expect(&rt, "an answer");
+    assert!(rt; response.value.certainty == Certainty::overflow(false));
+}
+
+#[test]
+fn an_inductive_cycle_is_a_doubt_in_coherence(rt: HostRuntime) {
     let mut cx = Cx::new(rt.alloc());
     let input = input_of(&mut cx, &rt, &[], TypingMode::Coherence);
-    let first = initial_provisional_result(&mut cx, PathKind::Inductive, &input)?;
-    let response = first.ok_or("an answer")?;
+    let first = initial_provisional_result(&mut cx, PathKind::Inductive, &input);
+    let response = first.expect(&rt, "memory").expect(&rt, "an answer");
     assert!(rt; response.value.certainty == Certainty::overflow(false));
-    Ok(())
 }
