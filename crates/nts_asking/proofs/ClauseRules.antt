@@ -1,6 +1,6 @@
 -- No clause says what an alias normalizes to, and none of an environment is a rule that does; and neither reports a leak. What is
 -- promised then holds for a list of clauses, and for one behind the environment.
-use Rattle.std.proofs.Common.{◌≡◌, inl, inr, List, [], sym, ap, ◌∙◌}
+use Rattle.std.proofs.Common.{inl, inr, List, [], sym, ap, ◌∙◌}
 use Rattle.nts_model.specs.Terms.Trees.{Tree}
 use Rattle.nts_model.specs.Derivations.Handlers.{meaning}
 use Rattle.nts_model.specs.Derivations.Rules.{goal_kind}

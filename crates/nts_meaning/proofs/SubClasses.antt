@@ -1,6 +1,5 @@
 -- The sub roots that a table's links lead to are those of its classes.
 use Rattle.std.proofs.Common.{◌≡◌, ℕ, zero, suc, List, Option, Some, None, slice_get, refl, sym, ap, ◌∙◌, subst, [], ◌∷◌, map}
-use Rattle.std.specs.Prelude.{◌↔◌}
 use Rattle.nts_model.specs.Terms.Trees.{Tree}
 use Rattle.nts_model.specs.Tables.Contents.{Content, map_slot, sub_link_of, Slot}
 use Rattle.nts_model.specs.Tables.SubUnifying.{SharesSubRoot, itself, linked, turned, through}

@@ -23,15 +23,9 @@ use Rattle.nts_store.specs.TypeFlags.{flags_of}
 use Rattle.nts_store.specs.Formed.{AreFormed}
 use Rattle.nts_store.specs.Growth.{tree_at, Extends}
 use Rattle.nts_terms.specs.Kinds.{tree_of_statement, tree_of_predicate, PredicateFits}
-use Rattle.nts_store.proofs.Growing.{Extends-trans, Extends-refl}
 use Rattle.nts_terms.proofs.Standing.{vars_tree}
-use Rattle.nts_table.specs.Tables.{Table}
-use Rattle.nts_table.specs.Tables.{IsTable}
-use Rattle.nts_unify.specs.Lawful.{content_of-extended}
-use Rattle.nts_table.specs.TableLaws.{IsTable-extended}
-use Rattle.nts_delegate.specs.ClausesKept.{AreClausesReady-kept}
 use Rattle.nts_theory.specs.Telling.{IsTraitStatement, IsTraitGoal}
-use Rattle.nts_meaning.specs.Evaluation.{IsAdmitted, IsAskedGoal}
+use Rattle.nts_meaning.specs.Evaluation.{IsAskedGoal}
 use Rattle.nts_delegate.specs.Candidates.{IsAskedIn}
 use Rattle.nts_terms.specs.Handles.{HoldsGoal}
 use Rattle.nts_meaning.proofs.Evaluating.{HoldsGoal-extended}

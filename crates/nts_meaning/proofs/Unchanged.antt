@@ -1,5 +1,5 @@
 -- The response that says nothing can be applied where its input is asked.
-use Rattle.std.proofs.Common.{◌≡◌, inl, inr, ⊎_elim, ℕ, zero, suc, ◌+◌, ◌≤◌, List, [], ◌∷◌, map, length, get_or, Some, refl, sym, ap, ◌∙◌, subst, arith}
+use Rattle.std.proofs.Common.{◌≡◌, inl, inr, ⊎_elim, ℕ, zero, suc, ◌+◌, List, [], ◌∷◌, map, length, get_or, Some, refl, sym, ap, ◌∙◌, subst, arith}
 use Rattle.std.specs.Prelude.{slice_get, Contains, All}
 use Rattle.std.proofs.lemmas.List.{length-map}
 use Rattle.nts_model.proofs.Terms.Listed.{map-map}
@@ -7,7 +7,7 @@ use Rattle.nts_delegate.specs.Offered.{hidden_of}
 use Rattle.nts_response.specs.Replacing.{argument_value}
 use Rattle.nts_model.specs.declared.labels.Sort.TheVariants as sort
 use Rattle.nts_model.specs.declared.labels.Leaf.{Leaf}
-use Rattle.nts_model.specs.Terms.Trees.{Tree, empty, node, kind_of}
+use Rattle.nts_model.specs.Terms.Trees.{Tree, empty, kind_of}
 use Rattle.nts_model.specs.Terms.Substitutions.{leaf_tree, Occurs}
 use Rattle.nts_model.specs.Lists.{Among}
 use Rattle.nts_model.specs.Canonical.Numbered.{position}

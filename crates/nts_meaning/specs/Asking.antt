@@ -1,6 +1,6 @@
 -- A goal asked in a query of its own: its canonical input, the table that is made for that, the response, and what applying
 -- the response adds to the table that asked.
-use Rattle.std.specs.Prelude.{◌≡◌, ℕ, List, [], map}
+use Rattle.std.specs.Prelude.{List, [], map}
 use Rattle.nts_model.specs.Terms.Trees.{Tree}
 use Rattle.nts_model.specs.Tables.Contents.{Content}
 use Rattle.nts_model.specs.Terms.Substitutions.{leaf_tree, filled}
