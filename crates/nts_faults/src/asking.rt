@@ -13,7 +13,6 @@ use nts_evaluation::{evaluate_root_goal, goal_is_admitted};
 use nts_fixtures::Fixture;
 use nts_model::{BoundVarIndexKind, Sort, UintTy};
 use nts_store::EvalError;
-use nts_table::InferCtxt;
 use nts_terms::{BoundTy, CtorId, Cx, DefId, GenericArg, Goal, Predicate, Span, TraitId, TyKind};
 
 /// The traits that goals are about.
@@ -132,26 +131,24 @@ pub fn goal_of(cx: &mut Cx, trait_id: TraitId, argument: GenericArg) -> Result<G
     })
 }
 
-/// What comes of a goal that may be asked.
+/// Evaluates a goal that may be asked.
 #[tactic(auto, using(nts_asking::proofs::Asking::asking))]
-fn evaluate(
-    table: &mut InferCtxt,
-    cx: &mut Cx,
-    rules: &Clauses,
-    goal: Goal,
-) -> Result<Result<(), EvalError>, EvalError>
-    requires table { IsTable cx.old.nodes table.old }
-    requires ready { AreClausesReady cx.old.nodes rules.now }
-    requires holds { HoldsGoal cx.old.nodes goal }
-    ensures table { OnOk result (IsTable cx.new.nodes table.new) }
+fn evaluate(fixture: &mut Fixture, rules: &Clauses, goal: Goal) -> Result<Called, EvalError>
+    requires table { IsTable fixture.old.cx.nodes fixture.old.table }
+    requires ready { AreClausesReady fixture.old.cx.nodes rules.now }
+    requires holds { HoldsGoal fixture.old.cx.nodes goal }
+    ensures table { OnOk result (IsTable fixture.new.cx.nodes fixture.new.table) }
 {
-    if !goal_is_admitted(table, cx, goal)? {
+    if !goal_is_admitted(&fixture.table, &mut fixture.cx, goal)? {
         return Err(EvalError::NoSolution);
     }
-    match evaluate_root_goal(table, cx, rules, goal, Span(0), None) {
-        Ok(_) => Ok(Ok(())),
-        Err(error) => Ok(Err(error)),
-    }
+    let before = content_of(fixture)?;
+    let (cx, table) = (&mut fixture.cx, &mut fixture.table);
+    let answer = match evaluate_root_goal(table, cx, rules, goal, Span(0), None) {
+        Ok(_) => Ok(()),
+        Err(error) => Err(error),
+    };
+    Ok(Called { before, answer })
 }
 
 /// Asks for a goal about an argument.
@@ -161,14 +158,11 @@ pub fn ask(fixture: &mut Fixture, rule: Rule, argument: GenericArg) -> Result<Ca
     ensures { OnOk result (IsTable fixture.new.cx.nodes fixture.new.table) }
 {
     let traits = traits_of(fixture)?;
-    let before = content_of(fixture)?;
-    let (cx, table, one) = (&mut fixture.cx, &mut fixture.table, fixture.one);
     let asked = match rule {
         Rule::Fact => traits.only,
         Rule::Condition => traits.over,
     };
-    let goal = goal_of(cx, asked, argument)?;
-    let rules = rules_of(cx, traits, one)?;
-    let answer = evaluate(table, cx, &rules, goal)?;
-    Ok(Called { before, answer })
+    let goal = goal_of(&mut fixture.cx, asked, argument)?;
+    let rules = rules_of(&mut fixture.cx, traits, fixture.one)?;
+    evaluate(fixture, &rules, goal)
 }

@@ -11,6 +11,7 @@ use nts_terms::{
     VisibleForLeakCheck,
 };
 use nts_unify::{Constraint, HiddenType, Variable};
+use std::alloc::Global;
 
 /// What can be read of a table: its variables with their universes, values and links, the roots of their classes, the
 /// region constraints, the hidden types and their duplicates, and the universe.
@@ -25,32 +26,52 @@ pub struct Content {
     universe: UniverseIndex,
 }
 
-/// What can be read of the table now.
+/// Nothing read.
+fn no_content(alloc: Global) -> Content {
+    Content {
+        variables: Vec::new(alloc),
+        roots: Vec::new(alloc),
+        sub_roots: Vec::new(alloc),
+        constraints: Vec::new(alloc),
+        hidden: Vec::new(alloc),
+        duplicates: Vec::new(alloc),
+        universe: 0,
+    }
+}
+
+/// Reads what the table knows.
+fn read(content: &mut Content, fixture: &Fixture) -> Result<(), EvalError>
+    requires { IsTable fixture.now.cx.nodes fixture.now.table }
+{
+    let table = &fixture.table;
+    for n in 0..table.variable_count() {
+        content.variables.push(table.variable(n))?;
+        content.roots.push(table.root(n))?;
+        content
+            .sub_roots
+            .push(table.sub_unification_table_root_var(n))?;
+    }
+    for n in 0..table.constraint_count() {
+        content.constraints.push(table.constraint(n))?;
+    }
+    content
+        .hidden
+        .extend_from_slice(table.inner.hidden_types())?;
+    content
+        .duplicates
+        .extend_from_slice(table.inner.duplicates())?;
+    content.universe = table.universe();
+    Ok(())
+}
+
+/// What can be read of the table now. Its lists are owned here and in no function that reads one of them, and so they are
+/// given up at one place.
 pub fn content_of(fixture: &Fixture) -> Result<Content, EvalError>
     requires { IsTable fixture.now.cx.nodes fixture.now.table }
 {
-    let (alloc, table) = (fixture.cx.alloc, &fixture.table);
-    let mut variables = Vec::new(alloc);
-    let mut roots = Vec::new(alloc);
-    let mut sub_roots = Vec::new(alloc);
-    for n in 0..table.variable_count() {
-        variables.push(table.variable(n))?;
-        roots.push(table.root(n))?;
-        sub_roots.push(table.sub_unification_table_root_var(n))?;
-    }
-    let mut constraints = Vec::new(alloc);
-    for n in 0..table.constraint_count() {
-        constraints.push(table.constraint(n))?;
-    }
-    Ok(Content {
-        variables,
-        roots,
-        sub_roots,
-        constraints,
-        hidden: table.inner.hidden_types().to_vec(alloc)?,
-        duplicates: table.inner.duplicates().to_vec(alloc)?,
-        universe: table.universe(),
-    })
+    let mut content = no_content(fixture.cx.alloc);
+    read(&mut content, fixture)?;
+    Ok(content)
 }
 
 /// Puts something of each part into the table, and answers an opaque alias of a type that hides one.

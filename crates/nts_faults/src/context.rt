@@ -69,34 +69,29 @@ fn enter(
     )
 }
 
-/// What comes of it, where the goal may be asked and the types are of the table.
+/// Does so, where the goal may be asked and the types are of the table.
 #[tactic(auto, using(nts_asking::proofs::Asking::asking))]
 fn try_enter(
-    table: &mut InferCtxt,
-    cx: &mut Cx,
+    fixture: &mut Fixture,
     rules: &Clauses,
     lhs: GenericArg,
     rhs: GenericArg,
     goal: Goal,
-) -> Result<Result<(), EvalError>, EvalError>
-    requires table { IsTable cx.old.nodes table.old }
-    requires ready { AreClausesReady cx.old.nodes rules.now }
-    requires goal { HoldsGoal cx.old.nodes goal }
-    ensures table { OnOk result (IsTable cx.new.nodes table.new) }
+) -> Result<Called, EvalError>
+    requires table { IsTable fixture.old.cx.nodes fixture.old.table }
+    requires ready { AreClausesReady fixture.old.cx.nodes rules.now }
+    requires goal { HoldsGoal fixture.old.cx.nodes goal }
+    ensures table { OnOk result (IsTable fixture.new.cx.nodes fixture.new.table) }
 {
-    if !goal_is_admitted(table, cx, goal)? {
+    if !goal_is_admitted(&fixture.table, &mut fixture.cx, goal)? {
         return Err(EvalError::NoSolution);
     }
-    if !cx.holds(lhs) || !cx.holds(rhs) {
-        return Err(EvalError::NoSolution);
-    }
-    if !table.knows(cx, lhs)? || !table.knows(cx, rhs)? {
-        return Err(EvalError::NoSolution);
-    }
-    match enter(table, cx, rules, lhs, rhs, goal) {
-        Ok(()) => Ok(Ok(())),
-        Err(error) => Ok(Err(error)),
-    }
+    fixture.seen(lhs)?;
+    fixture.seen(rhs)?;
+    let before = content_of(fixture)?;
+    let (cx, table) = (&mut fixture.cx, &mut fixture.table);
+    let answer = enter(table, cx, rules, lhs, rhs, goal);
+    Ok(Called { before, answer })
 }
 
 /// Makes the constructor over a variable and over `u32` one, and asks for a goal about that type.
@@ -110,10 +105,7 @@ pub fn context(fixture: &mut Fixture) -> Result<Called, EvalError>
     let lhs = fixture.wrap(variable)?;
     let word = fixture.uint(UintTy::U32)?;
     let rhs = fixture.wrap(word)?;
-    let before = content_of(fixture)?;
-    let (cx, table, one) = (&mut fixture.cx, &mut fixture.table, fixture.one);
-    let goal = goal_of(cx, traits.over, lhs)?;
-    let rules = rules_of(cx, traits, one)?;
-    let answer = try_enter(table, cx, &rules, lhs, rhs, goal)?;
-    Ok(Called { before, answer })
+    let goal = goal_of(&mut fixture.cx, traits.over, lhs)?;
+    let rules = rules_of(&mut fixture.cx, traits, fixture.one)?;
+    try_enter(fixture, &rules, lhs, rhs, goal)
 }

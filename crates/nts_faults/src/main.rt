@@ -81,17 +81,31 @@ fn call(fixture: &mut Fixture, row: &str) -> Result<Called, EvalError>
     }
 }
 
-/// Makes the call of a row, and looks at the table again.
-fn run(alloc: Global, row: &str) -> Result<End, EvalError> {
-    let mut fixture = Fixture::new(alloc)?;
-    let Called { before, answer } = call(&mut fixture, row)?;
-    let same = before == content_of(&fixture)?;
-    Ok(match answer {
+/// Looks at the table again, after a call.
+fn end_of(fixture: &Fixture, called: &Called) -> Result<End, EvalError>
+    requires { IsTable fixture.now.cx.nodes fixture.now.table }
+{
+    let same = called.before == content_of(fixture)?;
+    Ok(match called.answer {
         Ok(()) => End::Done,
         Err(EvalError::Memory) if same => End::Memory,
         Err(EvalError::NoSolution) if same => End::No,
         Err(_) => End::Wrong,
     })
+}
+
+/// Makes the call of a row in a table that has nothing, and looks at it again.
+fn run_in(fixture: &mut Fixture, row: &str) -> Result<End, EvalError>
+    requires { IsTable fixture.old.cx.nodes fixture.old.table }
+{
+    let called = call(fixture, row)?;
+    end_of(fixture, &called)
+}
+
+/// Makes the call of a row in a table of its own.
+fn run(alloc: Global, row: &str) -> Result<End, EvalError> {
+    let mut fixture = Fixture::new(alloc)?;
+    run_in(&mut fixture, row)
 }
 
 /// Reads the name of a row, and prints how its run ends: what it answers is the status.

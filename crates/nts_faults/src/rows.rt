@@ -19,7 +19,7 @@ use nts_solver_relating::RelateExt;
 use nts_store::{EvalError, Fault};
 use nts_terms::{
     AliasDefId, AliasId, AliasTerm, ClauseKind, Cx, DefId, GenericArg, Goal, PredicateKind, Span,
-    TraitRef, Ty, TypingMode, VisibleForLeakCheck,
+    TraitRef, Ty, TypingMode, UniverseIndex, VisibleForLeakCheck,
 };
 
 /// What a call answered, and what could be read of the table before it.
@@ -41,9 +41,9 @@ pub fn relate(fixture: &mut Fixture) -> Result<Called, EvalError>
     let inner = fixture.wrap(word)?;
     let x = fixture.reference(a, variable)?;
     let y = fixture.reference(b, inner)?;
-    let before = content_of(fixture)?;
     fixture.seen(x)?;
     fixture.seen(y)?;
+    let before = content_of(fixture)?;
     let (cx, table) = (&mut fixture.cx, &mut fixture.table);
     let related = table.relate(cx, fixture.env, x, Variance::Covariant, y, Span(0));
     let answer = related.map(|_| ());
@@ -61,9 +61,9 @@ pub fn equate(fixture: &mut Fixture) -> Result<Called, EvalError>
     let wrapped = fixture.wrap(b)?;
     let x = fixture.pair(a, word)?;
     let y = fixture.pair(wrapped, b)?;
-    let before = content_of(fixture)?;
     fixture.seen(x)?;
     fixture.seen(y)?;
+    let before = content_of(fixture)?;
     let (cx, table) = (&mut fixture.cx, &mut fixture.table);
     let answer = table.eq_structurally_relating_aliases(cx, fixture.env, x, y, Span(0));
     Ok(Called { before, answer })
@@ -96,9 +96,9 @@ pub fn canonicalize(fixture: &mut Fixture) -> Result<Called, EvalError>
     let b = fixture.ty_var()?;
     let pair = fixture.pair(a, b)?;
     let goal = goal_about(fixture, pair)?;
-    let before = content_of(fixture)?;
     fixture.seen(goal.param_env)?;
     fixture.seen(goal.predicate)?;
+    let before = content_of(fixture)?;
     let mode = TypingMode::PostAnalysis;
     let (cx, table) = (&mut fixture.cx, &fixture.table);
     let answer = match canonicalize_goal(table, cx, goal, &[], mode) {
@@ -116,9 +116,9 @@ pub fn instantiate(fixture: &mut Fixture) -> Result<Called, EvalError>
     let a = fixture.ty_var()?;
     let wrapped = fixture.wrap(a)?;
     let goal = goal_about(fixture, wrapped)?;
-    let before = content_of(fixture)?;
     fixture.seen(goal.param_env)?;
     fixture.seen(goal.predicate)?;
+    let before = content_of(fixture)?;
     let mode = TypingMode::PostAnalysis;
     let (cx, table) = (&mut fixture.cx, &fixture.table);
     let (originals, input) = canonicalize_goal(table, cx, goal, &[], mode)?;
@@ -176,18 +176,30 @@ pub fn apply(fixture: &mut Fixture) -> Result<Called, EvalError>
 {
     let x = fixture.root_var(VariableKind::Ty)?;
     let response = response_of(fixture)?;
-    let before = content_of(fixture)?;
+    apply_to(fixture, x, &response)
+}
+
+/// Applies a response to a variable that it fits.
+fn apply_to(
+    fixture: &mut Fixture,
+    x: GenericArg,
+    response: &CanonicalResponse,
+) -> Result<Called, EvalError>
+    requires { IsTable fixture.old.cx.nodes fixture.old.table }
+    ensures { OnOk result (IsTable fixture.new.cx.nodes fixture.new.table) }
+{
     fixture.seen(x)?;
-    let (cx, table) = (&mut fixture.cx, &mut fixture.table);
-    if cx.has_escaping_bound_vars(x) || !response_fits(cx, &[x], &response)? {
+    if fixture.cx.has_escaping_bound_vars(x) || !response_fits(&fixture.cx, &[x], response)? {
         return Err(EvalError::NoSolution);
     }
+    let before = content_of(fixture)?;
+    let (cx, table) = (&mut fixture.cx, &mut fixture.table);
     let applied = instantiate_and_apply_query_response(
         table,
         cx,
         fixture.env,
         &[x],
-        &response,
+        response,
         VisibleForLeakCheck::Yes,
         Span(0),
     );
@@ -203,12 +215,24 @@ pub fn open(fixture: &mut Fixture) -> Result<Called, EvalError>
     let (outer, inner) = (fixture.bound(1, 0)?, fixture.bound(0, 2)?);
     let x = fixture.pair(outer, inner)?;
     let mut list = vec![in fixture.cx.alloc; None, None]?;
-    let before = content_of(fixture)?;
-    let (cx, table) = (&mut fixture.cx, &mut fixture.table);
-    if !cx.holds(x) || !BoundVarReplacer::may_replace(cx, &list, x) {
+    open_in(fixture, &mut list, x)
+}
+
+/// Opens the binders of this list in a term.
+fn open_in(
+    fixture: &mut Fixture,
+    list: &mut Vec<Option<UniverseIndex>>,
+    x: GenericArg,
+) -> Result<Called, EvalError>
+    requires { IsTable fixture.old.cx.nodes fixture.old.table }
+    ensures { OnOk result (IsTable fixture.new.cx.nodes fixture.new.table) }
+{
+    if !fixture.cx.holds(x) || !BoundVarReplacer::may_replace(&fixture.cx, list, x) {
         return Err(EvalError::NoSolution);
     }
-    let answer = match BoundVarReplacer::replace_bound_vars(table, cx, &mut list, x) {
+    let before = content_of(fixture)?;
+    let (cx, table) = (&mut fixture.cx, &mut fixture.table);
+    let answer = match BoundVarReplacer::replace_bound_vars(table, cx, list, x) {
         Ok(_) => Ok(()),
         Err(fault) => Err(fault.into()),
     };
@@ -223,9 +247,9 @@ pub fn hide(fixture: &mut Fixture, alias: AliasId, of: GenericArg) -> Result<Cal
     let word = fixture.uint(UintTy::U32)?;
     let args = fixture.args(&[of])?;
     let ty = Ty { node: word.node };
-    let before = content_of(fixture)?;
     fixture.seen(args)?;
     fixture.seen(ty)?;
+    let before = content_of(fixture)?;
     let key = AliasTerm {
         def_id: AliasDefId::Ty(alias),
         args,
