@@ -2,97 +2,82 @@
 ghost use Rattle.std.specs.Prelude.{◌<◌};
 ghost use Rattle.nts_table.specs.Tables.{IsTable};
 
-use crate::inputs::{
-    another_table, canonical, declare, env_of, input_of, join, make_universes, rebuilt, same,
-    there_and_back, trait_holds, value_of, with_hidden,
+use crate::inputs::{canonical, declare, join, rebuilt, trait_holds, with_hidden};
+use crate::steps::Seen::{
+    Asks, Greatest, In, Originals, PlaceholderRegion, Positions, Same, SameAsCopy,
 };
+use crate::steps::Step::{
+    AnotherTable, Env, GivesBack, Holds, Input, InputIn, Is, IsLast, Joins, LeadsTo, Let, Of,
+    Trait, Universes, Value, Variables,
+};
+use crate::steps::{Seen, Step, plays};
 use nts_canonical::{Canonical, CanonicalInput, CanonicalVarKind, instantiate_canonical};
 use nts_fixtures::Fixture;
+use nts_fixtures::Make::{Region, Type, Var, Wrap};
+use nts_fixtures::Type::{Placeholder, Position};
+use nts_model::VariableKind::Ty;
 use nts_model::{BoundVarIndexKind, Sort, UintTy, VariableKind};
 use nts_store::EvalError;
+use nts_terms::RegionKind::{ReEarlyParam, RePlaceholder, ReStatic};
 use nts_terms::{
-    AliasDefId, AliasKind, BoundRegion, BoundTy, Cx, GenericArg, PlaceholderRegion,
-    PlaceholderType, RegionKind, TyKind,
+    AliasDefId, AliasKind, AliasTerm, BoundRegion, BoundTy, Cx, GenericArg, PlaceholderType, TyKind,
 };
-use nts_unify::State;
 use std::process::Abort;
-use std::test::Fail;
 
-/// Sees that the arguments are these.
-fn are(rt: &impl Abort, found: &[GenericArg], wanted: &[GenericArg]) {
-    assert_eq!(rt; found.len(), wanted.len());
-    assert!(rt; found == wanted);
-}
-
-/// Sees that a position stands for a type variable of the root universe with that sub root.
-fn is_ty(rt: &impl Abort, input: &CanonicalInput, position: usize, root: usize) {
-    match input.canonical.var_kinds.get(position) {
-        Some(CanonicalVarKind::Ty { ui, sub_root }) => {
-            assert_eq!(rt; *ui, 0);
-            assert_eq!(rt; *sub_root, root);
-        }
-        _ => assert!(rt; false),
-    }
+#[test]
+fn equal_variables_have_one_position(rt: HostRuntime) {
+    const STEPS: &[Step] = &[
+        Trait(&[Sort::Ty, Sort::Ty, Sort::Ty]),
+        Let("a", Var(Ty)),
+        Let("b", Var(Ty)),
+        Holds("goal", 0, &["a", "b", "a"]),
+        Input("input", "goal"),
+        Of("input", Originals(&["a", "b"])),
+        Let("first", Type(Position(0))),
+        Let("second", Type(Position(1))),
+        Holds("wanted", 0, &["first", "second", "first"]),
+        Of("input", Asks("wanted", true)),
+        Of("input", Greatest(0)),
+        Of("input", Positions(2)),
+        Of("input", Seen::Ty(0, 0)),
+        Of("input", Seen::Ty(1, 1)),
+    ];
+    plays(&rt, rt.alloc(), STEPS);
 }
 
 #[test]
-fn equal_variables_have_one_position(rt: HostRuntime) -> Result<(), Fail> {
-    let mut fixture = Fixture::new(rt.alloc())?;
-    let id = declare(&mut fixture, &[Sort::Ty, Sort::Ty, Sort::Ty])?;
-    let a = fixture.ty_var()?;
-    let b = fixture.ty_var()?;
-    let predicate = trait_holds(&rt, &mut fixture, id, &[a, b, a])?;
-    let env = fixture.env;
-    let (originals, input) = canonical(&mut fixture, env, predicate)?;
-    are(&rt, &originals, &[a, b]);
-    let first = fixture.position(0)?;
-    let second = fixture.position(1)?;
-    let wanted = trait_holds(&rt, &mut fixture, id, &[first, second, first])?;
-    assert!(rt; input.canonical.value.goal.predicate == wanted);
-    assert_eq!(rt; input.canonical.max_universe, 0);
-    assert_eq!(rt; input.canonical.var_kinds.len(), 2);
-    is_ty(&rt, &input, 0, 0);
-    is_ty(&rt, &input, 1, 1);
-    Ok(())
+fn one_sub_root(rt: HostRuntime) {
+    const STEPS: &[Step] = &[
+        Trait(&[Sort::Ty, Sort::Ty]),
+        Let("a", Var(Ty)),
+        Let("b", Var(Ty)),
+        Holds("goal", 0, &["a", "b"]),
+        Input("apart", "goal"),
+        Joins(0, 1),
+        Input("joined", "goal"),
+        Of("joined", Seen::Ty(0, 0)),
+        Of("joined", Seen::Ty(1, 0)),
+        Of("apart", Same("joined", false)),
+        Of("joined", Same("joined", true)),
+    ];
+    plays(&rt, rt.alloc(), STEPS);
 }
 
 #[test]
-fn one_sub_root(rt: HostRuntime) -> Result<(), Fail> {
-    let mut fixture = Fixture::new(rt.alloc())?;
-    let id = declare(&mut fixture, &[Sort::Ty, Sort::Ty])?;
-    let a = fixture.ty_var()?;
-    let b = fixture.ty_var()?;
-    let predicate = trait_holds(&rt, &mut fixture, id, &[a, b])?;
-    let apart = input_of(&mut fixture, predicate)?;
-    join(&rt, &mut fixture, 0, 1);
-    let joined = input_of(&mut fixture, predicate)?;
-    is_ty(&rt, &joined, 0, 0);
-    is_ty(&rt, &joined, 1, 0);
-    assert!(rt; !same(&rt, &fixture.cx, &apart, &joined));
-    assert!(rt; same(&rt, &fixture.cx, &joined, &joined));
-    Ok(())
-}
-
-#[test]
-fn static_of_an_environment_stays(rt: HostRuntime) -> Result<(), Fail> {
-    let mut fixture = Fixture::new(rt.alloc())?;
-    let id = declare(&mut fixture, &[Sort::Region])?;
-    let region = fixture.region(RegionKind::ReStatic)?;
-    let predicate = trait_holds(&rt, &mut fixture, id, &[region])?;
-    let env = env_of(&rt, &mut fixture, predicate)?;
-    let (originals, input) = canonical(&mut fixture, env, predicate)?;
-    are(&rt, &originals, &[region]);
-    assert!(rt; input.canonical.value.goal.param_env == env);
-    assert!(rt; input.canonical.value.goal.predicate != predicate);
-    assert_eq!(rt; input.canonical.var_kinds.len(), 1);
-    match input.canonical.var_kinds.get(0) {
-        Some(CanonicalVarKind::PlaceholderRegion(p)) => {
-            assert_eq!(rt; p.universe, 0);
-            assert_eq!(rt; p.bound.var, 0);
-        }
-        _ => assert!(rt; false),
-    }
-    Ok(())
+fn static_of_an_environment_stays(rt: HostRuntime) {
+    const STEPS: &[Step] = &[
+        Trait(&[Sort::Region]),
+        Let("region", Region(ReStatic)),
+        Holds("goal", 0, &["region"]),
+        Env("env", "goal"),
+        InputIn("input", "env", "goal"),
+        Of("input", Originals(&["region"])),
+        Of("input", In("env")),
+        Of("input", Asks("goal", false)),
+        Of("input", Positions(1)),
+        Of("input", PlaceholderRegion(0, 0)),
+    ];
+    plays(&rt, rt.alloc(), STEPS);
 }
 
 /// Sees the numbers of so many variables, and of the first and the last of them again.
@@ -121,7 +106,7 @@ fn see_both_ends(
     let predicate = trait_holds(rt, fixture, id, &again)?;
     let env = fixture.env;
     let (originals, input) = canonical(fixture, env, predicate)?;
-    are(rt, &originals, &variables);
+    assert!(rt; originals == variables);
     let wanted = trait_holds(rt, fixture, id, &positions)?;
     assert!(rt; input.canonical.value.goal.predicate == wanted);
     assert_eq!(rt; input.canonical.var_kinds.len(), count);
@@ -130,245 +115,263 @@ fn see_both_ends(
 
 /// So many are searched in a list.
 #[test]
-fn sixteen_variables_and_both_ends_again(rt: HostRuntime) -> Result<(), Fail> {
-    let mut fixture = Fixture::new(rt.alloc())?;
-    see_both_ends(&rt, &mut fixture, 16, &[Sort::Ty; 18])?;
-    Ok(())
+fn sixteen_variables_and_both_ends_again(rt: HostRuntime) {
+    let mut fixture = Fixture::new(rt.alloc()).expect(&rt, "memory");
+    see_both_ends(&rt, &mut fixture, 16, &[Sort::Ty; 18]).expect(&rt, "memory");
 }
 
 /// The last of these is the first that is put into a table.
 #[test]
-fn seventeen_variables_and_both_ends_again(rt: HostRuntime) -> Result<(), Fail> {
-    let mut fixture = Fixture::new(rt.alloc())?;
-    see_both_ends(&rt, &mut fixture, 17, &[Sort::Ty; 19])?;
-    Ok(())
+fn seventeen_variables_and_both_ends_again(rt: HostRuntime) {
+    let mut fixture = Fixture::new(rt.alloc()).expect(&rt, "memory");
+    see_both_ends(&rt, &mut fixture, 17, &[Sort::Ty; 19]).expect(&rt, "memory");
 }
 
 #[test]
-fn eighteen_variables_and_both_ends_again(rt: HostRuntime) -> Result<(), Fail> {
-    let mut fixture = Fixture::new(rt.alloc())?;
-    see_both_ends(&rt, &mut fixture, 18, &[Sort::Ty; 20])?;
-    Ok(())
+fn eighteen_variables_and_both_ends_again(rt: HostRuntime) {
+    let mut fixture = Fixture::new(rt.alloc()).expect(&rt, "memory");
+    see_both_ends(&rt, &mut fixture, 18, &[Sort::Ty; 20]).expect(&rt, "memory");
 }
 
 #[test]
-fn variables_of_two_tables(rt: HostRuntime) -> Result<(), Fail> {
-    let mut fixture = Fixture::new(rt.alloc())?;
-    let id = declare(&mut fixture, &[Sort::Ty, Sort::Ty])?;
+fn variables_of_two_tables(rt: HostRuntime) {
+    const STEPS: &[Step] = &[
+        Trait(&[Sort::Ty, Sort::Ty]),
+        Let("a", Var(Ty)),
+        Let("b", Var(Ty)),
+        Let("inside", Wrap("b")),
+        Holds("goal", 0, &["a", "inside"]),
+        Input("first", "goal"),
+        Let("its own", Wrap("a")),
+        Holds("goal of one", 0, &["a", "its own"]),
+        Input("other", "goal of one"),
+        AnotherTable,
+        Let("unused", Var(Ty)),
+        Let("d", Var(Ty)),
+        Let("c", Var(Ty)),
+        Let("inside", Wrap("d")),
+        Holds("goal", 0, &["c", "inside"]),
+        Input("second", "goal"),
+        Of("first", Same("second", true)),
+        Of("first", Same("other", false)),
+    ];
+    plays(&rt, rt.alloc(), STEPS);
+}
+
+#[test]
+fn placeholders(rt: HostRuntime) {
+    const STEPS: &[Step] = &[
+        Universes(1),
+        Trait(&[Sort::Ty, Sort::Ty]),
+        Let("a", Type(Placeholder(1, 3))),
+        Let("b", Type(Placeholder(1, 5))),
+        Holds("one twice", 0, &["a", "a"]),
+        Holds("a and b", 0, &["a", "b"]),
+        Holds("b and a", 0, &["b", "a"]),
+        Input("twice", "one twice"),
+        Input("one way", "a and b"),
+        Input("other way", "b and a"),
+        Of("twice", Same("one way", false)),
+        Of("one way", Same("other way", true)),
+    ];
+    plays(&rt, rt.alloc(), STEPS);
+}
+
+#[test]
+fn static_is_a_leaf_outside_of_an_environment(rt: HostRuntime) {
+    const STEPS: &[Step] = &[
+        Trait(&[Sort::Region]),
+        Trait(&[]),
+        Let("fixed", Region(ReStatic)),
+        Let("param", Region(ReEarlyParam(0))),
+        Holds("of fixed", 0, &["fixed"]),
+        Holds("of param", 0, &["param"]),
+        Input("first", "of fixed"),
+        Input("second", "of param"),
+        Of("first", Same("second", true)),
+        Holds("bare", 1, &[]),
+        Env("env of fixed", "of fixed"),
+        Env("env of param", "of param"),
+        InputIn("in the first", "env of fixed", "bare"),
+        InputIn("in the second", "env of param", "bare"),
+        Of("in the first", Same("in the second", false)),
+    ];
+    plays(&rt, rt.alloc(), STEPS);
+}
+
+#[test]
+fn a_copy_is_the_same(rt: HostRuntime) {
+    const STEPS: &[Step] = &[
+        Trait(&[Sort::Ty]),
+        Let("a", Var(Ty)),
+        Holds("goal", 0, &["a"]),
+        Input("input", "goal"),
+        Of("input", SameAsCopy),
+    ];
+    plays(&rt, rt.alloc(), STEPS);
+}
+
+#[test]
+fn originals_give_a_goal_back(rt: HostRuntime) {
+    const STEPS: &[Step] = &[
+        Trait(&[Sort::Ty, Sort::Ty]),
+        Let("a", Var(Ty)),
+        Let("inside", Wrap("a")),
+        Holds("goal", 0, &["inside", "a"]),
+        Env("env", "goal"),
+        GivesBack("env", "goal"),
+    ];
+    plays(&rt, rt.alloc(), STEPS);
+}
+
+#[test]
+fn hidden_types_are_part_of_an_input(rt: HostRuntime) {
+    let mut fixture = Fixture::new(rt.alloc()).expect(&rt, "memory");
+    see_hidden_types(&rt, &mut fixture).expect(&rt, "memory");
+}
+
+fn see_hidden_types(rt: &impl Abort, fixture: &mut Fixture) -> Result<(), EvalError>
+    requires { IsTable fixture.old.cx.nodes fixture.old.table }
+{
+    let bare = declare(fixture, &[])?;
     let a = fixture.ty_var()?;
     let b = fixture.ty_var()?;
-    let inside = fixture.wrap(b)?;
-    let predicate = trait_holds(&rt, &mut fixture, id, &[a, inside])?;
-    let first = input_of(&mut fixture, predicate)?;
-    let its_own = fixture.wrap(a)?;
-    let predicate = trait_holds(&rt, &mut fixture, id, &[a, its_own])?;
-    let other = input_of(&mut fixture, predicate)?;
-    another_table(&mut fixture);
-    fixture.ty_var()?;
-    let d = fixture.ty_var()?;
-    let c = fixture.ty_var()?;
-    let inside = fixture.wrap(d)?;
-    let predicate = trait_holds(&rt, &mut fixture, id, &[c, inside])?;
-    let second = input_of(&mut fixture, predicate)?;
-    assert!(rt; same(&rt, &fixture.cx, &first, &second));
-    assert!(rt; !same(&rt, &fixture.cx, &first, &other));
-    Ok(())
-}
-
-#[test]
-fn placeholders(rt: HostRuntime) -> Result<(), Fail> {
-    let mut fixture = Fixture::new(rt.alloc())?;
-    make_universes(&mut fixture, 1)?;
-    let id = declare(&mut fixture, &[Sort::Ty, Sort::Ty])?;
-    let a = fixture.placeholder(1, 3)?;
-    let b = fixture.placeholder(1, 5)?;
-    let twice = trait_holds(&rt, &mut fixture, id, &[a, a])?;
-    let one_way = trait_holds(&rt, &mut fixture, id, &[a, b])?;
-    let other_way = trait_holds(&rt, &mut fixture, id, &[b, a])?;
-    let twice = input_of(&mut fixture, twice)?;
-    let one_way = input_of(&mut fixture, one_way)?;
-    let other_way = input_of(&mut fixture, other_way)?;
-    assert!(rt; !same(&rt, &fixture.cx, &twice, &one_way));
-    assert!(rt; same(&rt, &fixture.cx, &one_way, &other_way));
-    Ok(())
-}
-
-#[test]
-fn static_is_a_leaf_outside_of_an_environment(rt: HostRuntime) -> Result<(), Fail> {
-    let mut fixture = Fixture::new(rt.alloc())?;
-    let id = declare(&mut fixture, &[Sort::Region])?;
-    let bare = declare(&mut fixture, &[])?;
-    let fixed = fixture.region(RegionKind::ReStatic)?;
-    let param = fixture.region(RegionKind::ReEarlyParam(0))?;
-    let of_fixed = trait_holds(&rt, &mut fixture, id, &[fixed])?;
-    let of_param = trait_holds(&rt, &mut fixture, id, &[param])?;
-    let first = input_of(&mut fixture, of_fixed)?;
-    let second = input_of(&mut fixture, of_param)?;
-    assert!(rt; same(&rt, &fixture.cx, &first, &second));
-    let predicate = trait_holds(&rt, &mut fixture, bare, &[])?;
-    let fixed_env = env_of(&rt, &mut fixture, of_fixed)?;
-    let param_env = env_of(&rt, &mut fixture, of_param)?;
-    let (_, first) = canonical(&mut fixture, fixed_env, predicate)?;
-    let (_, second) = canonical(&mut fixture, param_env, predicate)?;
-    assert!(rt; !same(&rt, &fixture.cx, &first, &second));
-    Ok(())
-}
-
-#[test]
-fn a_copy_is_the_same(rt: HostRuntime) -> Result<(), Fail> {
-    let mut fixture = Fixture::new(rt.alloc())?;
-    let id = declare(&mut fixture, &[Sort::Ty])?;
-    let a = fixture.ty_var()?;
-    let predicate = trait_holds(&rt, &mut fixture, id, &[a])?;
-    let input = input_of(&mut fixture, predicate)?;
-    let copy = input.clone()?;
-    assert!(rt; same(&rt, &fixture.cx, &input, &copy));
-    Ok(())
-}
-
-#[test]
-fn originals_give_a_goal_back(rt: HostRuntime) -> Result<(), Fail> {
-    let mut fixture = Fixture::new(rt.alloc())?;
-    let id = declare(&mut fixture, &[Sort::Ty, Sort::Ty])?;
-    let a = fixture.ty_var()?;
-    let inside = fixture.wrap(a)?;
-    let predicate = trait_holds(&rt, &mut fixture, id, &[inside, a])?;
-    let env = env_of(&rt, &mut fixture, predicate)?;
-    let goal = there_and_back(&mut fixture, env, predicate)?;
-    assert!(rt; goal.param_env == env);
-    assert!(rt; goal.predicate == predicate);
-    Ok(())
-}
-
-#[test]
-fn hidden_types_are_part_of_an_input(rt: HostRuntime) -> Result<(), Fail> {
-    let mut fixture = Fixture::new(rt.alloc())?;
-    let bare = declare(&mut fixture, &[])?;
-    let a = fixture.ty_var()?;
-    let b = fixture.ty_var()?;
-    let predicate = trait_holds(&rt, &mut fixture, bare, &[])?;
-    let id = fixture.declare_alias(&[Sort::Ty], AliasKind::Opaque)?;
-    let (originals, input) = with_hidden(&mut fixture, predicate, id, b, a)?;
-    are(&rt, &originals, &[b, a]);
     let first = fixture.position(0)?;
     let second = fixture.position(1)?;
     let wanted = fixture.args(&[first])?;
-    match input.canonical.value.predefined_opaques_in_body.get(0) {
-        Some((alias, ty)) => {
-            assert!(rt; alias.def_id == AliasDefId::Ty(id));
-            assert!(rt; alias.args == wanted);
-            assert!(rt; GenericArg::from(*ty) == second);
-        }
-        None => assert!(rt; false),
-    }
+    let predicate = trait_holds(rt, fixture, bare, &[])?;
+    let id = fixture.declare_alias(&[Sort::Ty], AliasKind::Opaque)?;
+    let (originals, input) = with_hidden(fixture, predicate, id, b, a)?;
+    assert!(rt; originals.as_slice() == [b, a].as_slice());
+    see_hidden(
+        rt,
+        &input,
+        AliasTerm {
+            def_id: AliasDefId::Ty(id),
+            args: wanted,
+        },
+        second,
+    );
     Ok(())
 }
 
+/// The first hidden type of an input, and its alias.
+fn see_hidden(rt: &impl Abort, input: &CanonicalInput, wanted: AliasTerm, hidden: GenericArg) {
+    match input.canonical.value.predefined_opaques_in_body.get(0) {
+        Some((alias, ty)) => {
+            assert!(rt; alias.def_id == wanted.def_id);
+            assert!(rt; alias.args == wanted.args);
+            assert!(rt; GenericArg::from(*ty) == hidden);
+        }
+        None => assert!(rt; false),
+    }
+}
+
 #[test]
-fn a_table_that_is_made_has_the_input_again(rt: HostRuntime) -> Result<(), Fail> {
-    let mut fixture = Fixture::new(rt.alloc())?;
-    make_universes(&mut fixture, 1)?;
-    let id = declare(&mut fixture, &[Sort::Ty, Sort::Ty, Sort::Ty, Sort::Ty])?;
+fn a_table_that_is_made_has_the_input_again(rt: HostRuntime) {
+    let mut fixture = Fixture::new(rt.alloc()).expect(&rt, "memory");
+    see_the_input_again(&rt, &mut fixture).expect(&rt, "memory");
+}
+
+fn see_the_input_again(rt: &impl Abort, fixture: &mut Fixture) -> Result<(), EvalError>
+    requires { IsTable fixture.old.cx.nodes fixture.old.table }
+{
+    fixture.universe()?;
+    let id = declare(fixture, &[Sort::Ty, Sort::Ty, Sort::Ty, Sort::Ty])?;
     let a = fixture.ty_var()?;
     let b = fixture.ty_var()?;
     let c = fixture.ty_var()?;
-    join(&rt, &mut fixture, 0, 2);
+    join(rt, fixture, 0, 2);
     let held = fixture.placeholder(1, 7)?;
     let inside = fixture.wrap(b)?;
-    let predicate = trait_holds(&rt, &mut fixture, id, &[held, a, inside, c])?;
+    let predicate = trait_holds(rt, fixture, id, &[held, a, inside, c])?;
     let alias = fixture.declare_alias(&[Sort::Ty], AliasKind::Opaque)?;
-    let (values, originals, same) = rebuilt(&mut fixture, predicate, alias, b, [a, c])?;
-    assert!(rt; same);
-    are(&rt, &values, &originals);
-    assert_eq!(rt; values.len(), 4);
+    let (values, originals, same) = rebuilt(fixture, predicate, alias, b, [a, c])?;
+    assert!(rt; same && values == originals);
+    see_rebuilt(rt, fixture, &values);
+    Ok(())
+}
+
+/// The table that was made, and the values of the positions.
+fn see_rebuilt(rt: &impl Abort, fixture: &Fixture, values: &[GenericArg]) {
     let table = &fixture.table;
+    assert_eq!(rt; values.len(), 4);
     assert_eq!(rt; table.variable_count(), 3);
     assert!(rt; table.variable(0).sub_link == None);
     assert!(rt; table.variable(1).sub_link == None);
     assert!(rt; table.variable(2).sub_link == Some(0));
     assert_eq!(rt; table.num_opaque_types(), 1);
     assert!(rt; GenericArg::from(table.hidden_type(0).ty) == values[3]);
-    Ok(())
-}
-
-/// Sees the last variable of the table.
-fn is_last(rt: &impl Abort, fixture: &Fixture, kind: VariableKind, universe: u32) {
-    let count = fixture.table.variable_count();
-    assert!(rt; count > 0);
-    let variable = fixture.table.variable(count - 1);
-    assert!(rt; variable.kind == kind);
-    assert_eq!(rt; variable.universe, universe);
-    assert!(rt; variable.state == State::Unset);
-}
-
-/// Sees that a variable is linked to that sub root.
-fn leads_to(rt: &impl Abort, fixture: &Fixture, n: usize, root: usize) {
-    assert!(rt; n < fixture.table.variable_count());
-    assert!(rt; fixture.table.variable(n).sub_link == Some(root));
 }
 
 #[test]
-fn values_of_kinds(rt: HostRuntime) -> Result<(), Fail> {
-    let mut fixture = Fixture::new(rt.alloc())?;
-    make_universes(&mut fixture, 7)?;
-    let ty = CanonicalVarKind::Ty { ui: 4, sub_root: 0 };
-    let first = value_of(&mut fixture, ty, &[])?;
-    is_last(&rt, &fixture, VariableKind::Ty, 5);
-    let second = value_of(&mut fixture, ty, &[first])?;
-    is_last(&rt, &fixture, VariableKind::Ty, 5);
-    leads_to(&rt, &fixture, 1, 0);
-    let third = value_of(&mut fixture, ty, &[second])?;
-    leads_to(&rt, &fixture, 2, 0);
-    value_of(&mut fixture, CanonicalVarKind::Int, &[first, third])?;
-    is_last(&rt, &fixture, VariableKind::Int, 0);
-    value_of(&mut fixture, CanonicalVarKind::Float, &[])?;
-    is_last(&rt, &fixture, VariableKind::Float, 0);
-    value_of(&mut fixture, CanonicalVarKind::Const(0), &[])?;
-    is_last(&rt, &fixture, VariableKind::Const, 1);
-    value_of(&mut fixture, CanonicalVarKind::Region(2), &[])?;
-    is_last(&rt, &fixture, VariableKind::Region, 3);
-    Ok(())
+fn values_of_kinds(rt: HostRuntime) {
+    const TY: CanonicalVarKind = CanonicalVarKind::Ty { ui: 4, sub_root: 0 };
+    const STEPS: &[Step] = &[
+        Universes(7),
+        Value("first", TY, &[]),
+        IsLast(VariableKind::Ty, 5),
+        Value("second", TY, &["first"]),
+        IsLast(VariableKind::Ty, 5),
+        LeadsTo(1, 0),
+        Value("third", TY, &["second"]),
+        LeadsTo(2, 0),
+        Value("integer", CanonicalVarKind::Int, &["first", "third"]),
+        IsLast(VariableKind::Int, 0),
+        Value("float", CanonicalVarKind::Float, &[]),
+        IsLast(VariableKind::Float, 0),
+        Value("const", CanonicalVarKind::Const(0), &[]),
+        IsLast(VariableKind::Const, 1),
+        Value("region", CanonicalVarKind::Region(2), &[]),
+        IsLast(VariableKind::Region, 3),
+    ];
+    plays(&rt, rt.alloc(), STEPS);
 }
 
 #[test]
-fn placeholders_are_moved_into_universes(rt: HostRuntime) -> Result<(), Fail> {
-    let mut fixture = Fixture::new(rt.alloc())?;
-    make_universes(&mut fixture, 7)?;
-    let bound = BoundTy { var: 3 };
-    let kind = CanonicalVarKind::PlaceholderTy(PlaceholderType { universe: 0, bound });
-    let value = value_of(&mut fixture, kind, &[])?;
-    let wanted = fixture.placeholder(1, 3)?;
-    assert!(rt; value == wanted);
-    let bound = BoundRegion { var: 2 };
-    let region = PlaceholderRegion { universe: 6, bound };
-    let value = value_of(
-        &mut fixture,
-        CanonicalVarKind::PlaceholderRegion(region),
-        &[],
-    )?;
-    let wanted = fixture.region(RegionKind::RePlaceholder(PlaceholderRegion {
-        universe: 7,
-        bound,
-    }))?;
-    assert!(rt; value == wanted);
-    assert_eq!(rt; fixture.table.variable_count(), 0);
-    Ok(())
-}
-
-#[test]
-fn instantiates_a_list_of_types(rt: HostRuntime) -> Result<(), Fail> {
-    let mut cx = Cx::new(rt.alloc());
-    let position = cx.mk_ty(TyKind::Bound(BoundVarIndexKind::Canonical, BoundTy { var: 0 }))?;
-    let word = cx.mk_ty(TyKind::Uint(UintTy::U32))?;
-    let canonical = Canonical {
-        value: vec![in rt.alloc(); position, word, position]?,
-        max_universe: 0,
-        var_kinds: Vec::new(rt.alloc()),
+fn placeholders_are_moved_into_universes(rt: HostRuntime) {
+    const TY: PlaceholderType = PlaceholderType {
+        universe: 0,
+        bound: BoundTy { var: 3 },
     };
-    let found = instantiate_canonical(&mut cx, canonical, &[word.into()])?;
-    assert_eq!(rt; found.len(), 3);
-    for ty in found {
-        assert!(rt; ty == word);
-    }
-    Ok(())
+    const REGION: nts_terms::PlaceholderRegion = nts_terms::PlaceholderRegion {
+        universe: 6,
+        bound: BoundRegion { var: 2 },
+    };
+    const MOVED: nts_terms::PlaceholderRegion = nts_terms::PlaceholderRegion {
+        universe: 7,
+        bound: BoundRegion { var: 2 },
+    };
+    const STEPS: &[Step] = &[
+        Universes(7),
+        Value("type", CanonicalVarKind::PlaceholderTy(TY), &[]),
+        Let("wanted type", Type(Placeholder(1, 3))),
+        Is("type", "wanted type", true),
+        Value("region", CanonicalVarKind::PlaceholderRegion(REGION), &[]),
+        Let("wanted region", Region(RePlaceholder(MOVED))),
+        Is("region", "wanted region", true),
+        Variables(0),
+    ];
+    plays(&rt, rt.alloc(), STEPS);
+}
+
+#[test]
+fn instantiates_a_list_of_types(rt: HostRuntime) {
+    let mut cx = Cx::new(rt.alloc());
+    see_a_list(&rt, &mut cx);
+}
+
+fn see_a_list(rt: &impl Abort, cx: &mut Cx) {
+    let alloc = cx.alloc;
+    let position = cx
+        .mk_ty(TyKind::Bound(BoundVarIndexKind::Canonical, BoundTy { var: 0 }))
+        .expect(rt, "memory");
+    let word = cx.mk_ty(TyKind::Uint(UintTy::U32)).expect(rt, "memory");
+    let canonical = Canonical {
+        value: vec![in alloc; position, word, position].expect(rt, "memory"),
+        max_universe: 0,
+        var_kinds: Vec::new(alloc),
+    };
+    let found = instantiate_canonical(cx, canonical, &[word.into()]).expect(rt, "memory");
+    assert!(rt; found.as_slice() == [word, word, word].as_slice());
 }

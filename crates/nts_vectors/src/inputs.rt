@@ -14,14 +14,14 @@ use nts_canonical::{
 };
 use nts_canonicalizer::canonicalize_goal;
 use nts_fixtures::Fixture;
-use nts_model::{Sort, Variance};
+use nts_model::Sort;
 use nts_resolve::eager_resolve_vars;
 use nts_solver_relating::RelateExt;
 use nts_store::{EvalError, Fault};
 use nts_table::InferCtxt;
 use nts_terms::{
-    AliasDefId, AliasId, AliasTerm, ClauseKind, CtorId, Cx, DefId, GenericArg, Goal, ParamEnv,
-    Predicate, PredicateKind, Span, TraitId, TraitRef, Ty, TypingMode,
+    AliasDefId, AliasId, AliasTerm, ClauseKind, Cx, DefId, GenericArg, Goal, ParamEnv, Predicate,
+    PredicateKind, Span, TraitId, TraitRef, Ty, TypingMode,
 };
 use std::process::Abort;
 
@@ -38,32 +38,6 @@ pub fn declare(fixture: &mut Fixture, sorts: &[Sort]) -> Result<TraitId, EvalErr
     ensures { IsTable fixture.new.cx.nodes fixture.new.table }
 {
     Ok(fixture.cx.declare_trait(sorts)?)
-}
-
-/// A new constructor of two types, both invariant.
-pub fn declare_pair(fixture: &mut Fixture) -> Result<CtorId, EvalError>
-    requires { IsTable fixture.old.cx.nodes fixture.old.table }
-    ensures { IsTable fixture.new.cx.nodes fixture.new.table }
-{
-    let variances = [Variance::Invariant, Variance::Invariant];
-    Ok(fixture.cx.declare_ctor(&[Sort::Ty, Sort::Ty], &variances)?)
-}
-
-/// The constructor of two types over a type twice, and over that twice, and so on: that many levels.
-pub fn ladder(
-    fixture: &mut Fixture,
-    pair: CtorId,
-    lowest: GenericArg,
-    levels: u32,
-) -> Result<GenericArg, EvalError>
-    requires { IsTable fixture.old.cx.nodes fixture.old.table }
-    ensures { IsTable fixture.new.cx.nodes fixture.new.table }
-{
-    let mut top = lowest;
-    for _ in 0..levels {
-        top = fixture.apply(pair, &[top, top])?;
-    }
-    Ok(top)
 }
 
 /// Makes two arguments one.
@@ -146,15 +120,6 @@ pub fn canonical(
     let mode = TypingMode::PostAnalysis;
     let (cx, table) = (&mut fixture.cx, &fixture.table);
     Ok(canonicalize_goal(table, cx, goal, &[], mode)?)
-}
-
-/// The canonical input of a goal in the empty environment.
-pub fn input_of(fixture: &mut Fixture, predicate: Predicate) -> Result<CanonicalInput, EvalError>
-    requires { IsTable fixture.old.cx.nodes fixture.old.table }
-    ensures { IsTable fixture.new.cx.nodes fixture.new.table }
-{
-    let (_, input) = canonical(fixture, fixture.env, predicate)?;
-    Ok(input)
 }
 
 /// Tests that an input without hidden types is of the store.
@@ -284,14 +249,6 @@ fn build(
     let same = same_input(&fixture.cx, input, &again);
     fixture.table = table;
     Ok((values, originals, same))
-}
-
-/// That many universes more.
-pub fn make_universes(fixture: &mut Fixture, count: u32) -> Result<(), EvalError>
-    requires { IsTable fixture.old.cx.nodes fixture.old.table }
-    ensures { IsTable fixture.new.cx.nodes fixture.new.table }
-{
-    Ok(fixture.table.create_universes(count)?)
 }
 
 /// The value of a kind, where the universes are moved up by one, but not above the current one, and

@@ -9,3 +9,5 @@ mod inputs;
 mod merging_tests;
 #[cfg(test)]
 mod sharing_tests;
+#[cfg(test)]
+mod steps;
