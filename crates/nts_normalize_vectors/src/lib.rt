@@ -6,4 +6,6 @@ mod fixture;
 #[cfg(test)]
 mod scripts;
 #[cfg(test)]
+mod steps;
+#[cfg(test)]
 mod tests;
