@@ -3,23 +3,90 @@ ghost use Rattle.std.specs.Prelude.{◌≡◌, OnOk, OnErr};
 ghost use Rattle.nts_model.specs.Terms.Trees.{any_argument};
 ghost use Rattle.nts_delegate.specs.Clauses.{AreClausesReady};
 ghost use Rattle.nts_table.specs.Tables.{IsTable, IsPlainSide};
-ghost use Rattle.nts_terms.specs.Handles.{HoldsGoal};
+ghost use Rattle.nts_terms.specs.Rest.{Grows};
 ghost use Rattle.nts_meaning.specs.Evaluation.{IsPosed};
 ghost use Rattle.nts_contexts.specs.Related.{IsEnvOf};
 ghost use Rattle.nts_contexts.specs.Contexts.{IsContextReady, KeepsContext, IsGoalOfContext};
 
-use crate::clone::{add_rule, vec_of};
-use crate::rule::is_plain;
+use crate::rule::{add_fact, goal_of, is_plain, vecs_of};
 use next_trait_solver::clauses::Clauses;
 use next_trait_solver::solve::{EvalCtxt, goal_is_admitted};
 use next_trait_solver::ty::{
-    Cx, EvalError, GenericArg, Goal, GoalSource, InferCtxt, Sort, Span, TyKind, TypingMode, UintTy,
-    Variance,
+    Cx, EvalError, GenericArg, Goal, GoalSource, InferCtxt, ParamEnv, Sort, Span, TraitId, TyKind,
+    TypingMode, UintTy, Variance,
 };
 use std::alloc::Global;
 
+/// How many goals are left where two types are made one. It is found out in a probe.
+#[tactic(auto, using(nts_contexts::proofs::Handed::handed, nts_contexts::proofs::Frames::keeps_then))]
+fn count_equated(
+    ecx: &mut EvalCtxt<'_, Clauses>,
+    env: ParamEnv,
+    lhs: GenericArg,
+    rhs: GenericArg,
+) -> Result<usize, EvalError>
+    requires ready { IsContextReady AreClausesReady ecx.old }
+    requires left { IsPlainSide any_argument ecx.old.cx.now.nodes ecx.old.table.now lhs.node }
+    requires right { IsPlainSide any_argument ecx.old.cx.now.nodes ecx.old.table.now rhs.node }
+    requires env { IsEnvOf ecx.old.cx.now ecx.old.table.now env }
+    ensures keeps { KeepsContext AreClausesReady ecx.old ecx.new }
+    ensures table { ecx.new.table.now ≡ ecx.old.table.now }
+    ensures goals { ecx.new.state.now.nested_goals.items ≡ ecx.old.state.now.nested_goals.items }
+{
+    ecx.probe(
+        |probe: &mut EvalCtxt<'_, Clauses>| -> Result<usize, EvalError>
+            requires ready { IsContextReady AreClausesReady probe.old }
+            requires left { IsPlainSide any_argument probe.old.cx.now.nodes
+                probe.old.table.now lhs.node }
+            requires right { IsPlainSide any_argument probe.old.cx.now.nodes
+                probe.old.table.now rhs.node }
+            requires env { IsEnvOf probe.old.cx.now probe.old.table.now env }
+            ensures keeps { KeepsContext AreClausesReady probe.old probe.new }
+        {
+            let goals = probe.eq_and_get_goals(env, lhs, rhs)?;
+            Ok(goals.len())
+        },
+    )
+}
+
+/// How many of two goals are left that are asked where the first type is made the lesser one. It is found out in a probe.
+#[tactic(auto, using(nts_contexts::proofs::Handed::handed, nts_contexts::proofs::Frames::keeps_then))]
+fn count_asked(
+    ecx: &mut EvalCtxt<'_, Clauses>,
+    lhs: GenericArg,
+    rhs: GenericArg,
+    first: Goal,
+    second: Goal,
+) -> Result<usize, EvalError>
+    requires ready { IsContextReady AreClausesReady ecx.old }
+    requires left { IsPlainSide any_argument ecx.old.cx.now.nodes ecx.old.table.now lhs.node }
+    requires right { IsPlainSide any_argument ecx.old.cx.now.nodes ecx.old.table.now rhs.node }
+    requires first { IsGoalOfContext ecx.old first }
+    requires second { IsGoalOfContext ecx.old second }
+    ensures keeps { KeepsContext AreClausesReady ecx.old ecx.new }
+    ensures goals { ecx.new.state.now.nested_goals.items ≡ ecx.old.state.now.nested_goals.items }
+{
+    ecx.probe(
+        |probe: &mut EvalCtxt<'_, Clauses>| -> Result<usize, EvalError>
+            requires ready { IsContextReady AreClausesReady probe.old }
+            requires left { IsPlainSide any_argument probe.old.cx.now.nodes
+                probe.old.table.now lhs.node }
+            requires right { IsPlainSide any_argument probe.old.cx.now.nodes
+                probe.old.table.now rhs.node }
+            requires first { IsGoalOfContext probe.old first }
+            requires second { IsGoalOfContext probe.old second }
+            ensures keeps { KeepsContext AreClausesReady probe.old probe.new }
+        {
+            probe.sub(first.param_env, lhs, rhs)?;
+            probe.add_goals(GoalSource::Misc, &[first, second])?;
+            probe.try_evaluate_added_goals()?;
+            Ok(probe.state.nested_goals.len())
+        },
+    )
+}
+
 /// How many goals are left where two types are made one, and how many of two goals that are asked where the first type is made the
-/// lesser one. Both are found out in probes. Where the types cannot be related, or a goal has no solution, the table is as before.
+/// lesser one. Where the types cannot be related, or a goal has no solution, the table is as before.
 #[tactic(auto, using(nts_contexts::proofs::Handed::handed, nts_contexts::proofs::Frames::keeps_then))]
 pub fn count_goals(
     table: &mut InferCtxt,
@@ -57,38 +124,8 @@ pub fn count_goals(
             ensures goals { OnOk result
                 (ecx.new.state.now.nested_goals.items ≡ ecx.old.state.now.nested_goals.items) }
         {
-            let env = first.param_env;
-            let equated = ecx.probe(
-                |probe: &mut EvalCtxt<'_, Clauses>| -> Result<usize, EvalError>
-                    requires ready { IsContextReady AreClausesReady probe.old }
-                    requires left { IsPlainSide any_argument probe.old.cx.now.nodes
-                        probe.old.table.now lhs.node }
-                    requires right { IsPlainSide any_argument probe.old.cx.now.nodes
-                        probe.old.table.now rhs.node }
-                    requires env { IsEnvOf probe.old.cx.now probe.old.table.now env }
-                    ensures keeps { KeepsContext AreClausesReady probe.old probe.new }
-                {
-                    let goals = probe.eq_and_get_goals(env, lhs, rhs)?;
-                    Ok(goals.len())
-                },
-            )?;
-            let asked = ecx.probe(
-                |probe: &mut EvalCtxt<'_, Clauses>| -> Result<usize, EvalError>
-                    requires ready { IsContextReady AreClausesReady probe.old }
-                    requires left { IsPlainSide any_argument probe.old.cx.now.nodes
-                        probe.old.table.now lhs.node }
-                    requires right { IsPlainSide any_argument probe.old.cx.now.nodes
-                        probe.old.table.now rhs.node }
-                    requires first { IsGoalOfContext probe.old first }
-                    requires second { IsGoalOfContext probe.old second }
-                    ensures keeps { KeepsContext AreClausesReady probe.old probe.new }
-                {
-                    probe.sub(first.param_env, lhs, rhs)?;
-                    probe.add_goals(GoalSource::Misc, &[first, second])?;
-                    probe.try_evaluate_added_goals()?;
-                    Ok(probe.state.nested_goals.len())
-                },
-            )?;
+            let equated = count_equated(ecx, first.param_env, lhs, rhs)?;
+            let asked = count_asked(ecx, lhs, rhs, first, second)?;
             Ok((equated, asked))
         },
     )
@@ -107,9 +144,13 @@ fn try_count(
 ) -> Result<Option<(usize, usize)>, EvalError>
     requires table { IsTable cx.old.nodes table.old }
     requires ready { AreClausesReady cx.old.nodes rules.now }
-    requires first { HoldsGoal cx.old.nodes first }
-    requires second { HoldsGoal cx.old.nodes second }
 {
+    if !cx.holds(first.param_env) || !cx.holds(first.predicate) {
+        return Ok(None);
+    }
+    if !cx.holds(second.param_env) || !cx.holds(second.predicate) {
+        return Ok(None);
+    }
     if !goal_is_admitted(table, cx, first)? || !goal_is_admitted(table, cx, second)? {
         return Ok(None);
     }
@@ -119,87 +160,55 @@ fn try_count(
     Ok(Some(count_goals(table, cx, rules, lhs, rhs, first, second)?))
 }
 
+/// Adds the rules that a trait holds for `u32` and for `u8`.
+#[tactic(auto, using(nts_asking::proofs::Asking::asking, nts_terms::proofs::Moved::growth))]
+fn add_facts(cx: &mut Cx, rules: &mut Clauses, trait_id: TraitId) -> Result<bool, EvalError>
+    requires { AreClausesReady cx.old.nodes rules.old }
+    ensures ready { OnOk result (AreClausesReady cx.new.nodes rules.new) }
+    ensures grows { Grows cx.old cx.new }
+{
+    let word = cx.mk_ty(TyKind::Uint(UintTy::U32))?;
+    if !add_fact(cx, rules, trait_id, word.into())? {
+        return Ok(false);
+    }
+    let byte = cx.mk_ty(TyKind::Uint(UintTy::U8))?;
+    add_fact(cx, rules, trait_id, byte.into())
+}
+
+/// Counts the goals that are left of a trait for two new variables.
+#[tactic(auto, using(nts_asking::proofs::Asking::asking, nts_terms::proofs::Moved::growth))]
+fn count_of_vec(
+    table: &mut InferCtxt,
+    cx: &mut Cx,
+    rules: &mut Clauses,
+) -> Result<Option<(usize, usize)>, EvalError>
+    requires table { IsTable cx.old.nodes table.old }
+    requires ready { AreClausesReady cx.old.nodes rules.old }
+{
+    let clone = cx.declare_trait(&[Sort::Ty])?;
+    let vec = cx.declare_ctor(&[Sort::Ty], &[Variance::Covariant])?;
+    let element: GenericArg = table.next_ty_infer(cx)?.into();
+    let other: GenericArg = table.next_ty_infer(cx)?.into();
+    let Some((rhs, lhs)) = vecs_of(cx, vec, element)? else {
+        return Ok(None);
+    };
+    let Some(first) = goal_of(cx, clone, element)? else {
+        return Ok(None);
+    };
+    let Some(second) = goal_of(cx, clone, other)? else {
+        return Ok(None);
+    };
+    if !add_facts(cx, rules, clone)? {
+        return Ok(None);
+    }
+    try_count(table, cx, rules, lhs.into(), rhs.into(), first, second)
+}
+
 /// How many goals are left where `Vec(T)` and `Vec(u32)` are made one for an unknown `T`, which is to be `Clone` as is another
 /// unknown type, where `u32` and `u8` are: none, and then the second one. There is no answer where a term does not fit.
-#[tactic(auto, using(nts_asking::proofs::Asking::asking, nts_terms::proofs::Moved::growth))]
 pub fn goals_of_vec(alloc: Global) -> Result<Option<(usize, usize)>, EvalError> {
     let mut cx = Cx::new(alloc);
     let mut table = InferCtxt::new(alloc, TypingMode::PostAnalysis);
     let mut rules = Clauses::new(alloc);
-    let clone = cx.declare_trait(&[Sort::Ty])?;
-    let vec = cx.declare_ctor(&[Sort::Ty], &[Variance::Covariant])?;
-    let element: GenericArg = table.next_ty_infer(&mut cx)?.into();
-    let other: GenericArg = table.next_ty_infer(&mut cx)?.into();
-    let word = cx.mk_ty(TyKind::Uint(UintTy::U32))?;
-    let byte = cx.mk_ty(TyKind::Uint(UintTy::U8))?;
-    let Some(rhs) = vec_of(&mut cx, vec, word.into())? else {
-        return Ok(None);
-    };
-    if !cx.holds(element) {
-        return Ok(None);
-    }
-    let Some(lhs) = vec_of(&mut cx, vec, element)? else {
-        return Ok(None);
-    };
-    if !cx.holds(element) {
-        return Ok(None);
-    }
-    let Some(first) = cx.trait_predicate(clone, &[element])? else {
-        return Ok(None);
-    };
-    if !cx.holds(other) {
-        return Ok(None);
-    }
-    let Some(second) = cx.trait_predicate(clone, &[other])? else {
-        return Ok(None);
-    };
-    let param_env = cx.mk_env(&[])?;
-    if !cx.holds(word) {
-        return Ok(None);
-    }
-    let none = Vec::new(alloc);
-    if !add_rule(
-        &mut cx,
-        &mut rules,
-        none,
-        clone,
-        word.into(),
-        Vec::new(alloc),
-    )? {
-        return Ok(None);
-    }
-    if !cx.holds(byte) {
-        return Ok(None);
-    }
-    let none = Vec::new(alloc);
-    if !add_rule(
-        &mut cx,
-        &mut rules,
-        none,
-        clone,
-        byte.into(),
-        Vec::new(alloc),
-    )? {
-        return Ok(None);
-    }
-    if !cx.holds(param_env) || !cx.holds(first) || !cx.holds(second) {
-        return Ok(None);
-    }
-    let first = Goal {
-        param_env,
-        predicate: first,
-    };
-    let second = Goal {
-        param_env,
-        predicate: second,
-    };
-    try_count(
-        &mut table,
-        &mut cx,
-        &rules,
-        lhs.into(),
-        rhs.into(),
-        first,
-        second,
-    )
+    count_of_vec(&mut table, &mut cx, &mut rules)
 }

@@ -52,20 +52,26 @@ fn ask_in_a_search(
     }))
 }
 
-/// Asks whether an unknown type is `Auto`, where `Vec(T)` is for each `T` that is, and cycles hold: each round answers one `Vec`
-/// more than the one before.
+/// Asks whether a new variable is `Auto`.
 #[tactic(auto, using(nts_asking::proofs::Asking::asking, nts_terms::proofs::Moved::growth))]
-pub fn growing_answer(alloc: Global) -> Result<Option<Counted>, EvalError> {
-    let mut cx = Cx::new(alloc);
+fn grow(
+    table: &mut InferCtxt,
+    cx: &mut Cx,
+    rules: &mut Clauses,
+) -> Result<Option<Counted>, EvalError>
+    requires table { IsTable cx.old.nodes table.old }
+    requires ready { AreClausesReady cx.old.nodes rules.old }
+{
     let auto = cx.declare_trait(&[Sort::Ty])?;
     let vec = cx.declare_ctor(&[Sort::Ty], &[Variance::Covariant])?;
-    let mut rules = Clauses::new(alloc);
     rules.set_coinductive(auto)?;
-    if !add_rule_of_vec(&mut cx, &mut rules, auto, vec)? {
+    let any = table.next_ty_infer(cx)?;
+    if !add_rule_of_vec(cx, rules, auto, vec)? {
         return Ok(None);
     }
-    let mut table = InferCtxt::new(alloc, TypingMode::PostAnalysis);
-    let any = table.next_ty_infer(&mut cx)?;
+    if !cx.holds(any) {
+        return Ok(None);
+    }
     let Some(predicate) = cx.trait_predicate(auto, &[any.into()])? else {
         return Ok(None);
     };
@@ -74,5 +80,14 @@ pub fn growing_answer(alloc: Global) -> Result<Option<Counted>, EvalError> {
         param_env,
         predicate,
     };
-    ask_in_a_search(&mut cx, &rules, &table, goal)
+    ask_in_a_search(cx, rules, table, goal)
+}
+
+/// Asks whether an unknown type is `Auto`, where `Vec(T)` is for each `T` that is, and cycles hold: each round answers one `Vec`
+/// more than the one before.
+pub fn growing_answer(alloc: Global) -> Result<Option<Counted>, EvalError> {
+    let mut cx = Cx::new(alloc);
+    let mut table = InferCtxt::new(alloc, TypingMode::PostAnalysis);
+    let mut rules = Clauses::new(alloc);
+    grow(&mut table, &mut cx, &mut rules)
 }

@@ -25,6 +25,48 @@ fn answer_of(error: Option<EvalError>) -> Result<(), EvalError>
     }
 }
 
+/// Makes two types one in a probe of a probe, which then answers that error.
+#[tactic(auto, using(nts_contexts::proofs::Handed::handed, nts_contexts::proofs::Frames::keeps_then))]
+fn try_in_probes(
+    ecx: &mut EvalCtxt<'_, Clauses>,
+    env: ParamEnv,
+    left: GenericArg,
+    tried: GenericArg,
+    error: Option<EvalError>,
+) -> Result<(), EvalError>
+    requires ready { IsContextReady AreClausesReady ecx.old }
+    requires left { IsPlainSide any_argument ecx.old.cx.now.nodes ecx.old.table.now left.node }
+    requires tried { IsPlainSide any_argument ecx.old.cx.now.nodes ecx.old.table.now tried.node }
+    ensures keeps { KeepsContext AreClausesReady ecx.old ecx.new }
+    ensures table { ecx.new.table.now ≡ ecx.old.table.now }
+    ensures goals { ecx.new.state.now.nested_goals.items ≡ ecx.old.state.now.nested_goals.items }
+{
+    ecx.probe(
+        |probe: &mut EvalCtxt<'_, Clauses>| -> Result<(), EvalError>
+            requires ready { IsContextReady AreClausesReady probe.old }
+            requires left { IsPlainSide any_argument probe.old.cx.now.nodes
+                probe.old.table.now left.node }
+            requires tried { IsPlainSide any_argument probe.old.cx.now.nodes
+                probe.old.table.now tried.node }
+            ensures keeps { KeepsContext AreClausesReady probe.old probe.new }
+        {
+            probe.probe(
+                |deep: &mut EvalCtxt<'_, Clauses>| -> Result<(), EvalError>
+                    requires ready { IsContextReady AreClausesReady deep.old }
+                    requires left { IsPlainSide any_argument deep.old.cx.now.nodes
+                        deep.old.table.now left.node }
+                    requires tried { IsPlainSide any_argument deep.old.cx.now.nodes
+                        deep.old.table.now tried.node }
+                    ensures keeps { KeepsContext AreClausesReady deep.old deep.new }
+                {
+                    deep.eq_structurally_relating_aliases(env, left, tried)?;
+                    answer_of(error)
+                },
+            )
+        },
+    )
+}
+
 /// Makes two types one in a probe of a probe, which then answers that error, and makes the first type and a third one the same in the
 /// context itself, unless the context is to end by an error before. What the probes answer is passed over.
 #[tactic(auto, using(nts_contexts::proofs::Handed::handed, nts_contexts::proofs::Frames::keeps_then))]
@@ -65,30 +107,7 @@ pub fn err_in_probes(
             ensures goals { OnOk result
                 (ecx.new.state.now.nested_goals.items ≡ ecx.old.state.now.nested_goals.items) }
         {
-            let _ = ecx.probe(
-                |probe: &mut EvalCtxt<'_, Clauses>| -> Result<(), EvalError>
-                    requires ready { IsContextReady AreClausesReady probe.old }
-                    requires left { IsPlainSide any_argument probe.old.cx.now.nodes
-                        probe.old.table.now left.node }
-                    requires tried { IsPlainSide any_argument probe.old.cx.now.nodes
-                        probe.old.table.now tried.node }
-                    ensures keeps { KeepsContext AreClausesReady probe.old probe.new }
-                {
-                    probe.probe(
-                        |deep: &mut EvalCtxt<'_, Clauses>| -> Result<(), EvalError>
-                            requires ready { IsContextReady AreClausesReady deep.old }
-                            requires left { IsPlainSide any_argument deep.old.cx.now.nodes
-                                deep.old.table.now left.node }
-                            requires tried { IsPlainSide any_argument deep.old.cx.now.nodes
-                                deep.old.table.now tried.node }
-                            ensures keeps { KeepsContext AreClausesReady deep.old deep.new }
-                        {
-                            deep.eq_structurally_relating_aliases(env, left, tried)?;
-                            answer_of(inner)
-                        },
-                    )
-                },
-            );
+            let _ = try_in_probes(ecx, env, left, tried, inner);
             answer_of(outer)?;
             ecx.eq_structurally_relating_aliases(env, left, right)
         },
@@ -150,6 +169,20 @@ fn try_errors(
     }
 }
 
+/// A new variable, `u32` and `u8`.
+fn sides_of(
+    table: &mut InferCtxt,
+    cx: &mut Cx,
+) -> Result<(GenericArg, GenericArg, GenericArg), EvalError>
+    requires { IsTable cx.old.nodes table.old }
+    ensures { IsTable cx.new.nodes table.new }
+{
+    let left = table.next_ty_infer(cx)?;
+    let tried = cx.mk_ty(TyKind::Uint(UintTy::U32))?;
+    let right = cx.mk_ty(TyKind::Uint(UintTy::U8))?;
+    Ok((left.into(), tried.into(), right.into()))
+}
+
 /// A variable is made the same as `u32` in a probe of a probe, which answers the first error, and as `u8` in the context itself, unless
 /// the second error ends it before. There is no answer where a term does not fit.
 pub fn errors_of_probes(
@@ -159,10 +192,7 @@ pub fn errors_of_probes(
 ) -> Result<Option<(Result<(), EvalError>, Known)>, EvalError> {
     let mut cx = Cx::new(alloc);
     let mut table = InferCtxt::new(alloc, TypingMode::PostAnalysis);
+    let sides = sides_of(&mut table, &mut cx)?;
     let rules = Clauses::new(alloc);
-    let left: GenericArg = table.next_ty_infer(&mut cx)?.into();
-    let tried = cx.mk_ty(TyKind::Uint(UintTy::U32))?;
-    let right = cx.mk_ty(TyKind::Uint(UintTy::U8))?;
-    let sides = (left, tried.into(), right.into());
     try_errors(&mut table, &mut cx, &rules, sides, inner, outer)
 }

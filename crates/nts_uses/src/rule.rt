@@ -3,7 +3,7 @@ ghost use Rattle.std.specs.Prelude.{◌≡◌, true, IfOk, OnOk, OnErr};
 ghost use Rattle.nts_model.specs.Terms.Trees.{any_argument};
 ghost use Rattle.nts_delegate.specs.Clauses.{AreClausesReady};
 ghost use Rattle.nts_table.specs.Tables.{IsTable, IsPlainSide};
-ghost use Rattle.nts_terms.specs.Handles.{HoldsGoal};
+ghost use Rattle.nts_terms.specs.Handles.{HoldsArg};
 ghost use Rattle.nts_terms.specs.Rest.{Grows};
 ghost use Rattle.nts_meaning.specs.Evaluation.{IsPosed};
 ghost use Rattle.nts_contexts.specs.Contexts.{IsContextReady, KeepsContext, IsGoalOfContext};
@@ -12,8 +12,8 @@ use crate::clone::{add_rule, vec_of};
 use next_trait_solver::clauses::Clauses;
 use next_trait_solver::solve::{EvalCtxt, goal_is_admitted};
 use next_trait_solver::ty::{
-    Certainty, Cx, EvalError, GenericArg, Goal, GoalSource, InferCtxt, Sort, Span, TyKind,
-    TypingMode, UintTy, Variance,
+    Certainty, CtorId, Cx, EvalError, GenericArg, Goal, GoalSource, InferCtxt, Sort, Span, TraitId,
+    Ty, TyKind, TypingMode, UintTy, Variance,
 };
 use std::alloc::Global;
 
@@ -90,6 +90,66 @@ pub(crate) fn is_plain(
     Ok(!has_alias)
 }
 
+/// The goal that a trait holds for a type.
+pub(crate) fn goal_of(
+    cx: &mut Cx,
+    trait_id: TraitId,
+    of: GenericArg,
+) -> Result<Option<Goal>, EvalError>
+    ensures { Grows cx.old cx.new }
+{
+    let param_env = cx.mk_env(&[])?;
+    if !cx.holds(of) {
+        return Ok(None);
+    }
+    match cx.trait_predicate(trait_id, &[of])? {
+        Some(predicate) => Ok(Some(Goal {
+            param_env,
+            predicate,
+        })),
+        None => Ok(None),
+    }
+}
+
+/// `Vec` of `u32` and of another type.
+#[tactic(auto, using(nts_asking::proofs::Asking::asking, nts_terms::proofs::Moved::growth))]
+pub(crate) fn vecs_of(
+    cx: &mut Cx,
+    vec: CtorId,
+    element: GenericArg,
+) -> Result<Option<(Ty, Ty)>, EvalError>
+    ensures { Grows cx.old cx.new }
+{
+    let word = cx.mk_ty(TyKind::Uint(UintTy::U32))?;
+    let Some(of_word) = vec_of(cx, vec, word.into())? else {
+        return Ok(None);
+    };
+    if !cx.holds(element) {
+        return Ok(None);
+    }
+    let Some(of_element) = vec_of(cx, vec, element)? else {
+        return Ok(None);
+    };
+    Ok(Some((of_word, of_element)))
+}
+
+/// Adds the rule that a trait holds for a type.
+#[tactic(auto, using(nts_asking::proofs::Asking::asking))]
+pub(crate) fn add_fact(
+    cx: &mut Cx,
+    rules: &mut Clauses,
+    trait_id: TraitId,
+    of: GenericArg,
+) -> Result<bool, EvalError>
+    requires argument { HoldsArg cx.old.nodes of }
+    requires ready { AreClausesReady cx.old.nodes rules.old }
+    ensures ready { OnOk result (AreClausesReady cx.new.nodes rules.new) }
+    ensures grows { Grows cx.old cx.new }
+{
+    let (fresh, body) = (Vec::new(cx.alloc), Vec::new(cx.alloc));
+    add_rule(cx, rules, fresh, trait_id, of, body)
+}
+
 /// Uses the rule, where its types are of the table and no alias stands in them, and its goal may be asked.
 #[tactic(auto, using(crate::proofs::Asked::asked))]
 fn try_rule(
@@ -102,8 +162,10 @@ fn try_rule(
 ) -> Result<Option<Certainty>, EvalError>
     requires table { IsTable cx.old.nodes table.old }
     requires ready { AreClausesReady cx.old.nodes rules.now }
-    requires goal { HoldsGoal cx.old.nodes goal }
 {
+    if !cx.holds(goal.param_env) || !cx.holds(goal.predicate) {
+        return Ok(None);
+    }
     if !goal_is_admitted(table, cx, goal)? {
         return Ok(None);
     }
@@ -113,53 +175,37 @@ fn try_rule(
     Ok(Some(use_rule(table, cx, rules, lhs, rhs, goal)?))
 }
 
+/// How sure the rule is for a new variable.
+#[tactic(auto, using(nts_asking::proofs::Asking::asking, nts_terms::proofs::Moved::growth))]
+fn use_rule_of_vec(
+    table: &mut InferCtxt,
+    cx: &mut Cx,
+    rules: &mut Clauses,
+) -> Result<Option<Certainty>, EvalError>
+    requires table { IsTable cx.old.nodes table.old }
+    requires ready { AreClausesReady cx.old.nodes rules.old }
+{
+    let clone = cx.declare_trait(&[Sort::Ty])?;
+    let vec = cx.declare_ctor(&[Sort::Ty], &[Variance::Covariant])?;
+    let element: GenericArg = table.next_ty_infer(cx)?.into();
+    let Some((rhs, lhs)) = vecs_of(cx, vec, element)? else {
+        return Ok(None);
+    };
+    let Some(goal) = goal_of(cx, clone, element)? else {
+        return Ok(None);
+    };
+    let word = cx.mk_ty(TyKind::Uint(UintTy::U32))?;
+    if !add_fact(cx, rules, clone, word.into())? {
+        return Ok(None);
+    }
+    try_rule(table, cx, rules, lhs.into(), rhs.into(), goal)
+}
+
 /// How sure the rule is that makes `Vec(T)` and `Vec(u32)` one for an unknown `T`, which is to be `Clone`, where `u32` is: `Yes`. There
 /// is no answer where a term does not fit.
-#[tactic(auto, using(nts_asking::proofs::Asking::asking, nts_terms::proofs::Moved::growth))]
 pub fn rule_of_vec(alloc: Global) -> Result<Option<Certainty>, EvalError> {
     let mut cx = Cx::new(alloc);
     let mut table = InferCtxt::new(alloc, TypingMode::PostAnalysis);
     let mut rules = Clauses::new(alloc);
-    let clone = cx.declare_trait(&[Sort::Ty])?;
-    let vec = cx.declare_ctor(&[Sort::Ty], &[Variance::Covariant])?;
-    let element: GenericArg = table.next_ty_infer(&mut cx)?.into();
-    let word = cx.mk_ty(TyKind::Uint(UintTy::U32))?;
-    let Some(rhs) = vec_of(&mut cx, vec, word.into())? else {
-        return Ok(None);
-    };
-    if !cx.holds(element) {
-        return Ok(None);
-    }
-    let Some(lhs) = vec_of(&mut cx, vec, element)? else {
-        return Ok(None);
-    };
-    if !cx.holds(element) {
-        return Ok(None);
-    }
-    let Some(predicate) = cx.trait_predicate(clone, &[element])? else {
-        return Ok(None);
-    };
-    let param_env = cx.mk_env(&[])?;
-    let goal = Goal {
-        param_env,
-        predicate,
-    };
-    if !cx.holds(word) {
-        return Ok(None);
-    }
-    let none = Vec::new(alloc);
-    if !add_rule(
-        &mut cx,
-        &mut rules,
-        none,
-        clone,
-        word.into(),
-        Vec::new(alloc),
-    )? {
-        return Ok(None);
-    }
-    if !cx.holds(goal.predicate) {
-        return Ok(None);
-    }
-    try_rule(&mut table, &mut cx, &rules, lhs.into(), rhs.into(), goal)
+    use_rule_of_vec(&mut table, &mut cx, &mut rules)
 }

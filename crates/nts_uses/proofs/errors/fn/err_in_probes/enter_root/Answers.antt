@@ -6,7 +6,7 @@ use Rattle.nts_uses.proofs.errors.fn.err_in_probes.enter_root.Goals as goal
 
 pub eq_structurally_relating_aliases-requires : goal.eq_structurally_relating_aliases-requires
 eq_structurally_relating_aliases-requires c =
-    let e = c.probe.ensures in
+    let e = c.try_in_probes.ensures in
     let ready = c.requires.ready in
     let left = plain_later e.keeps ready.table e.table c.requires.left in
     let right = plain_later e.keeps ready.table e.table c.requires.right in
@@ -18,5 +18,5 @@ eq_structurally_relating_aliases-requires c =
 
 pub returns : goal.returns
 returns c =
-    let e = c.probe.ensures in
+    let e = c.try_in_probes.ensures in
     record { keeps = keeps_then e.keeps c.eq_structurally_relating_aliases.ensures.keeps; goals = on_ok c.eq_structurally_relating_aliases.result (c.eq_structurally_relating_aliases.ensures.goals ∙ e.goals) }

@@ -3,7 +3,7 @@ use Rattle.std.proofs.lemmas.List.Elements.{All-nil, All-cons}
 use Rattle.nts_contexts.specs.Contexts.{IsGoalOfContext}
 use Rattle.nts_contexts.proofs.Handed.{goal_later}
 use Rattle.nts_contexts.proofs.Frames.{keeps_then}
-use Rattle.nts_uses.proofs.count.fn.count_goals.fn.enter_root.probe+2.Goals as goal
+use Rattle.nts_uses.proofs.count.fn.count_asked.probe.Goals as goal
 
 pub add_goals-requires : goal.add_goals-requires
 add_goals-requires c =

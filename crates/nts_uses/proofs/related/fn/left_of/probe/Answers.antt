@@ -1,5 +1,5 @@
 use Rattle.nts_contexts.proofs.Frames.{keeps_then}
-use Rattle.nts_uses.proofs.related.fn.relate_in_probes.fn.enter_root.probe+2.Goals as goal
+use Rattle.nts_uses.proofs.related.fn.left_of.probe.Goals as goal
 
 pub returns-in_err-certainty : goal.returns-in_err-certainty
 returns-in_err-certainty c = record { keeps = keeps_then c.relate.ensures.keeps c.try_evaluate_added_goals.ensures.keeps }
