@@ -2,49 +2,25 @@
 ghost use Rattle.nts_table.specs.Tables.{IsTable};
 
 use nts_fixtures::{Fixture, table_in};
-use nts_model::BoundVarIndexKind;
+use nts_model::{Sort, Variance};
 use nts_placeholder::{BoundVarReplacer, PlaceholderMaps, PlaceholderReplacer};
 use nts_store::{EvalError, Fault};
 use nts_table::InferCtxt;
-use nts_terms::{
-    BoundConst, BoundRegion, ConstKind, GenericArg, PlaceholderConst, PlaceholderRegion,
-    RegionKind, UniverseIndex,
-};
+use nts_terms::{CtorId, GenericArg, UniverseIndex};
 use std::process::Abort;
 
-/// A region, a type and a const that the innermost binder binds, with these numbers in its list.
-pub fn bound_of_each(fixture: &mut Fixture, vars: [usize; 3]) -> Result<[GenericArg; 3], EvalError>
+/// A new constructor of a region, a type and a const.
+pub fn declare_mixed(fixture: &mut Fixture) -> Result<CtorId, EvalError>
     requires { IsTable fixture.old.cx.nodes fixture.old.table }
     ensures { IsTable fixture.new.cx.nodes fixture.new.table }
 {
-    let index = BoundVarIndexKind::Bound(0);
-    let bound = BoundRegion { var: vars[0] };
-    let region = fixture.region(RegionKind::ReBound(index, bound))?;
-    let ty = fixture.bound(0, vars[1])?;
-    let bound = BoundConst { var: vars[2] };
-    let ct = fixture.konst(ConstKind::Bound(index, bound))?;
-    Ok([region, ty, ct])
+    let sorts = [Sort::Region, Sort::Ty, Sort::Const];
+    let kept = Variance::Covariant;
+    let variances = [kept, kept, Variance::Invariant];
+    Ok(fixture.cx.declare_ctor(&sorts, &variances)?)
 }
 
-/// A region, a type and a const placeholder of a universe, with these numbers.
-pub fn placeholder_of_each(
-    fixture: &mut Fixture,
-    universe: UniverseIndex,
-    vars: [usize; 3],
-) -> Result<[GenericArg; 3], EvalError>
-    requires { IsTable fixture.old.cx.nodes fixture.old.table }
-    ensures { IsTable fixture.new.cx.nodes fixture.new.table }
-{
-    let bound = BoundRegion { var: vars[0] };
-    let region = PlaceholderRegion { universe, bound };
-    let region = fixture.region(RegionKind::RePlaceholder(region))?;
-    let ty = fixture.placeholder(universe, vars[1])?;
-    let bound = BoundConst { var: vars[2] };
-    let ct = PlaceholderConst { universe, bound };
-    let ct = fixture.konst(ConstKind::Placeholder(ct))?;
-    Ok([region, ty, ct])
-}
-
+/// Opens a value, in this table, by the universes that the binders have.
 pub fn open(
     rt: &impl Abort,
     fixture: &mut Fixture,

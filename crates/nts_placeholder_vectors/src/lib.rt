@@ -5,4 +5,6 @@
 #[cfg(test)]
 mod fixture;
 #[cfg(test)]
+mod steps;
+#[cfg(test)]
 mod tests;
