@@ -1,5 +1,6 @@
 #!/usr/bin/env python3
-r"""Compares what `nts` prints, and its exit status, with the cases of cases/*.cases and a few long ones that are made here.
+r"""Compares what `nts` prints, and its exit status, with what it should: for each program NAME.nts of this folder, with
+NAME.out beside it, for the cases of cases/*.cases, and for a few long ones that are made here.
 
 The proved program is run where it is built (the gate leaves it), and else one that is built without proof.
 
@@ -62,6 +63,16 @@ def cases_of_block(block):
         yield Case(name, bytes_of(text, options), output.encode(), status)
 
 
+def programs():
+    """The programs of this folder, each with its answers beside it."""
+    for path in sorted(glob.glob(os.path.join(HERE, "*.nts"))):
+        with open(path, "rb") as text, open(path.removesuffix(".nts") + ".out", "rb") as printed:
+            output = printed.read()
+            # A line that is refused is the last one that a run reads.
+            status = 2 if re.search(rb"^line \d+: .*\n\Z", output, re.M) else 0
+            yield Case(os.path.basename(path), text.read(), output, status)
+
+
 def written_cases():
     for path in sorted(glob.glob(os.path.join(HERE, "cases", "*.cases"))):
         topic = os.path.basename(path)
@@ -75,9 +86,9 @@ def written_cases():
 
 def long_cases():
     """Texts that are too long to be written out: a name, the lines, and the lines that are printed."""
-    deep = "W(" * 10_000 + "u8" + ")" * 10_000
+    deep = "W(" * 50_000 + "u8" + ")" * 50_000
     rules = ["trait T(type)", "type W(type)", "impl T(?X)", "trait Pair(type, type)", "impl Pair(?X, ?X)"]
-    yield "a type in 10,000 types", [*rules, f"goal T({deep})", f"goal Pair(?x, {deep})"], ["yes", "yes", f"  ?x = {deep}"]
+    yield "a type in 50,000 types", [*rules, f"goal T({deep})", f"goal Pair(?x, {deep})"], ["yes", "yes", f"  ?x = {deep}"]
 
     facts = [line for i in range(999) for line in (f"type C{i}", f"impl T(C{i})")]
     goals = ["type Last", "impl T(Last)", "goal T(Last)", "goal T(C0)", "goal T(u8)"]
@@ -106,6 +117,7 @@ def bytes_of_lines(lines):
 
 
 def all_cases():
+    yield from programs()
     yield from written_cases()
     for name, lines, printed in long_cases():
         yield Case(f"long: {name}", bytes_of_lines(lines), bytes_of_lines(printed), 0)
