@@ -7,12 +7,12 @@ ghost use Rattle.nts_terms.specs.Rest.{Grows};
 use nts_certainty::{Certainty, HasChanged};
 use nts_delegate::{Clauses, GoalHandler};
 use nts_evaluation::{GoalEvaluation, GoalStalledOn, evaluate_root_goal, goal_is_admitted};
-use nts_goal_fixtures::{fact, goal_about, goal_between, rule_of_one, uint};
+use nts_goal_fixtures::{goal_about, goal_between, rule_of_one, uint};
 use nts_model::{BoundVarIndexKind, Sort, UintTy};
 use nts_resolve::eager_resolve_vars;
 use nts_store::EvalError;
 use nts_table::InferCtxt;
-use nts_terms::{BoundTy, Cx, Goal, PlaceholderType, Span, TraitId, Ty, TyKind, TypingMode};
+use nts_terms::{BoundTy, Cx, Goal, PlaceholderType, Span, TraitId, TyKind, TypingMode};
 use std::test::Fail;
 
 /// How sure it is that a goal holds, and whether its variables changed, or nothing where it has no solution; asked through the bound.
@@ -75,55 +75,6 @@ fn a_placeholder_that_the_variable_cannot_name(rt: HostRuntime) -> Result<(), Fa
     let refused = evaluated(&mut table, &mut cx, &handler, goal)?;
     assert!(rt; refused.is_none());
     assert!(rt; table.variable_count() == 1);
-    Ok(())
-}
-
-#[test]
-#[tactic(auto, using(nts_asking::proofs::Asking::asking))]
-fn a_fact_holds(rt: HostRuntime) -> Result<(), Fail> {
-    let mut cx = Cx::new(rt.alloc());
-    let mut table = InferCtxt::new(rt.alloc(), TypingMode::PostAnalysis);
-    let mut handler = Clauses::new(rt.alloc());
-    let clone = cx.declare_trait(&[Sort::Ty])?;
-    let word = uint(&mut cx, UintTy::U32)?;
-    fact(&mut cx, &mut handler, clone, word.into())?;
-    let goal = goal_about(&mut cx, clone, word.into())?;
-    let found = evaluated(&mut table, &mut cx, &handler, goal)?;
-    assert!(rt; matches!(found, Some((Certainty::Yes, _))));
-    Ok(())
-}
-
-#[test]
-#[tactic(auto, using(nts_asking::proofs::Asking::asking))]
-fn without_a_fact_nothing_holds(rt: HostRuntime) -> Result<(), Fail> {
-    let mut cx = Cx::new(rt.alloc());
-    let mut table = InferCtxt::new(rt.alloc(), TypingMode::PostAnalysis);
-    let mut handler = Clauses::new(rt.alloc());
-    let clone = cx.declare_trait(&[Sort::Ty])?;
-    let word = uint(&mut cx, UintTy::U32)?;
-    let byte = uint(&mut cx, UintTy::U8)?;
-    fact(&mut cx, &mut handler, clone, word.into())?;
-    let goal = goal_about(&mut cx, clone, byte.into())?;
-    let none = evaluated(&mut table, &mut cx, &handler, goal)?;
-    assert!(rt; none.is_none());
-    Ok(())
-}
-
-#[test]
-#[tactic(auto, using(nts_asking::proofs::Asking::asking))]
-fn two_facts_are_ambiguous(rt: HostRuntime) -> Result<(), Fail> {
-    let mut cx = Cx::new(rt.alloc());
-    let mut table = InferCtxt::new(rt.alloc(), TypingMode::Coherence);
-    let mut handler = Clauses::new(rt.alloc());
-    let clone = cx.declare_trait(&[Sort::Ty])?;
-    let word = uint(&mut cx, UintTy::U32)?;
-    let byte = uint(&mut cx, UintTy::U8)?;
-    fact(&mut cx, &mut handler, clone, word.into())?;
-    fact(&mut cx, &mut handler, clone, byte.into())?;
-    let variable = table.next_ty_infer(&mut cx)?;
-    let goal = goal_about(&mut cx, clone, variable.into())?;
-    let found = evaluated(&mut table, &mut cx, &handler, goal)?;
-    assert!(rt; matches!(found, Some((Certainty::Maybe(_), _))));
     Ok(())
 }
 

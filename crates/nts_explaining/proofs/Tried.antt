@@ -28,9 +28,10 @@ use Rattle.nts_trying.specs.Opening.{IsOpenedTo, CannotOpen}
 use Rattle.nts_explaining.specs.declared.conditions.Outcome.{Outcome}
 use Rattle.nts_explaining.specs.declared.conditions.Outcome.TheVariants as outcome
 use Rattle.nts_explaining.specs.Asking.{IsWithin, IsReasonOf}
-use Rattle.nts_explaining.specs.declared.kinds.Reason.{Reason}
-use Rattle.nts_explaining.specs.declared.kinds.Reason.TheVariants as reason
-use Rattle.nts_explaining.specs.Explaining.{Explains, ExplainsEach, GivesReasons, HoldsReason}
+use Rattle.nts_reason.specs.declared.kinds.Reason.{Reason}
+use Rattle.nts_reason.specs.declared.kinds.Reason.TheVariants as reason
+use Rattle.nts_explaining.specs.Explaining.{Explains, ExplainsEach, GivesReasons}
+use Rattle.nts_reason.specs.Held.{HoldsReason}
 use Rattle.nts_explaining.specs.Explaining.ExplainsEach.{more}
 use Rattle.nts_explaining.specs.Explaining.GivesReasons.{of_candidates, is_unasked, is_unopened}
 

@@ -9,14 +9,13 @@ use Rattle.nts_unify.specs.Reading.{content_of}
 use Rattle.nts_table.specs.Tables.{Table}
 use Rattle.nts_terms.specs.declared.handles.Goal.{Goal}
 use Rattle.nts_terms.specs.declared.modes.TypingMode.{TypingMode}
-use Rattle.nts_terms.specs.Handles.{HoldsGoal}
 use Rattle.nts_terms.specs.Modes.{mode_of}
 use Rattle.nts_delegate.specs.Offered.{certainty_of}
 use Rattle.nts_meaning.specs.Evaluation.{IsAskedGoal}
 use Rattle.nts_meaning.specs.Meant.{offers_of}
 use Rattle.nts_trying.specs.Opening.{IsOpenedTo, CannotOpen}
-use Rattle.nts_explaining.specs.declared.kinds.Reason.{Reason}
-use Rattle.nts_explaining.specs.declared.kinds.Reason.TheVariants as reason
+use Rattle.nts_reason.specs.declared.kinds.Reason.{Reason}
+use Rattle.nts_reason.specs.declared.kinds.Reason.TheVariants as reason
 
 -- some world of the table meets the first n equations of the candidate
 abbrev pub MeetsFirst : ℕ → Content → Candidate → Type 0
@@ -34,11 +33,6 @@ Explains c x (reason.Equation n) = StopsAtEquation n c x
 Explains c x (reason.Condition n g y) = IsCandidateMet c x × (n < length x.goals)
 Explains c x reason.Leak = IsCandidateMet c x
 Explains c x (reason.Holds y) = IsCandidateMet c x × (certainty_of y ≡ x.certainty)
-
--- the condition that a reason names is a goal of the store
-abbrev pub HoldsReason : List Tree → Reason → Type 0
-HoldsReason ts (reason.Condition n g y) = HoldsGoal ts g
-HoldsReason ts r = Unit {0}
 
 -- a reason for each of the candidates, in their order
 pub data ExplainsEach (c : Content) : List Candidate → List Reason → Type 0 where

@@ -5,7 +5,6 @@
 mod candidates;
 mod conditions;
 mod equations;
-mod kinds;
 
 pub use candidates::explain;
-pub use kinds::Reason;
+pub use nts_reason::Reason;

@@ -21,7 +21,8 @@ use Rattle.nts_wording.specs.declared.variables.LineVariables.{LineVariables}
 use Rattle.nts_wording.specs.Meaning.{HasOwnPlaces, HasPlace, AreVariablesFrom, IsGoalOf}
 use Rattle.nts_printing.specs.Found.{IsFoundIn, IsOf}
 use Rattle.nts_text.specs.declared.parser.Mode.{Mode}
-use Rattle.nts_program.specs.Proving.{IsTypingMode, rules_with, IsProvedGoal, IsJustifiedAnswer}
+use Rattle.nts_declaring.specs.Posing.{IsTypingMode}
+use Rattle.nts_program.specs.Proving.{rules_with, IsProvedGoal, IsJustifiedAnswer}
 use Rattle.nts_printing.specs.declared.answer.Answer.{Answer}
 use Rattle.nts_printing.specs.declared.answer.Answer.TheVariants as answers
 

@@ -2,4 +2,3 @@ pub mod Asking
 pub mod Justifying
 pub mod Obeyed
 pub mod Runs
-pub mod Steps

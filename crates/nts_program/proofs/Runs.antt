@@ -13,13 +13,14 @@ use Rattle.nts_text.specs.Input.{first_line, lines_of}
 use Rattle.nts_text.specs.Lines.{IsPassedOver}
 use Rattle.nts_text.specs.declared.refusals.Refusal.{Refusal}
 use Rattle.nts_text.proofs.InputLemmas.{lines_of-first}
-use Rattle.nts_program.specs.declared.program.Program.{Program}
+use Rattle.nts_declaring.specs.declared.program.Program.{Program}
 use Rattle.nts_wording.specs.declared.status.Status.TheVariants.{Done, Refused}
 use Rattle.nts_wording.specs.declared.status.Stop.{Stop}
 use Rattle.nts_wording.specs.declared.status.Stop.TheVariants as stop
 use Rattle.nts_printing.specs.Growing.{refusal_line, IsStopTold}
 use Rattle.nts_wording.specs.Statuses.{status_of}
-use Rattle.nts_program.specs.Obeying.{IsNewProgram, IsObeyed}
+use Rattle.nts_declaring.specs.Declaring.{IsNewProgram}
+use Rattle.nts_program.specs.Obeying.{IsObeyed}
 use Rattle.nts_program.specs.Running.{IsTextOf, IsAnsweredLine, AreObeyed, AnswersAll, StopsAtRefusal}
 use Rattle.nts_printing.proofs.Growths.{Appends-trans, Appends-none}
 

@@ -1,89 +1,26 @@
 -- What the lines of a run do.
-use Rattle.std.specs.Prelude.{◌≡◌, ◌⊎◌, ℕ, true, false, List, [], length, map, Option, None, Some}
-use Rattle.nts_model.specs.declared.labels.Sort.{Sort}
-use Rattle.nts_terms.specs.declared.cx.Cx.{Cx}
-use Rattle.nts_terms.specs.declared.handles.ParamEnv.{ParamEnv}
+use Rattle.std.specs.Prelude.{◌≡◌, ◌⊎◌, ℕ, List, Option, None, Some}
 use Rattle.nts_terms.specs.Rest.{Grows}
-use Rattle.nts_terms.specs.Signatures.{nothing_declared, with_ctor, with_trait}
-use Rattle.nts_delegate.specs.Adding.{AddsClause, MakesCoinductive}
-use Rattle.nts_delegate.specs.Clauses.{clauses_of, coinductive_of}
-use Rattle.nts_delegate.specs.declared.clauses.Clause.{Clause}
 use Rattle.nts_text.specs.Commands.{IsCommandOf}
 use Rattle.nts_text.specs.Lines.{IsPassedOver}
-use Rattle.nts_text.specs.NameTable.{declared_as}
-use Rattle.nts_text.specs.Resolution.{trait_sorts}
-use Rattle.nts_text.specs.Spelled.{type_names, region_names, KeepsNumbers}
+use Rattle.nts_text.specs.Spelled.{KeepsNumbers}
 use Rattle.nts_text.specs.declared.commands.Command.{Command}
 use Rattle.nts_text.specs.declared.commands.Command.TheVariants as commands
-use Rattle.nts_text.specs.declared.parser.Mode.TheVariants as modes
-use Rattle.nts_text.specs.declared.parser.Param.{Param}
 use Rattle.nts_text.specs.declared.resolver.Resolved.{Resolved}
-use Rattle.nts_program.specs.declared.program.Program.{Program}
 use Rattle.nts_printing.specs.declared.answer.Answer.{Answer}
-use Rattle.nts_wording.specs.Meaning.{IsRuleOf, IsEnvironmentFor}
+use Rattle.nts_declaring.specs.declared.program.Program.{Program}
+use Rattle.nts_declaring.specs.Declaring.{KeepsRules, HasDeclared}
 use Rattle.nts_program.specs.Proving.{IsJustifiedAnswer}
-
--- a program that was told nothing: there are no terms, declarations, rules, names or parameters, and
--- the depth is 128 and the mode analysis
-pub record IsNewProgram (p : Program) : Type 0 where
-  pub nodes : p.cx.nodes ≡ []
-  pub declarations : p.cx.declarations ≡ nothing_declared
-  pub depth : p.cx.recursion_limit ≡ 128
-  pub steps : p.cx.step_limit ≡ 8
-  pub rounds : p.cx.round_limit ≡ 8
-  pub division : p.cx.depth_division ≡ 4
-  pub fast_paths : p.cx.disable_fast_paths ≡ false
-  pub clauses : (i : ℕ) → clauses_of p.clauses i ≡ []
-  pub coinductive : (i : ℕ) → coinductive_of p.clauses i ≡ false
-  pub names : (name : List ℕ) → declared_as p.names name ≡ None
-  pub types : type_names p.scope.parameters ≡ []
-  pub regions : region_names p.scope.parameters ≡ []
-  pub mode : p.mode ≡ modes.Analysis
-  pub env : p.env ≡ None
-
--- names and declarations are in step: the types and the traits that have names are those of the store,
--- in order, with their sorts
-pub record IsInStep (p : Program) : Type 0 where
-  pub types : map (λ s. s.sorts.items) p.names.types.items ≡ map (λ d. d.sorts) p.cx.declarations.ctors
-  pub traits : map (λ s. s.sorts.items) p.names.traits.items ≡ p.cx.declarations.traits
 
 -- what a goal is answered: it is `yes` only where the goal that the nodes say is proved
 abbrev pub IsAnswerTo : Program → Program → List Resolved → Answer → Type 0
 IsAnswerTo old new rs answer = IsJustifiedAnswer old.mode old.env rs old.cx new.cx.nodes old.clauses answer
 
--- the rules, the mode and the environment stay
-pub record KeepsRules (old new : Program) : Type 0 where
-  pub clauses : new.clauses ≡ old.clauses
-  pub mode : new.mode ≡ old.mode
-  pub env : new.env ≡ old.env
-
--- the environment is that of the predicates that the nodes say
-abbrev pub AssumesNodes : List Resolved → Program → Type 0
-AssumesNodes rs new = (e : ParamEnv) × (new.env ≡ Some e) × IsEnvironmentFor new.cx.nodes rs e
-
--- a type is declared with these parameters, and a trait over these sorts: nothing else of the store changes
-abbrev pub DeclaresType : List Param → Cx → Cx → Type 0
-DeclaresType params old new =
-    new ≡ record old { declarations = with_ctor old.declarations (map (λ p. p.sort) params) (map (λ p. p.variance) params) }
-
-abbrev pub DeclaresTrait : List Sort → Cx → Cx → Type 0
-DeclaresTrait sorts old new = new ≡ record old { declarations = with_trait old.declarations sorts }
-
--- what a command changes, and how it is answered
+-- what a command changes, and how it is answered: only a goal is
 abbrev pub Follows : Program → Program → Command → Option Answer → Type 0
-Follows old new (commands.Mode m) o = (new.mode ≡ m) × (new.cx ≡ old.cx) × (new.clauses ≡ old.clauses) × (new.env ≡ old.env) × (o ≡ None)
-Follows old new (commands.Depth d) o = (new.cx ≡ record old.cx { recursion_limit = d }) × KeepsRules old new × (o ≡ None)
-Follows old new (commands.Type n params) o = DeclaresType params.items old.cx new.cx × KeepsRules old new × (o ≡ None)
-Follows old new (commands.Trait n true) o =
-    DeclaresTrait (trait_sorts new.names n) old.cx new.cx × MakesCoinductive old.clauses new.clauses (length old.cx.declarations.traits) × (new.mode ≡ old.mode) × (new.env ≡ old.env) × (o ≡ None)
-Follows old new (commands.Trait n false) o = DeclaresTrait (trait_sorts new.names n) old.cx new.cx × KeepsRules old new × (o ≡ None)
-Follows old new (commands.Impl head body) o =
-    (c : Clause) × AddsClause old.clauses new.clauses c × IsRuleOf new.cx.nodes head.items body.items c
-    × Grows old.cx new.cx × (new.mode ≡ old.mode) × (new.env ≡ old.env) × (o ≡ None)
 Follows old new (commands.Goal nodes) o =
     (answer : Answer) × (o ≡ Some answer) × IsAnswerTo old new nodes.items answer × Grows old.cx new.cx × KeepsRules old new
-Follows old new (commands.Env nodes) o =
-    AssumesNodes nodes.items new × Grows old.cx new.cx × (new.clauses ≡ old.clauses) × (new.mode ≡ old.mode) × (o ≡ None)
+Follows old new c o = (o ≡ None) × HasDeclared old new c
 
 -- a line that is passed over changes nothing
 pub record PassesOver (line : List ℕ) (old new : Program) (o : Option Answer) : Type 0 where

@@ -25,16 +25,9 @@ use Rattle.nts_printing.specs.Found.{IsFoundIn, IsKnownValue}
 use Rattle.nts_text.specs.declared.resolver.Resolved.{Resolved}
 use Rattle.nts_wording.specs.Meaning.{HasOwnPlaces, HasPlace, AreVariablesFrom, IsGoalOf, IsGoalFor}
 use Rattle.nts_printing.specs.declared.answer.Found.{Found}
-use Rattle.nts_program.specs.declared.answer.Posed.{Posed}
+use Rattle.nts_declaring.specs.Posing.{IsTypingMode}
 use Rattle.nts_printing.specs.declared.answer.Answer.{Answer}
 use Rattle.nts_printing.specs.declared.answer.Answer.TheVariants as answers
-
--- the mode that a line names, with no hidden types
-abbrev pub IsTypingMode : Mode → TypingMode → Type 0
-IsTypingMode modes.Coherence typing.Coherence = Unit {0}
-IsTypingMode modes.Analysis (typing.Analysis hidden) = hidden.items ≡ []
-IsTypingMode modes.PostAnalysis typing.PostAnalysis = Unit {0}
-IsTypingMode m t = ⊥
 
 -- the rules of a run: those of the environment, and the clauses
 abbrev pub rules_with : List Tree → Clauses → Handler
@@ -45,18 +38,6 @@ pub record IsProvedGoal (a : Cx) (us : List Tree) (h : Clauses) (t : Table) (g :
   pub store : List Tree
   pub extends : Extends a.nodes store
   pub proved : HasRankedProofUnder (meaning (rules_with store h) (variances_in a.declarations)) (mode_of t.mode) (content_of us t.entries) (tree_at us g.param_env.node) (tree_at us g.predicate.node)
-
--- the goal that nodes say, in the environment and the mode of a line, of the first variables of a table,
--- one for each variable of the line; the table is one of the store, and knows the variables
-pub record IsPosedLine (m : Mode) (env : Option ParamEnv) (rs : List Resolved) (ts : List Tree) (p : Posed) : Type 0 where
-  pub table : IsTable ts p.table
-  pub values : All (λ v. IsKnownValue ts p.table v) p.values.items
-  pub holds : HoldsGoal ts p.goal
-  pub own : HasOwnPlaces p.variables
-  pub placed : All (HasPlace p.variables) rs
-  pub first : (us : List Tree) → Extends ts us → AreVariablesFrom 0 us p.variables.sorts.items p.values.items
-  pub mode : IsTypingMode m p.table.mode
-  pub asked : IsGoalFor ts env p.variables p.values.items rs p.goal
 
 -- the goal that nodes say holds in a table, which is told of the goal's variables; it is asked in the
 -- environment and the mode of a line, of the first variables of that table, one for each variable of the line

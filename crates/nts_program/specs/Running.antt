@@ -4,11 +4,12 @@ use Rattle.std.specs.Io.KnownBytes.{Appends}
 use Rattle.nts_text.specs.Input.{lines_of}
 use Rattle.nts_text.specs.Lines.{IsPassedOver}
 use Rattle.nts_text.specs.declared.refusals.Refusal.{Refusal}
-use Rattle.nts_program.specs.declared.program.Program.{Program}
+use Rattle.nts_declaring.specs.declared.program.Program.{Program}
 use Rattle.nts_printing.specs.declared.answer.Answer.{Answer}
 use Rattle.nts_printing.specs.Answers.{IsAnswerText}
 use Rattle.nts_printing.specs.Growing.{refusal_line}
-use Rattle.nts_program.specs.Obeying.{IsNewProgram, IsObeyed}
+use Rattle.nts_declaring.specs.Declaring.{IsNewProgram}
+use Rattle.nts_program.specs.Obeying.{IsObeyed}
 
 -- what is written once a line is obeyed: the text of the answer, which only a goal has
 abbrev pub IsTextOf : Program → Option Answer → List ℕ → Type 0

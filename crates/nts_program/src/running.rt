@@ -7,7 +7,8 @@ ghost use Rattle.nts_program.specs.Running.{IsAnsweredLine, AnswersAll, StopsAtR
 ghost use Rattle.nts_wording.specs.Statuses.{status_of};
 ghost use Rattle.nts_wording.specs.declared.status.Status.TheVariants.{Done, Refused};
 
-use crate::program::Program;
+use crate::obeying::obey;
+use nts_declaring::Program;
 use nts_printing::put_refusal;
 use nts_text::next_line;
 use nts_wording::{Status, Stop};
@@ -87,7 +88,7 @@ fn handle_line<W: Write>(
     ensures begins { Begins (W.contents output.old) (W.contents output.new) }
     ensures passed { OnOk result (IsPassedOver line.now → output.new ≡ output.old) }
 {
-    match program.obey(line) {
+    match obey(program, line) {
         Ok(Some(answer)) => program.write_answer(output, &answer),
         Ok(None) => Ok(()),
         Err(Stop::Refused(refusal)) => {

@@ -16,7 +16,7 @@ use Rattle.nts_wording.specs.Meaning.{Values, BoundStatement, binding_first, bin
 use Rattle.nts_program.specs.Obeying.{Follows}
 use Rattle.nts_reasons.specs.declared.explainer.Asked.{Asked}
 use Rattle.nts_reasons.specs.declared.explainer.Explainer.{Explainer}
-use Rattle.nts_reasons.specs.ImplLines.{lines_of, NotesLine}
+use Rattle.nts_reason_wording.specs.ImplLines.{lines_of, NotesLine}
 use Rattle.nts_reasons.specs.Obeying.{trait_of, answer_of, HasLines, Notes, IsObeyed}
 
 -- the number of the trait that a statement is about
@@ -68,17 +68,18 @@ module _ (a b : Explainer) (n : ℕ) where
       ∙ one_more (i == c.trait_id.number) (lines_of a.lines i) (clauses_of a.program.clauses i) n c (h i) ∙ sym (ap length (adds.clauses i))
 
   by_command : (command : Command) (o : Option Asked) → Follows a.program b.program command (answer_of o) → Notes a.lines b.lines n command → HasLines a → HasLines b
-  by_command (commands.Mode m) o f k h = same_lines a b k (λ i. ap (λ x. clauses_of x i) f.2) h
-  by_command (commands.Depth d) o f k h = same_lines a b k (λ i. ap (λ x. clauses_of x i) f.1.clauses) h
-  by_command (commands.Type t ps) o f k h = same_lines a b k (λ i. ap (λ x. clauses_of x i) f.1.clauses) h
-  by_command (commands.Trait t true) o f k h = same_lines a b k f.1.clauses h
-  by_command (commands.Trait t false) o f k h = same_lines a b k (λ i. ap (λ x. clauses_of x i) f.1.clauses) h
+  by_command (commands.Mode m) o f k h = same_lines a b k (λ i. ap (λ x. clauses_of x i) f.1.2) h
+  by_command (commands.Depth d) o f k h = same_lines a b k (λ i. ap (λ x. clauses_of x i) f.1.1.clauses) h
+  by_command (commands.Type t ps) o f k h = same_lines a b k (λ i. ap (λ x. clauses_of x i) f.1.1.clauses) h
+  by_command (commands.Trait t true) o f k h = same_lines a b k f.1.1.clauses h
+  by_command (commands.Trait t false) o f k h = same_lines a b k (λ i. ap (λ x. clauses_of x i) f.1.1.clauses) h
   by_command (commands.Impl head body) o f k h =
-      let e : Some k.0 ≡ Some f.0.trait_id.number = sym k.1 ∙ trait_of-rule b.program.cx.nodes head.items body.items f.0 f.2 in
-      let same : k.0 ≡ f.0.trait_id.number = cc in
-      by_rule f.0 k.0 same f.1 k.2 h
+      let r = f.1 in
+      let e : Some k.0 ≡ Some r.0.trait_id.number = sym k.1 ∙ trait_of-rule b.program.cx.nodes head.items body.items r.0 r.2 in
+      let same : k.0 ≡ r.0.trait_id.number = cc in
+      by_rule r.0 k.0 same r.1 k.2 h
   by_command (commands.Goal rs) o f k h = same_lines a b k (λ i. ap (λ x. clauses_of x i) f.4.clauses) h
-  by_command (commands.Env rs) o f k h = same_lines a b k (λ i. ap (λ x. clauses_of x i) f.2) h
+  by_command (commands.Env rs) o f k h = same_lines a b k (λ i. ap (λ x. clauses_of x i) f.1.2) h
 
 -- a line that is obeyed keeps the step
 pub lines_kept : {E : Type 0} (r : Result (Option Asked) E) (number : ℕ) (line : List ℕ) (old new : Explainer) → IfOk r (IsObeyed number line old new) → OnOk r (HasLines old → HasLines new)

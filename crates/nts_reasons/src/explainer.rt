@@ -1,7 +1,7 @@
 //! A program that can say why a goal is not answered yes.
 ghost use Rattle.std.specs.Prelude.{◌≡◌, false, All, IsNone, IfOk, IfErr, OnOk, OnErr};
 ghost use Rattle.nts_delegate.specs.Clauses.{AreClausesReady};
-ghost use Rattle.nts_explaining.specs.Explaining.{HoldsReason};
+ghost use Rattle.nts_reason.specs.Held.{HoldsReason};
 ghost use Rattle.nts_table.specs.Tables.{IsTable};
 ghost use Rattle.nts_terms.specs.Handles.{HoldsGoal};
 ghost use Rattle.nts_terms.specs.Rest.{Grows};
@@ -11,13 +11,14 @@ ghost use Rattle.nts_wording.specs.Statuses.{is_refusal};
 ghost use Rattle.nts_reasons.specs.Obeying.{trait_of, lines_for, IsNewExplainer, HasLines, DoesCommand, IsObeyed, Notes};
 ghost use Rattle.nts_reasons.specs.Running.{is_yes, HasMoreTerms, HasReasons, AreReasonsOf, IsReasonedPut, IsTold};
 
-use crate::impl_lines::ImplLines;
-use crate::wording::write_reasons;
+use nts_declaring::{Program, pose};
 use nts_delegate::{Assembly, Clauses};
 use nts_evaluation::goal_is_admitted;
-use nts_explaining::{Reason, explain};
+use nts_explaining::explain;
 use nts_printing::Answer;
-use nts_program::{Program, Stop, pose};
+use nts_program::{Stop, follow};
+use nts_reason::Reason;
+use nts_reason_wording::{ImplLines, write_reasons};
 use nts_table::InferCtxt;
 use nts_terms::{Cx, Goal};
 use nts_text::{Command, Resolved, read_command};
@@ -79,7 +80,7 @@ impl Explainer {
         ensures scope { self.new.program.scope ≡ self.old.program.scope }
         ensures does { IfOk result (DoesCommand number self.old self.new command.now) }
     {
-        let answer = self.program.follow(command)?;
+        let answer = follow(&mut self.program, command)?;
         self.note(command, number)?;
         match (command, answer) {
             (Command::Goal(nodes), Some(answer)) => {

@@ -17,7 +17,7 @@ use nts_store::EvalError;
 use nts_store::EvalError::{Full, NoSolution};
 use nts_table::InferCtxt;
 use nts_terms::{
-    AliasDefId, AliasKind, AliasTerm, BoundTy, GenericArg, PlaceholderType, Region, Ty,
+    AliasDefId, AliasId, AliasKind, AliasTerm, BoundTy, GenericArg, PlaceholderType, Region, Ty,
     VisibleForLeakCheck,
 };
 use std::process::Abort;
@@ -157,17 +157,24 @@ fn see_the_leak_check(rt: &impl Abort, fixture: &mut Fixture) -> Result<(), Eval
 {
     let a = fixture.root_var(VariableKind::Region)?;
     let b = fixture.root_var(VariableKind::Region)?;
+    let outlives = first_outlives_second(fixture)?;
+    apply_outlives(rt, fixture, &[a, b], outlives)?;
+    see_recorded(rt, &fixture.table, a, b);
+    Ok(())
+}
+
+/// The constraint that the first position outlives the second one.
+fn first_outlives_second(fixture: &mut Fixture) -> Result<RegionConstraint, EvalError>
+    requires { IsTable fixture.old.cx.nodes fixture.old.table }
+    ensures { IsTable fixture.new.cx.nodes fixture.new.table }
+{
     let left = region_at(fixture, 0)?;
     let right = region_at(fixture, 1)?;
-    let outlives = RegionConstraint {
+    Ok(RegionConstraint {
         relation: Relation::RegionOutlives,
         left,
         right: Region { node: right.node },
-    };
-    apply_outlives(rt, fixture, &[a, b], outlives)?;
-    assert!(rt; fixture.table.variable_count() == 2);
-    see_recorded(rt, &fixture.table, a, b);
-    Ok(())
+    })
 }
 
 /// Applies the response to two regions that one outlives the other, which the leak check does not see.
@@ -189,8 +196,9 @@ fn apply_outlives(
     applies(rt, fixture, originals, &response)
 }
 
-/// The one constraint of a table, which the leak check does not see.
+/// The one constraint of a table of two variables, which the leak check does not see.
 fn see_recorded(rt: &impl Abort, table: &InferCtxt, left: GenericArg, right: GenericArg) {
+    assert!(rt; table.variable_count() == 2);
     assert!(rt; table.constraint_count() == 1);
     let recorded = table.constraint(0);
     assert!(rt; recorded.left == left.node);
@@ -209,19 +217,28 @@ fn see_a_duplicate(rt: &impl Abort, fixture: &mut Fixture) -> Result<(), EvalErr
 {
     let alias = fixture.declare_alias(&[Sort::Ty], AliasKind::Opaque)?;
     let a = fixture.root_var(VariableKind::Ty)?;
-    let byte = fixture.uint(UintTy::U8)?;
     let word = fixture.uint(UintTy::U32)?;
     let older = fixture.hide(alias, &[word], Ty { node: a.node })?;
     assert!(rt; older.is_none());
+    see_the_newer(rt, fixture, alias, word, a)
+}
+
+/// Another hidden type of the alias over a type comes, and the older one becomes a duplicate.
+fn see_the_newer(
+    rt: &impl Abort,
+    fixture: &mut Fixture,
+    alias: AliasId,
+    of: GenericArg,
+    older: GenericArg,
+) -> Result<(), EvalError>
+    requires { IsTable fixture.old.cx.nodes fixture.old.table }
+{
+    let byte = fixture.uint(UintTy::U8)?;
+    let args = fixture.args(&[of])?;
     let def_id = AliasDefId::Ty(alias);
-    let args = fixture.args(&[word])?;
-    apply_hidden(
-        rt,
-        fixture,
-        AliasTerm { def_id, args },
-        Ty { node: byte.node },
-    )?;
-    see_hidden(rt, &fixture.table, byte, a);
+    let ty = Ty { node: byte.node };
+    apply_hidden(rt, fixture, AliasTerm { def_id, args }, ty)?;
+    see_hidden(rt, &fixture.table, byte, older);
     Ok(())
 }
 

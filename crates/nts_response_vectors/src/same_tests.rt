@@ -10,13 +10,19 @@ use std::process::Abort;
 #[test]
 fn a_response_is_itself_and_its_clone_and_no_other_one(rt: HostRuntime) {
     let mut cx = Cx::new(rt.alloc());
-    let mut kinds = Vec::new(rt.alloc());
-    let kind = CanonicalVarKind::Ty { ui: 0, sub_root: 0 };
-    kinds.push(kind).expect(&rt, "memory");
-    let response = response_no_constraints_raw(&mut cx, 1, kinds, Certainty::Yes);
-    let response = response.expect(&rt, "memory");
+    let response = nothing_found(&rt, &mut cx);
     let mut copy = clone_response(&response).expect(&rt, "memory");
     see_copies(&rt, &cx, &response, &mut copy);
+}
+
+/// The certain response that says nothing of one type variable.
+fn nothing_found(rt: &impl Abort, cx: &mut Cx) -> CanonicalResponse
+    ensures { HoldsResponse cx.new.nodes result.value }
+{
+    let mut kinds = Vec::new(cx.alloc);
+    let kind = CanonicalVarKind::Ty { ui: 0, sub_root: 0 };
+    kinds.push(kind).expect(rt, "memory");
+    response_no_constraints_raw(cx, 1, kinds, Certainty::Yes).expect(rt, "memory")
 }
 
 /// A response and its clone, which is changed.

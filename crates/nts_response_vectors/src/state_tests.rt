@@ -5,8 +5,8 @@ use crate::fixture::{instantiate, state};
 use nts_canonical::CanonicalVarKind;
 use nts_fixtures::Fixture;
 use nts_model::{UintTy, VariableKind};
-use nts_response::CanonicalState;
 use nts_store::EvalError;
+use nts_table::InferCtxt;
 use nts_terms::GenericArg;
 use std::process::Abort;
 
@@ -31,6 +31,19 @@ fn see_a_new_original(
     let position = fixture.position(0)?;
     originals.push(word)?;
     let payload = instantiate(rt, fixture, originals, &[TY], &[word, position], 1)?;
+    see_payload(rt, fixture, originals, payload)
+}
+
+/// The payload has the value of the second original.
+fn see_payload(
+    rt: &impl Abort,
+    fixture: &mut Fixture,
+    originals: &[GenericArg],
+    payload: GenericArg,
+) -> Result<(), EvalError>
+    requires { IsTable fixture.old.cx.nodes fixture.old.table }
+{
+    let word = fixture.uint(UintTy::U32)?;
     let made = second(rt, originals, word);
     let value = fixture.resolved(payload)?;
     assert!(rt; fixture.resolved(made)? == value);
@@ -66,9 +79,14 @@ fn see_a_refusal(
     let refused = instantiate(rt, fixture, originals, &[TY], &[word, position], 1);
     assert!(rt; matches!(refused, Err(EvalError::NoSolution)));
     assert!(rt; originals.as_slice() == [byte].as_slice());
-    assert!(rt; fixture.table.variable_count() == 0);
-    assert!(rt; fixture.table.universe() == 0);
+    see_nothing_made(rt, &fixture.table);
     Ok(())
+}
+
+/// A table without variables and with the root universe alone.
+fn see_nothing_made(rt: &impl Abort, table: &InferCtxt) {
+    assert!(rt; table.variable_count() == 0);
+    assert!(rt; table.universe() == 0);
 }
 
 #[test]
@@ -83,14 +101,24 @@ fn see_positions(rt: &impl Abort, fixture: &mut Fixture) -> Result<(), EvalError
     let x = fixture.root_var(VariableKind::Ty)?;
     let first = fixture.position(0)?;
     let second = fixture.position(1)?;
-    has(rt, &state(fixture, x, x)?, first, 1);
+    see_state(rt, fixture, [x, x], first, 1)?;
     let y = fixture.root_var(VariableKind::Ty)?;
-    has(rt, &state(fixture, x, y)?, second, 2);
-    Ok(())
+    see_state(rt, fixture, [x, y], second, 2)
 }
 
-/// Sees the payload of a state, and how many kinds it has.
-fn has(rt: &impl Abort, state: &CanonicalState<GenericArg>, payload: GenericArg, kinds: usize) {
+/// Sees the payload of the state of a value and a payload, and how many kinds it has.
+fn see_state(
+    rt: &impl Abort,
+    fixture: &mut Fixture,
+    of: [GenericArg; 2],
+    payload: GenericArg,
+    kinds: usize,
+) -> Result<(), EvalError>
+    requires { IsTable fixture.old.cx.nodes fixture.old.table }
+    ensures { IsTable fixture.new.cx.nodes fixture.new.table }
+{
+    let state = state(fixture, of[0], of[1])?;
     assert!(rt; state.value.payload == payload);
     assert!(rt; state.var_kinds.len() == kinds);
+    Ok(())
 }

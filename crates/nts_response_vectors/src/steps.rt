@@ -66,24 +66,65 @@ fn play(
     ensures { IsTable fixture.new.cx.nodes fixture.new.table }
 {
     match step {
-        Step::Let(name, make) => fixture.name(names, *name, *make)?,
-        Step::Universes(count) => fixture.table.create_universes(*count)?,
-        Step::Applies(originals, certain) => {
-            return applies(rt, fixture, names, originals, *certain);
-        }
+        Step::Let(name, make) => makes(fixture, names, *name, *make),
+        Step::Universes(count) => makes_universes(fixture, *count),
+        Step::Applies(originals, certain) => applies(rt, fixture, names, originals, *certain),
         Step::Refuses(originals, certain, error) => {
-            return refuses(rt, fixture, names, originals, *certain, *error);
+            refuses(rt, fixture, names, originals, *certain, *error)
         }
-        Step::Resolves(x, y) => return Ok(fixture.resolved(names.term(x)?)? == names.term(y)?),
-        Step::Alike(x, y) => {
-            let value = fixture.resolved(names.term(x)?)?;
-            return Ok(fixture.resolved(names.term(y)?)? == value);
-        }
-        Step::Variables(count) => return Ok(fixture.table.variable_count() == *count),
-        Step::InUniverse(universe) => return Ok(fixture.table.universe() == *universe),
-        Step::Shares(a, b, answer) => return Ok(fixture.shares(*a, *b) == Some(*answer)),
+        Step::Resolves(x, y) => resolves(fixture, names, x, y),
+        Step::Alike(x, y) => are_alike(fixture, names, x, y),
+        _ => Ok(has(fixture, step)),
     }
+}
+
+/// Sees what can be read of the table.
+fn has(fixture: &Fixture, step: &Step) -> bool
+    requires { IsTable fixture.now.cx.nodes fixture.now.table }
+{
+    match step {
+        Step::Variables(count) => fixture.table.variable_count() == *count,
+        Step::InUniverse(universe) => fixture.table.universe() == *universe,
+        Step::Shares(a, b, answer) => fixture.shares(*a, *b) == Some(*answer),
+        _ => false,
+    }
+}
+
+fn makes(
+    fixture: &mut Fixture,
+    names: &mut Names,
+    name: Name,
+    make: Make,
+) -> Result<bool, EvalError>
+    requires { IsTable fixture.old.cx.nodes fixture.old.table }
+    ensures { IsTable fixture.new.cx.nodes fixture.new.table }
+{
+    fixture.name(names, name, make)?;
     Ok(true)
+}
+
+fn makes_universes(fixture: &mut Fixture, count: UniverseIndex) -> Result<bool, EvalError>
+    requires { IsTable fixture.old.cx.nodes fixture.old.table }
+    ensures { IsTable fixture.new.cx.nodes fixture.new.table }
+{
+    fixture.table.create_universes(count)?;
+    Ok(true)
+}
+
+fn resolves(fixture: &mut Fixture, names: &Names, x: &str, y: &str) -> Result<bool, EvalError>
+    requires { IsTable fixture.old.cx.nodes fixture.old.table }
+    ensures { IsTable fixture.new.cx.nodes fixture.new.table }
+{
+    let wanted = names.term(y)?;
+    Ok(fixture.resolved(names.term(x)?)? == wanted)
+}
+
+fn are_alike(fixture: &mut Fixture, names: &Names, x: &str, y: &str) -> Result<bool, EvalError>
+    requires { IsTable fixture.old.cx.nodes fixture.old.table }
+    ensures { IsTable fixture.new.cx.nodes fixture.new.table }
+{
+    let value = fixture.resolved(names.term(x)?)?;
+    Ok(fixture.resolved(names.term(y)?)? == value)
 }
 
 fn applies(

@@ -1,6 +1,12 @@
 //! Responses as canonical values, case by case.
+ghost use Rattle.std.specs.Prelude.{◌≡◌, ◌∷◌, []};
+ghost use Rattle.nts_model.specs.Tables.Resolving.{Knows};
+ghost use Rattle.nts_store.specs.Growth.{tree_at};
+ghost use Rattle.nts_terms.specs.Handles.{Holds};
+ghost use Rattle.nts_terms.specs.declared.modes.VisibleForLeakCheck.TheVariants as visible;
+ghost use Rattle.nts_unify.specs.Reading.{content_of};
 ghost use Rattle.nts_table.specs.Tables.{IsTable};
-ghost use Rattle.nts_response.specs.Forms.{HoldsResponse};
+ghost use Rattle.nts_response.specs.Forms.{findings_at, HoldsResponse, KnowsFindings};
 
 use crate::fixture::certain;
 use nts_answering::canonicalize_response;
@@ -17,8 +23,9 @@ use nts_store::EvalError;
 use nts_table::InferCtxt;
 use nts_terms::{
     BoundRegion, BoundTy, Cx, GenericArg, Goal, PlaceholderRegion, Predicate, Region, RegionKind,
-    Ty, TyKind, VisibleForLeakCheck,
+    Stored, TyKind, VisibleForLeakCheck,
 };
+use std::alloc::Global;
 use std::process::Abort;
 use std::test::Fail;
 
@@ -34,33 +41,76 @@ fn response(
     requires { IsTable cx.old.nodes table.now }
     ensures { IsTable cx.new.nodes table.now }
 {
-    assert!(rt; cx.holds(first));
-    assert!(rt; cx.holds(second));
-    assert!(rt; cx.holds(constraint.left));
-    assert!(rt; cx.holds(constraint.right));
-    assert!(rt; table.knows(cx, first).expect(rt, "memory"));
-    assert!(rt; table.knows(cx, second).expect(rt, "memory"));
-    assert!(rt; table.knows(cx, constraint.left).expect(rt, "memory"));
-    assert!(rt; table.knows(cx, constraint.right).expect(rt, "memory"));
-    let alloc = cx.alloc;
-    let mut var_values = Vec::new(alloc);
-    var_values.push(first).expect(rt, "memory");
-    var_values.push(second).expect(rt, "memory");
-    let mut region_constraints = Vec::new(alloc);
-    region_constraints
+    let value = found(rt, table, cx, first, second, constraint);
+    canonicalize_response(table, cx, 2, value).expect(rt, "memory")
+}
+
+/// What was found: these two values and this constraint.
+fn found(
+    rt: &impl Abort,
+    table: &InferCtxt,
+    cx: &Cx,
+    first: GenericArg,
+    second: GenericArg,
+    constraint: RegionConstraint,
+) -> Response
+    ensures holds { HoldsResponse cx.now.nodes result }
+    ensures knows { KnowsFindings (content_of cx.now.nodes table.now.entries)
+        (findings_at cx.now.nodes result) }
+{
+    is_known(rt, table, cx, first);
+    is_known(rt, table, cx, second);
+    is_known(rt, table, cx, constraint.left);
+    is_known(rt, table, cx, constraint.right);
+    let external_constraints = ExternalConstraintsData {
+        region_constraints: constraints_of(rt, cx.alloc, constraint),
+        opaque_types: Vec::new(cx.alloc),
+        normalization_nested_goals: Vec::new(cx.alloc),
+    };
+    Response {
+        certainty: Certainty::Yes,
+        var_values: values_of(rt, cx.alloc, first, second),
+        external_constraints,
+    }
+}
+
+/// Sees that a term is of the store and of the table.
+fn is_known<T: Stored>(rt: &impl Abort, table: &InferCtxt, cx: &Cx, x: T)
+    ensures holds { Holds T.place cx.now.nodes (T.id x) }
+    ensures known { Knows (content_of cx.now.nodes table.now.entries)
+        (tree_at cx.now.nodes (T.id x)) }
+{
+    assert!(rt; cx.holds(x));
+    assert!(rt; table.knows(cx, x).expect(rt, "memory"));
+}
+
+fn values_of(
+    rt: &impl Abort,
+    alloc: Global,
+    first: GenericArg,
+    second: GenericArg,
+) -> Vec<GenericArg>
+    ensures { result.items ≡ first ∷ second ∷ [] }
+{
+    let mut values = Vec::new(alloc);
+    values.push(first).expect(rt, "memory");
+    values.push(second).expect(rt, "memory");
+    values
+}
+
+/// The constraint, which the leak check does not see.
+fn constraints_of(
+    rt: &impl Abort,
+    alloc: Global,
+    constraint: RegionConstraint,
+) -> Vec<(RegionConstraint, VisibleForLeakCheck)>
+    ensures { result.items ≡ (constraint, visible.No) ∷ [] }
+{
+    let mut constraints = Vec::new(alloc);
+    constraints
         .push((constraint, VisibleForLeakCheck::No))
         .expect(rt, "memory");
-    let external_constraints = ExternalConstraintsData {
-        region_constraints,
-        opaque_types: Vec::new(alloc),
-        normalization_nested_goals: Vec::new(alloc),
-    };
-    let value = Response {
-        certainty: Certainty::Yes,
-        var_values,
-        external_constraints,
-    };
-    canonicalize_response(table, cx, 2, value).expect(rt, "memory")
+    constraints
 }
 
 fn region(rt: &impl Abort, cx: &mut Cx, table: &InferCtxt, kind: RegionKind) -> Region
@@ -70,15 +120,25 @@ fn region(rt: &impl Abort, cx: &mut Cx, table: &InferCtxt, kind: RegionKind) -> 
     cx.mk_region(kind).expect(rt, "memory")
 }
 
+/// The position of a type.
+fn position(rt: &impl Abort, cx: &mut Cx, var: usize) -> GenericArg {
+    let kind = TyKind::Bound(BoundVarIndexKind::Canonical, BoundTy { var });
+    cx.mk_ty(kind).expect(rt, "memory").into()
+}
+
+/// The position of a region.
+fn region_position(rt: &impl Abort, cx: &mut Cx, var: usize) -> GenericArg {
+    let kind = RegionKind::ReBound(BoundVarIndexKind::Canonical, BoundRegion { var });
+    cx.mk_region(kind).expect(rt, "memory").into()
+}
+
 /// The response has these two values, which are types.
 fn has_positions(rt: &impl Abort, cx: &mut Cx, response: &CanonicalResponse, positions: &[usize]) {
     let values = &response.value.var_values;
     assert!(rt; values.len() == positions.len());
     for i in 0..positions.len() {
-        let var = positions[i];
-        let kind = TyKind::Bound(BoundVarIndexKind::Canonical, BoundTy { var });
-        let position: GenericArg = cx.mk_ty(kind).expect(rt, "memory").into();
-        assert!(rt; *values.get(i).expect(rt, "a value") == position);
+        let position = position(rt, cx, positions[i]);
+        assert!(rt; values.get(i) == Some(&position));
     }
 }
 
@@ -120,10 +180,18 @@ fn ty_var(rt: &impl Abort, cx: &mut Cx, table: &mut InferCtxt, universe: u32) ->
 fn see_far_and_near(rt: &impl Abort, found: &CanonicalResponse) {
     assert!(rt; found.max_universe == 1);
     assert!(rt; found.var_kinds.len() == 2);
-    let far_kind = *found.var_kinds.get(0).expect(rt, "a kind");
-    assert!(rt; matches!(far_kind, CanonicalVarKind::Ty { ui: 1, sub_root: 0 }));
-    let near_kind = *found.var_kinds.get(1).expect(rt, "a kind");
-    assert!(rt; matches!(near_kind, CanonicalVarKind::Ty { ui: 0, sub_root: 1 }));
+    assert!(rt;
+        matches!(
+            found.var_kinds[0],
+            CanonicalVarKind::Ty { ui: 1, sub_root: 0 }
+        )
+    );
+    assert!(rt;
+        matches!(
+            found.var_kinds[1],
+            CanonicalVarKind::Ty { ui: 0, sub_root: 1 }
+        )
+    );
     assert!(rt; matches!(found.value.certainty, Certainty::Yes));
 }
 
@@ -159,8 +227,7 @@ fn see_equal_leaves(rt: &impl Abort, cx: &mut Cx, table: &mut InferCtxt)
 fn see_placeholder(rt: &impl Abort, found: &CanonicalResponse) {
     assert!(rt; found.max_universe == 1);
     assert!(rt; found.var_kinds.len() == 2);
-    let kind = *found.var_kinds.get(1).expect(rt, "a kind");
-    match kind {
+    match found.var_kinds[1] {
         CanonicalVarKind::PlaceholderRegion(p) => {
             assert!(rt; p.universe == 1);
             assert!(rt; p.bound.var == 7);
@@ -174,10 +241,8 @@ fn see_outlives(rt: &impl Abort, cx: &mut Cx, found: &CanonicalResponse, fixed: 
     let constraints = &found.value.external_constraints.region_constraints;
     assert!(rt; constraints.len() == 1);
     assert!(rt; !found.value.external_constraints.is_empty());
-    let (constraint, visible) = *constraints.get(0).expect(rt, "a constraint");
-    let position = RegionKind::ReBound(BoundVarIndexKind::Canonical, BoundRegion { var: 1 });
-    let position: GenericArg = cx.mk_region(position).expect(rt, "memory").into();
-    assert!(rt; constraint.left == position);
+    let (constraint, visible) = constraints[0];
+    assert!(rt; constraint.left == region_position(rt, cx, 1));
     assert!(rt; constraint.right == fixed);
     assert!(rt; matches!(constraint.relation, Relation::RegionOutlives));
     assert!(rt; matches!(visible, VisibleForLeakCheck::No));
@@ -205,14 +270,14 @@ fn see_nothing_found(rt: &impl Abort, cx: &mut Cx, found: &CanonicalResponse)
     assert!(rt; found.max_universe == 2);
     assert!(rt; found.var_kinds.len() == 3);
     assert!(rt; matches!(found.value.certainty, Certainty::Maybe(_)));
-    let values = &found.value.var_values;
+    see_second_and_third(rt, cx, &found.value.var_values);
+}
+
+/// The second and the third of three values are the positions of a type and of a region.
+fn see_second_and_third(rt: &impl Abort, cx: &mut Cx, values: &[GenericArg]) {
     assert!(rt; values.len() == 3);
-    let second = TyKind::Bound(BoundVarIndexKind::Canonical, BoundTy { var: 1 });
-    let second: GenericArg = cx.mk_ty(second).expect(rt, "memory").into();
-    assert!(rt; *values.get(1).expect(rt, "a value") == second);
-    let third = RegionKind::ReBound(BoundVarIndexKind::Canonical, BoundRegion { var: 2 });
-    let third: GenericArg = cx.mk_region(third).expect(rt, "memory").into();
-    assert!(rt; *values.get(2).expect(rt, "a value") == third);
+    assert!(rt; values[1] == position(rt, cx, 1));
+    assert!(rt; values[2] == region_position(rt, cx, 2));
 }
 
 #[test]
@@ -263,7 +328,11 @@ fn see_clone(rt: &impl Abort, copy: &CanonicalResponse) {
     assert!(rt; copy.var_kinds.len() == 1);
     assert!(rt; copy.value.var_values.len() == 2);
     assert!(rt; matches!(copy.value.certainty, Certainty::Yes));
-    let found = &copy.value.external_constraints;
+    see_one_goal(rt, &copy.value.external_constraints);
+}
+
+/// One goal alone was found.
+fn see_one_goal(rt: &impl Abort, found: &ExternalConstraintsData) {
     assert!(rt; found.region_constraints.is_empty());
     assert!(rt; found.opaque_types.is_empty());
     assert!(rt; found.normalization_nested_goals.len() == 1);

@@ -1,42 +1,33 @@
 //! Calls of the table that the other tests do not make.
+ghost use Rattle.std.specs.Prelude.{◌≡◌, length};
 ghost use Rattle.nts_table.specs.Tables.{IsTable};
 
-use crate::fixture::{equates_regions, outlives, region_infer, tells, uint, variable_of};
-use crate::steps::Step::{Changed, Let, Relates, Resolves};
+use crate::fixture::uint;
+use crate::steps::Step::{
+    Changed, EquatesRegions, Known, Let, Outlives, Relates, RelatesTypes, Resolves, Tells,
+};
 use crate::steps::{Step, plays};
 use nts_equating::relate_nodes;
-use nts_fixtures::Make::Var;
+use nts_fixtures::Make::{Region, Var};
 use nts_fixtures::{BYTE, Fixture};
-use nts_model::{Relation, UintTy, VariableKind, Variance};
+use nts_model::{UintTy, VariableKind};
 use nts_solver_relating::RelateExt;
 use nts_store::EvalError;
 use nts_table::InferCtxt;
-use nts_terms::{
-    AliasDefId, AliasKind, AliasTerm, Region, RegionKind, Span, TraitId, TraitRef, Ty, TypingMode,
-    VisibleForLeakCheck,
-};
-use nts_unify::{Constraint, State};
+use nts_terms::RegionKind::ReStatic;
+use nts_terms::VisibleForLeakCheck::{No, Yes};
+use nts_terms::{AliasDefId, AliasKind, AliasTerm, Span, TraitId, TraitRef, TypingMode};
 use std::process::Abort;
 
 #[test]
 fn related(rt: HostRuntime) {
-    let mut fixture = Fixture::new(rt.alloc()).expect(&rt, "memory");
-    see_related(&rt, &mut fixture).expect(&rt, "memory");
-}
-
-fn see_related(rt: &impl Abort, fixture: &mut Fixture) -> Result<(), EvalError>
-    requires { IsTable fixture.old.cx.nodes fixture.old.table }
-{
-    let hole = fixture.ty_var()?;
-    let ty = Ty { node: hole.node };
-    let byte = uint(fixture, UintTy::U8)?;
-    fixture.seen(ty)?;
-    fixture.seen(byte)?;
-    let (cx, table) = (&mut fixture.cx, &mut fixture.table);
-    let goals = table.relate(cx, fixture.env, ty, Variance::Invariant, byte, Span(0))?;
-    let state = variable_of(rt, &fixture.table, 0).state;
-    assert!(rt; goals.is_empty() && matches!(state, State::Known(_)));
-    Ok(())
+    const STEPS: &[Step] = &[
+        Let("ty", Var(VariableKind::Ty)),
+        Let("byte", BYTE),
+        RelatesTypes("ty", "byte"),
+        Known(0, 0, "byte"),
+    ];
+    plays(&rt, rt.alloc(), STEPS);
 }
 
 #[test]
@@ -136,29 +127,17 @@ fn equate_alias(fixture: &mut Fixture) -> Result<(), EvalError>
 
 #[test]
 fn each_constraint_once(rt: HostRuntime) {
-    let mut fixture = Fixture::new(rt.alloc()).expect(&rt, "memory");
-    see_each_once(&rt, &mut fixture).expect(&rt, "memory");
-}
-
-fn see_each_once(rt: &impl Abort, fixture: &mut Fixture) -> Result<(), EvalError>
-    requires { IsTable fixture.old.cx.nodes fixture.old.table }
-{
-    let a = region_infer(fixture)?;
-    let b = region_infer(fixture)?;
-    let fixed = fixture.region(RegionKind::ReStatic)?;
-    let fixed = Region { node: fixed.node };
-    outlives(fixture, fixed, a, VisibleForLeakCheck::No)?;
-    outlives(fixture, b, a, VisibleForLeakCheck::Yes)?;
-    outlives(fixture, fixed, b, VisibleForLeakCheck::Yes)?;
-    equates_regions(rt, fixture, a, b)?;
-    let only = Constraint {
-        relation: Relation::RegionOutlives,
-        left: fixed.node,
-        right: a.node,
-        is_visible: false,
-    };
-    tells(rt, fixture, &[only]);
-    Ok(())
+    const STEPS: &[Step] = &[
+        Let("a", Var(VariableKind::Region)),
+        Let("b", Var(VariableKind::Region)),
+        Let("fixed", Region(ReStatic)),
+        Outlives("fixed", "a", No),
+        Outlives("b", "a", Yes),
+        Outlives("fixed", "b", Yes),
+        EquatesRegions("a", "b", Yes),
+        Tells("fixed", "a"),
+    ];
+    plays(&rt, rt.alloc(), STEPS);
 }
 
 #[test]
@@ -170,19 +149,38 @@ fn snapshots(rt: HostRuntime) {
 fn see_snapshots(rt: &impl Abort, table: &mut InferCtxt) {
     assert!(rt; matches!(table.typing_mode(), TypingMode::PostAnalysis));
     let outer = table.start_snapshot().expect(rt, "memory");
+    see_committed(rt, table);
+    see_tried(rt, table);
+    table.rollback_to(outer);
+    assert!(rt; table.universe() == 0);
+}
+
+/// Makes a universe before a snapshot and one in it, and commits it.
+fn see_committed(rt: &impl Abort, table: &mut InferCtxt)
+    ensures { length table.new.saved ≡ length table.old.saved }
+{
     table.create_next_universe().expect(rt, "memory");
     let inner = table.start_snapshot().expect(rt, "memory");
     table.create_next_universe().expect(rt, "memory");
     table.commit(inner);
     assert!(rt; table.universe() == 2);
-    let tried = table.start_snapshot().expect(rt, "memory");
-    table.create_next_universe().expect(rt, "memory");
-    assert!(rt; table.commit_if_ok(tried, Err::<(), usize>(7)) == Err(7));
+}
+
+/// Makes a universe where something failed, and one where it did not.
+fn see_tried(rt: &impl Abort, table: &mut InferCtxt)
+    ensures { length table.new.saved ≡ length table.old.saved }
+{
+    assert!(rt; tried(rt, table, Err(7)) == Err(7));
     assert!(rt; table.universe() == 2);
-    let tried = table.start_snapshot().expect(rt, "memory");
-    table.create_next_universe().expect(rt, "memory");
-    assert!(rt; table.commit_if_ok(tried, Ok::<usize, ()>(7)) == Ok(7));
+    assert!(rt; tried(rt, table, Ok(7)) == Ok(7));
     assert!(rt; table.universe() == 3);
-    table.rollback_to(outer);
-    assert!(rt; table.universe() == 0);
+}
+
+/// Makes a universe in a snapshot, which ends so.
+fn tried(rt: &impl Abort, table: &mut InferCtxt, ends: Result<usize, usize>) -> Result<usize, usize>
+    ensures { length table.new.saved ≡ length table.old.saved }
+{
+    let snapshot = table.start_snapshot().expect(rt, "memory");
+    table.create_next_universe().expect(rt, "memory");
+    table.commit_if_ok(snapshot, ends)
 }

@@ -12,10 +12,10 @@ use nts_fixtures::Fixture;
 use nts_model::{UintTy, Variance};
 use nts_solver_relating::RelateExt;
 use nts_store::EvalError;
-use nts_table::{InferCtxt, is_unbound};
+use nts_table::InferCtxt;
 use nts_terms::{
     AliasDefId, AliasId, AliasTerm, Const, Cx, GenericArg, Region, Span, Stored, Term, Ty,
-    TypingMode, VisibleForLeakCheck,
+    TypingMode,
 };
 use nts_unify::{Constraint, State, Variable};
 use std::process::Abort;
@@ -28,26 +28,12 @@ pub fn empty_knows<T: Stored>(cx: &Cx, x: T) -> Result<bool, EvalError>
     Ok(table.knows(cx, x)?)
 }
 
-/// A variable of a table.
-pub fn variable_of(rt: &impl Abort, table: &InferCtxt, n: usize) -> Variable {
-    assert!(rt; n < table.variable_count());
-    table.variable(n)
-}
-
 /// Sees that the hidden types, without their aliases, are the expected ones.
 fn same_types(rt: &impl Abort, found: &[(AliasTerm, Ty)], expected: &[Ty]) {
     assert!(rt; found.len() == expected.len());
     for n in 0..found.len() {
         assert!(rt; Some(&found[n].1) == expected.get(n));
     }
-}
-
-/// A new region variable.
-pub fn region_infer(fixture: &mut Fixture) -> Result<Region, EvalError>
-    requires { IsTable fixture.old.cx.nodes fixture.old.table }
-    ensures { IsTable fixture.new.cx.nodes fixture.new.table }
-{
-    Ok(fixture.table.next_region_infer(&mut fixture.cx)?)
 }
 
 /// A type of integers without a sign.
@@ -95,51 +81,6 @@ pub fn hidden_since(rt: &impl Abort, fixture: &Fixture, entries: usize, expected
     same_types(rt, &found.expect(rt, "memory"), expected);
 }
 
-/// Records that one region outlives another.
-pub fn outlives(
-    fixture: &mut Fixture,
-    a: Region,
-    b: Region,
-    visible: VisibleForLeakCheck,
-) -> Result<(), EvalError>
-    requires { IsTable fixture.old.cx.nodes fixture.old.table }
-    ensures { IsTable fixture.new.cx.nodes fixture.new.table }
-{
-    fixture.seen(a)?;
-    fixture.seen(b)?;
-    let (cx, table) = (&fixture.cx, &mut fixture.table);
-    table.sub_regions(cx, b, a, visible, Span(0))?;
-    Ok(())
-}
-
-/// Makes two regions equal, of which none is bound.
-pub fn equates_regions(
-    rt: &impl Abort,
-    fixture: &mut Fixture,
-    a: Region,
-    b: Region,
-) -> Result<(), EvalError>
-    requires { IsTable fixture.old.cx.nodes fixture.old.table }
-    ensures { IsTable fixture.new.cx.nodes fixture.new.table }
-{
-    fixture.seen(a)?;
-    fixture.seen(b)?;
-    assert!(rt; is_unbound(&fixture.cx, a));
-    assert!(rt; is_unbound(&fixture.cx, b));
-    let (cx, table) = (&fixture.cx, &mut fixture.table);
-    table.equate_regions(cx, a, b, VisibleForLeakCheck::Yes, Span(0))?;
-    Ok(())
-}
-
-/// Sees that these are the region constraints, each once.
-pub fn tells(rt: &impl Abort, fixture: &mut Fixture, expected: &[Constraint])
-    requires { IsTable fixture.old.cx.nodes fixture.old.table }
-{
-    let (cx, table) = (&mut fixture.cx, &fixture.table);
-    let told = table.make_deduplicated_region_constraints(cx);
-    assert!(rt; told.expect(rt, "memory").as_slice() == expected);
-}
-
 /// Whether an alias stands in the term.
 pub fn has_alias(fixture: &mut Fixture, x: GenericArg) -> Result<bool, EvalError>
     requires { IsTable fixture.old.cx.nodes fixture.old.table }
@@ -172,47 +113,51 @@ pub fn is_foreign(fixture: &Fixture, x: GenericArg) -> Result<bool, EvalError> {
 }
 
 /// Makes two arguments one, with aliases as they stand.
-pub fn equates(fixture: &mut Fixture, x: GenericArg, y: GenericArg) -> Result<(), EvalError>
+pub fn equates(fixture: &mut Fixture, x: GenericArg, y: GenericArg) -> Result<bool, EvalError>
     requires { IsTable fixture.old.cx.nodes fixture.old.table }
     ensures { IsTable fixture.new.cx.nodes fixture.new.table }
 {
     fixture.seen(x)?;
     fixture.seen(y)?;
     let (cx, table) = (&mut fixture.cx, &mut fixture.table);
-    table.eq_structurally_relating_aliases(cx, fixture.env, x, y, Span(0))
+    table.eq_structurally_relating_aliases(cx, fixture.env, x, y, Span(0))?;
+    Ok(true)
 }
 
 /// Makes a region one with itself.
-pub fn equates_region(fixture: &mut Fixture, x: GenericArg) -> Result<(), EvalError>
+pub fn equates_region(fixture: &mut Fixture, x: GenericArg) -> Result<bool, EvalError>
     requires { IsTable fixture.old.cx.nodes fixture.old.table }
     ensures { IsTable fixture.new.cx.nodes fixture.new.table }
 {
     let x = Region { node: x.node };
     fixture.seen(x)?;
     let (cx, table) = (&mut fixture.cx, &mut fixture.table);
-    table.eq_structurally_relating_aliases(cx, fixture.env, x, x, Span(0))
+    table.eq_structurally_relating_aliases(cx, fixture.env, x, x, Span(0))?;
+    Ok(true)
 }
 
 /// Makes a const one with itself.
-pub fn equates_const(fixture: &mut Fixture, x: GenericArg) -> Result<(), EvalError>
+pub fn equates_const(fixture: &mut Fixture, x: GenericArg) -> Result<bool, EvalError>
     requires { IsTable fixture.old.cx.nodes fixture.old.table }
     ensures { IsTable fixture.new.cx.nodes fixture.new.table }
 {
     let x = Const { node: x.node };
     fixture.seen(x)?;
     let (cx, table) = (&mut fixture.cx, &mut fixture.table);
-    table.eq_structurally_relating_aliases(cx, fixture.env, x, x, Span(0))
+    table.eq_structurally_relating_aliases(cx, fixture.env, x, x, Span(0))?;
+    Ok(true)
 }
 
 /// Makes a type or a const one with itself, as a term.
-pub fn equates_term(fixture: &mut Fixture, x: GenericArg) -> Result<(), EvalError>
+pub fn equates_term(fixture: &mut Fixture, x: GenericArg) -> Result<bool, EvalError>
     requires { IsTable fixture.old.cx.nodes fixture.old.table }
     ensures { IsTable fixture.new.cx.nodes fixture.new.table }
 {
     let x = Term { node: x.node };
     fixture.seen(x)?;
     let (cx, table) = (&mut fixture.cx, &mut fixture.table);
-    table.eq_structurally_relating_aliases(cx, fixture.env, x, x, Span(0))
+    table.eq_structurally_relating_aliases(cx, fixture.env, x, x, Span(0))?;
+    Ok(true)
 }
 
 /// Relates two arguments without aliases, and says whether they were made one. No goals are left.
@@ -233,11 +178,44 @@ pub fn relates(fixture: &mut Fixture, x: GenericArg, y: GenericArg) -> Result<bo
     }
 }
 
-/// What can be read of a table.
+/// Relates two types, as types, and says whether they were made one without a goal that is left.
+pub fn relates_types(fixture: &mut Fixture, x: GenericArg, y: GenericArg) -> Result<bool, EvalError>
+    requires { IsTable fixture.old.cx.nodes fixture.old.table }
+    ensures { IsTable fixture.new.cx.nodes fixture.new.table }
+{
+    let (x, y) = (Ty { node: x.node }, Ty { node: y.node });
+    fixture.seen(x)?;
+    fixture.seen(y)?;
+    let (cx, table) = (&mut fixture.cx, &mut fixture.table);
+    let goals = table.relate(cx, fixture.env, x, Variance::Invariant, y, Span(0))?;
+    Ok(goals.is_empty())
+}
+
+/// Makes one sub-unification class of those of two variables.
+pub fn joins(fixture: &mut Fixture, a: usize, b: usize) -> Result<bool, EvalError>
+    requires { IsTable fixture.old.cx.nodes fixture.old.table }
+    ensures { IsTable fixture.new.cx.nodes fixture.new.table }
+{
+    let count = fixture.table.variable_count();
+    if a >= count || b >= count {
+        return Ok(false);
+    }
+    fixture.table.sub_unify_ty_vids_raw(a, b)?;
+    Ok(true)
+}
+
+/// Whether that is the sub-unification root of a variable.
+pub fn sub_root_is(fixture: &Fixture, n: usize, root: usize) -> bool
+    requires { IsTable fixture.now.cx.nodes fixture.now.table }
+{
+    let table = &fixture.table;
+    n < table.variable_count() && table.sub_unification_table_root_var(n) == root
+}
+
+/// What can be read of a table: its variables with their roots, its constraints, and its universe.
 #[derive(PartialEq, Eq, Drop)]
 struct Shown {
-    variables: Vec<Variable>,
-    roots: Vec<usize>,
+    variables: Vec<(Variable, usize)>,
     constraints: Vec<Constraint>,
     universe: u32,
 }
@@ -248,30 +226,48 @@ pub fn refuses(fixture: &mut Fixture, x: GenericArg, y: GenericArg) -> Result<bo
     ensures { IsTable fixture.new.cx.nodes fixture.new.table }
 {
     let before = show(fixture)?;
-    let refused = !relates(fixture, x, y)? && !relates(fixture, y, x)?;
-    Ok(refused && before == show(fixture)?)
+    let refused = refuses_both_ways(fixture, x, y)?;
+    let after = show(fixture)?;
+    Ok(refused && before == after)
+}
+
+fn refuses_both_ways(fixture: &mut Fixture, x: GenericArg, y: GenericArg) -> Result<bool, EvalError>
+    requires { IsTable fixture.old.cx.nodes fixture.old.table }
+    ensures { IsTable fixture.new.cx.nodes fixture.new.table }
+{
+    Ok(!relates(fixture, x, y)? && !relates(fixture, y, x)?)
 }
 
 fn show(fixture: &Fixture) -> Result<Shown, EvalError>
     requires { IsTable fixture.now.cx.nodes fixture.now.table }
 {
+    let variables = show_variables(fixture)?;
+    let constraints = show_constraints(fixture)?;
+    Ok(Shown {
+        variables,
+        constraints,
+        universe: fixture.table.universe(),
+    })
+}
+
+fn show_variables(fixture: &Fixture) -> Result<Vec<(Variable, usize)>, EvalError>
+    requires { IsTable fixture.now.cx.nodes fixture.now.table }
+{
     let table = &fixture.table;
     let mut variables = Vec::new(fixture.cx.alloc);
-    let mut roots = Vec::new(fixture.cx.alloc);
     for n in 0..table.variable_count() {
-        variables.push(table.variable(n))?;
-        roots.push(table.root(n))?;
+        variables.push((table.variable(n), table.root(n)))?;
     }
+    Ok(variables)
+}
+
+fn show_constraints(fixture: &Fixture) -> Result<Vec<Constraint>, EvalError> {
+    let table = &fixture.table;
     let mut constraints = Vec::new(fixture.cx.alloc);
     for n in 0..table.constraint_count() {
         constraints.push(table.constraint(n))?;
     }
-    Ok(Shown {
-        variables,
-        roots,
-        constraints,
-        universe: table.universe(),
-    })
+    Ok(constraints)
 }
 
 /// Whether a variable has that state and universe.

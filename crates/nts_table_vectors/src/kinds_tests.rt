@@ -1,9 +1,11 @@
 //! Variables of integers, floats and consts, and hidden types.
-ghost use Rattle.std.specs.Prelude.{◌≡◌, []};
 ghost use Rattle.nts_table.specs.Tables.{IsTable};
 
 use crate::fixture::{duplicates, hidden, hidden_since, hide_beside, uint};
-use crate::steps::Step::{Known, Let, Link, Refuses, Relates, Resolves, Universe, Unset};
+use crate::steps::Step::{
+    Known, Let, Link, OpenIn, Refuses, Relates, Resolves, Root, RootNumber, StaysConst, StaysType,
+    Universe, Unset,
+};
 use crate::steps::{Step, plays};
 use nts_fixtures::Make::{ConstParam, Type, Var, Wrap};
 use nts_fixtures::Type::{Float, Int};
@@ -11,7 +13,7 @@ use nts_fixtures::{BYTE, Fixture, WORD};
 use nts_model::{FloatTy, IntTy, UintTy, VariableKind};
 use nts_store::EvalError;
 use nts_table::InferCtxt;
-use nts_terms::{AliasDefId, AliasId, AliasKind, Cx, Ty, TypingMode};
+use nts_terms::{AliasDefId, AliasId, AliasKind, Ty};
 use std::process::Abort;
 
 #[test]
@@ -99,40 +101,49 @@ fn consts(rt: HostRuntime) {
     plays(&rt, rt.alloc(), STEPS);
 }
 
+/// Variables of four kinds, each of which stands for itself.
 #[test]
 fn shallow(rt: HostRuntime) {
-    let mut cx = Cx::new(rt.alloc());
-    let mut table = InferCtxt::new(rt.alloc(), TypingMode::PostAnalysis);
-    see_shallow(&rt, &mut cx, &mut table);
+    const STEPS: &[Step] = &[
+        Let("hole", Var(VariableKind::Ty)),
+        StaysType("hole"),
+        Let("number", Var(VariableKind::Int)),
+        Root(VariableKind::Int, 1, "number"),
+        Let("real", Var(VariableKind::Float)),
+        Root(VariableKind::Float, 2, "real"),
+        Let("size", Var(VariableKind::Const)),
+        RootNumber(VariableKind::Const, 3, 3),
+        OpenIn(VariableKind::Const, 3, 0),
+        Root(VariableKind::Const, 3, "size"),
+        StaysConst("size"),
+    ];
+    plays(&rt, rt.alloc(), STEPS);
 }
 
-/// Variables of four kinds, each of which stands for itself.
-fn see_shallow(rt: &impl Abort, cx: &mut Cx, table: &mut InferCtxt)
-    requires table { IsTable cx.old.nodes table.old }
-    requires empty { table.old.entries ≡ record { variables = []; order = []; universe = 0; constraints = []; hidden = record { lookup = []; duplicates = [] } } }
+/// An opaque alias without arguments, and the types of two kinds of integers.
+fn alias_and_types(fixture: &mut Fixture) -> Result<(AliasId, Ty, Ty), EvalError>
+    requires { IsTable fixture.old.cx.nodes fixture.old.table }
+    ensures { IsTable fixture.new.cx.nodes fixture.new.table }
 {
-    let hole = table.next_ty_infer(cx).expect(rt, "memory");
-    let same = table.shallow_resolve(cx, hole).expect(rt, "memory");
-    assert!(rt; cx.same(same, hole));
-    let number = table.next_int_infer(cx).expect(rt, "memory");
-    let root = table
-        .opportunistic_resolve_int_var(cx, 1)
-        .expect(rt, "memory");
-    assert!(rt; cx.same(root, number));
-    let real = table.next_float_infer(cx).expect(rt, "memory");
-    let root = table
-        .opportunistic_resolve_float_var(cx, 2)
-        .expect(rt, "memory");
-    assert!(rt; cx.same(root, real));
-    let size = table.next_const_infer(cx).expect(rt, "memory");
-    assert!(rt; table.root_const_var(3) == 3);
-    assert!(rt; table.universe_of_ct(3) == Some(0));
-    let root = table
-        .opportunistic_resolve_ct_var(cx, 3)
-        .expect(rt, "memory");
-    assert!(rt; cx.same(root, size));
-    let root = table.shallow_resolve_const(cx, size).expect(rt, "memory");
-    assert!(rt; cx.same(root, size));
+    let alias = fixture.declare_alias(&[], AliasKind::Opaque)?;
+    let byte = uint(fixture, UintTy::U8)?;
+    let word = uint(fixture, UintTy::U32)?;
+    Ok((alias, byte, word))
+}
+
+/// Registers a hidden type of an alias, of which this was the older one.
+fn hides(
+    rt: &impl Abort,
+    fixture: &mut Fixture,
+    alias: AliasId,
+    ty: Ty,
+    older: Option<Ty>,
+) -> Result<(), EvalError>
+    requires { IsTable fixture.old.cx.nodes fixture.old.table }
+    ensures { IsTable fixture.new.cx.nodes fixture.new.table }
+{
+    assert!(rt; fixture.hide(alias, &[], ty)? == older);
+    Ok(())
 }
 
 #[test]
@@ -144,13 +155,11 @@ fn hidden_types(rt: HostRuntime) {
 fn see_hidden(rt: &impl Abort, fixture: &mut Fixture) -> Result<(), EvalError>
     requires { IsTable fixture.old.cx.nodes fixture.old.table }
 {
-    let alias = fixture.declare_alias(&[], AliasKind::Opaque)?;
-    let byte = uint(fixture, UintTy::U8)?;
-    let word = uint(fixture, UintTy::U32)?;
+    let (alias, byte, word) = alias_and_types(fixture)?;
     hidden(rt, fixture, &[]);
-    assert!(rt; fixture.hide(alias, &[], byte)? == None);
+    hides(rt, fixture, alias, byte, None)?;
     hidden(rt, fixture, &[byte]);
-    assert!(rt; fixture.hide(alias, &[], word)? == Some(byte));
+    hides(rt, fixture, alias, word, Some(byte))?;
     hidden(rt, fixture, &[word]);
     Ok(())
 }
@@ -164,10 +173,8 @@ fn duplicates_of_hidden_types(rt: HostRuntime) {
 fn see_duplicates(rt: &impl Abort, fixture: &mut Fixture) -> Result<(), EvalError>
     requires { IsTable fixture.old.cx.nodes fixture.old.table }
 {
-    let alias = fixture.declare_alias(&[], AliasKind::Opaque)?;
-    let byte = uint(fixture, UintTy::U8)?;
-    let word = uint(fixture, UintTy::U32)?;
-    assert!(rt; fixture.hide(alias, &[], byte)? == None);
+    let (alias, byte, word) = alias_and_types(fixture)?;
+    hides(rt, fixture, alias, byte, None)?;
     hide_beside(fixture, alias, word)?;
     let snapshot = fixture.table.start_snapshot()?;
     hide_beside(fixture, alias, byte)?;
@@ -186,10 +193,8 @@ fn lists_of_hidden_types(rt: HostRuntime) {
 fn see_lists(rt: &impl Abort, fixture: &mut Fixture) -> Result<(), EvalError>
     requires { IsTable fixture.old.cx.nodes fixture.old.table }
 {
-    let alias = fixture.declare_alias(&[], AliasKind::Opaque)?;
-    let byte = uint(fixture, UintTy::U8)?;
-    let word = uint(fixture, UintTy::U32)?;
-    assert!(rt; fixture.hide(alias, &[], byte)? == None);
+    let (alias, byte, word) = alias_and_types(fixture)?;
+    hides(rt, fixture, alias, byte, None)?;
     hide_beside(fixture, alias, word)?;
     see_lookup(rt, &fixture.table, alias, byte);
     hidden_since(rt, fixture, 0, &[byte]);

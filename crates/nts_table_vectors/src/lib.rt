@@ -2,6 +2,8 @@
 #![tactic(auto)]
 
 #[cfg(test)]
+mod by_kind;
+#[cfg(test)]
 mod calls_tests;
 #[cfg(test)]
 mod deep_tests;
@@ -11,6 +13,8 @@ mod fixture;
 mod kinds_tests;
 #[cfg(test)]
 mod refusing_tests;
+#[cfg(test)]
+mod regions;
 #[cfg(test)]
 mod relating_tests;
 #[cfg(test)]

@@ -1,39 +1,66 @@
 //! Aliases of types and consts that are to be evaluated.
-ghost use Rattle.std.specs.Prelude.{◌≡◌, IfOk, OnErr};
-
-use crate::seeing::{fitting, held};
-use nts_model::UintTy;
+use crate::seeing::{byte, fitting, held, nothing, three, unbound};
 use nts_terms::{
-    AliasDefId, AliasKind, AliasTerm, Binder, ClauseKind, ConstKind, Cx, DefId, GenericArg,
-    PredicateKind, Term, TermKind, TyKind,
+    AliasDefId, AliasId, AliasKind, AliasTerm, Binder, ClauseKind, Const, ConstId, ConstKind, Cx,
+    DefId, GenericArg, GenericArgs, Predicate, PredicateKind, Term, TermKind, Ty, TyKind,
 };
 use std::process::Abort;
+
+/// A const of bytes without arguments that is to be evaluated.
+fn length_of_bytes(rt: &impl Abort, cx: &mut Cx) -> ConstId {
+    let byte = byte(rt, cx);
+    assert!(rt; cx.is_const_type(&[], byte).expect(rt, "memory"));
+    cx.declare_const(&[], byte).expect(rt, "memory")
+}
+
+/// A projection without arguments, which has the number of a const.
+fn item_like(rt: &impl Abort, cx: &mut Cx, length: ConstId) -> AliasId {
+    let item = cx
+        .declare_alias(&[], AliasKind::Projection)
+        .expect(rt, "memory");
+    assert_eq!(rt; length.number, item.number);
+    item
+}
 
 #[test]
 fn what_a_const_normalizes_to(rt: HostRuntime) {
     let mut cx = Cx::new(rt.alloc());
-    see_what_a_const_normalizes_to(&rt, &mut cx);
+    let length = length_of_bytes(&rt, &mut cx);
+    let three = three(&rt, &mut cx);
+    let goal = normalizes_to_const(&rt, &mut cx, length, three);
+    see_the_goal(&rt, &cx, goal, length, three);
 }
 
-fn see_what_a_const_normalizes_to(rt: &impl Abort, cx: &mut Cx) {
-    let byte = cx.mk_ty(TyKind::Uint(UintTy::U8)).expect(rt, "memory");
-    assert!(rt; cx.is_const_type(&[], byte).expect(rt, "memory"));
-    let length = cx.declare_const(&[], byte).expect(rt, "memory");
-    let args = cx.mk_args(&[]).expect(rt, "memory");
-    let three = cx
-        .mk_const(ConstKind::Value { ty: byte, bits: 3 })
-        .expect(rt, "memory");
-    let vars = cx.mk_bound_vars(&[]).expect(rt, "memory");
+/// The goal that a const is another one.
+fn normalizes_to_const(rt: &impl Abort, cx: &mut Cx, length: ConstId, value: Const) -> Predicate {
     let alias = AliasTerm {
         def_id: AliasDefId::Const(length),
-        args,
+        args: nothing(rt, cx),
     };
-    let term = three.into();
-    held(rt, cx, args);
-    held(rt, cx, three);
-    fitting(rt, cx, DefId::Alias(alias.def_id), args);
+    let vars = unbound(rt, cx);
+    held(rt, cx, value);
+    fitting(rt, cx, DefId::Alias(alias.def_id), alias.args);
+    let term = value.into();
     let value = PredicateKind::NormalizesTo { alias, term };
-    let goal = cx.mk_predicate(Binder { vars, value }).expect(rt, "memory");
+    cx.mk_predicate(Binder { vars, value }).expect(rt, "memory")
+}
+
+/// The goal that a projection is a type.
+fn normalizes_to_type(rt: &impl Abort, cx: &mut Cx, item: AliasId, value: Ty) -> Predicate {
+    let alias = AliasTerm {
+        def_id: AliasDefId::Ty(item),
+        args: nothing(rt, cx),
+    };
+    let vars = unbound(rt, cx);
+    held(rt, cx, value);
+    fitting(rt, cx, DefId::Alias(alias.def_id), alias.args);
+    let term = value.into();
+    let value = PredicateKind::NormalizesTo { alias, term };
+    cx.mk_predicate(Binder { vars, value }).expect(rt, "memory")
+}
+
+fn see_the_goal(rt: &impl Abort, cx: &Cx, goal: Predicate, length: ConstId, three: Const) {
+    held(rt, cx, goal);
     match goal.kind(cx).value {
         PredicateKind::NormalizesTo { alias: it, term } => {
             assert!(rt; it.def_id == AliasDefId::Const(length));
@@ -48,28 +75,28 @@ fn see_what_a_const_normalizes_to(rt: &impl Abort, cx: &mut Cx) {
 #[test]
 fn a_projection_of_a_const(rt: HostRuntime) {
     let mut cx = Cx::new(rt.alloc());
-    see_a_projection(&rt, &mut cx);
+    let length = length_of_bytes(&rt, &mut cx);
+    let three = three(&rt, &mut cx);
+    let fact = projects_to(&rt, &mut cx, length, three);
+    see_the_fact(&rt, &cx, fact, length, three);
 }
 
-fn see_a_projection(rt: &impl Abort, cx: &mut Cx) {
-    let byte = cx.mk_ty(TyKind::Uint(UintTy::U8)).expect(rt, "memory");
-    assert!(rt; cx.is_const_type(&[], byte).expect(rt, "memory"));
-    let length = cx.declare_const(&[], byte).expect(rt, "memory");
-    let args = cx.mk_args(&[]).expect(rt, "memory");
-    let three = cx
-        .mk_const(ConstKind::Value { ty: byte, bits: 3 })
-        .expect(rt, "memory");
-    let vars = cx.mk_bound_vars(&[]).expect(rt, "memory");
+/// The clause that a const is another one.
+fn projects_to(rt: &impl Abort, cx: &mut Cx, length: ConstId, value: Const) -> Predicate {
     let alias = AliasTerm {
         def_id: AliasDefId::Const(length),
-        args,
+        args: nothing(rt, cx),
     };
-    let term = three.into();
-    held(rt, cx, args);
-    held(rt, cx, three);
-    fitting(rt, cx, DefId::Alias(alias.def_id), args);
+    let vars = unbound(rt, cx);
+    held(rt, cx, value);
+    fitting(rt, cx, DefId::Alias(alias.def_id), alias.args);
+    let term = value.into();
     let value = PredicateKind::Clause(ClauseKind::Projection { alias, term });
-    let fact = cx.mk_predicate(Binder { vars, value }).expect(rt, "memory");
+    cx.mk_predicate(Binder { vars, value }).expect(rt, "memory")
+}
+
+fn see_the_fact(rt: &impl Abort, cx: &Cx, fact: Predicate, length: ConstId, three: Const) {
+    held(rt, cx, fact);
     match fact.kind(cx).value {
         PredicateKind::Clause(ClauseKind::Projection { alias: it, term }) => {
             assert!(rt; it.def_id == AliasDefId::Const(length));
@@ -82,79 +109,52 @@ fn see_a_projection(rt: &impl Abort, cx: &mut Cx) {
 #[test]
 fn aliases_of_one_number(rt: HostRuntime) {
     let mut cx = Cx::new(rt.alloc());
-    see_aliases(&rt, &mut cx);
+    let length = length_of_bytes(&rt, &mut cx);
+    let item = item_like(&rt, &mut cx, length);
+    let args = nothing(&rt, &mut cx);
+    let ty = alias_of_types(&rt, &mut cx, item, args);
+    let ct = alias_of_consts(&rt, &mut cx, length, args);
+    assert!(rt; AliasDefId::Ty(item) != AliasDefId::Const(length));
+    assert!(rt; GenericArg::from(ty) != GenericArg::from(ct));
+    see_both_kinds(&rt, &cx, ty, ct);
 }
 
-fn see_aliases(rt: &impl Abort, cx: &mut Cx) {
-    let byte = cx.mk_ty(TyKind::Uint(UintTy::U8)).expect(rt, "memory");
-    assert!(rt; cx.is_const_type(&[], byte).expect(rt, "memory"));
-    let length = cx.declare_const(&[], byte).expect(rt, "memory");
-    let item = cx
-        .declare_alias(&[], AliasKind::Projection)
+fn alias_of_types(rt: &impl Abort, cx: &mut Cx, item: AliasId, args: GenericArgs) -> Ty {
+    let def_id = AliasDefId::Ty(item);
+    fitting(rt, cx, DefId::Alias(def_id), args);
+    let ty = cx
+        .mk_ty(TyKind::Alias(AliasTerm { def_id, args }))
         .expect(rt, "memory");
-    assert_eq!(rt; length.number, item.number);
-    let args = cx.mk_args(&[]).expect(rt, "memory");
-    let of_types = AliasTerm {
-        def_id: AliasDefId::Ty(item),
-        args,
-    };
-    let of_consts = AliasTerm {
-        def_id: AliasDefId::Const(length),
-        args,
-    };
-    assert!(rt; of_types.def_id != of_consts.def_id);
-    fitting(rt, cx, DefId::Alias(of_types.def_id), args);
-    fitting(rt, cx, DefId::Alias(of_consts.def_id), args);
-    let ty = cx.mk_ty(TyKind::Alias(of_types)).expect(rt, "memory");
-    fitting(rt, cx, DefId::Alias(of_consts.def_id), args);
+    assert!(rt; matches!(ty.kind(cx), TyKind::Alias(it) if it.def_id == def_id));
+    ty
+}
+
+fn alias_of_consts(rt: &impl Abort, cx: &mut Cx, length: ConstId, args: GenericArgs) -> Const {
+    let def_id = AliasDefId::Const(length);
+    fitting(rt, cx, DefId::Alias(def_id), args);
     let ct = cx
-        .mk_const(ConstKind::Unevaluated(of_consts))
+        .mk_const(ConstKind::Unevaluated(AliasTerm { def_id, args }))
         .expect(rt, "memory");
+    assert!(rt; matches!(ct.kind(cx), ConstKind::Unevaluated(it) if it.def_id == def_id));
+    ct
+}
+
+/// A type and a const that have one number are still told apart.
+fn see_both_kinds(rt: &impl Abort, cx: &Cx, ty: Ty, ct: Const) {
     held(rt, cx, ty);
-    assert!(rt; GenericArg::from(ty) != GenericArg::from(ct));
-    assert!(rt; matches!(ty.kind(cx), TyKind::Alias(it) if it.def_id == of_types.def_id));
-    assert!(rt; matches!(ct.kind(cx), ConstKind::Unevaluated(it) if it.def_id == of_consts.def_id));
+    held(rt, cx, ct);
+    assert!(rt; matches!(ty.kind(cx), TyKind::Alias(_)));
+    assert!(rt; matches!(ct.kind(cx), ConstKind::Unevaluated(_)));
 }
 
 #[test]
 fn goals_of_one_number(rt: HostRuntime) {
     let mut cx = Cx::new(rt.alloc());
-    see_goals(&rt, &mut cx);
-}
-
-fn see_goals(rt: &impl Abort, cx: &mut Cx) {
-    let byte = cx.mk_ty(TyKind::Uint(UintTy::U8)).expect(rt, "memory");
-    assert!(rt; cx.is_const_type(&[], byte).expect(rt, "memory"));
-    let length = cx.declare_const(&[], byte).expect(rt, "memory");
-    let item = cx
-        .declare_alias(&[], AliasKind::Projection)
-        .expect(rt, "memory");
-    assert_eq!(rt; length.number, item.number);
-    let args = cx.mk_args(&[]).expect(rt, "memory");
-    let vars = cx.mk_bound_vars(&[]).expect(rt, "memory");
-    let of_types = AliasTerm {
-        def_id: AliasDefId::Ty(item),
-        args,
-    };
-    let of_consts = AliasTerm {
-        def_id: AliasDefId::Const(length),
-        args,
-    };
-    held(rt, cx, args);
-    held(rt, cx, byte);
-    fitting(rt, cx, DefId::Alias(of_types.def_id), args);
-    let value = PredicateKind::NormalizesTo {
-        alias: of_types,
-        term: byte.into(),
-    };
-    let first = cx.mk_predicate(Binder { vars, value }).expect(rt, "memory");
-    let failed = cx.mk_const(ConstKind::Error).expect(rt, "memory");
-    held(rt, cx, vars);
-    fitting(rt, cx, DefId::Alias(of_consts.def_id), args);
-    let value = PredicateKind::NormalizesTo {
-        alias: of_consts,
-        term: failed.into(),
-    };
-    let second = cx.mk_predicate(Binder { vars, value }).expect(rt, "memory");
+    let length = length_of_bytes(&rt, &mut cx);
+    let item = item_like(&rt, &mut cx, length);
+    let byte = byte(&rt, &mut cx);
+    let first = normalizes_to_type(&rt, &mut cx, item, byte);
+    let failed = cx.mk_const(ConstKind::Error).expect(&rt, "memory");
+    let second = normalizes_to_const(&rt, &mut cx, length, failed);
     assert!(rt; first != second);
 }

@@ -1,16 +1,16 @@
 //! Folders with a state, one that gives up, and one that looks at binders.
 ghost use Rattle.std.specs.Prelude.{◌≡◌, IfOk};
 ghost use Rattle.nts_store.specs.Growth.{tree_at};
-ghost use Rattle.nts_terms.specs.Handles.{HoldsPredicate};
+ghost use Rattle.nts_terms.specs.Handles.{HoldsArgs, HoldsPredicate};
 
-use crate::seeing::held;
+use crate::seeing::{held, only, position, variable};
 use crate::walk_tests::wrapped;
 use nts_folding::{TypeFoldable, TypeFolder, fold_node};
-use nts_model::{BoundVarIndexKind, Sort, Variance};
+use nts_model::{BoundVarIndexKind, Sort};
 use nts_store::Fault;
 use nts_terms::{
-    AliasDefId, AliasKind, AliasTerm, Binder, BoundTy, Const, Cx, FnSig, InferTy, Predicate,
-    PredicateKind, Region, Term, TraitRef, Ty, TyKind,
+    AliasDefId, AliasKind, AliasTerm, Binder, BoundTy, BoundVars, Const, Cx, FnSig, GenericArgs,
+    InferTy, Predicate, PredicateKind, Region, Term, TraitRef, Ty, TyKind,
 };
 use std::alloc::{AllocError, Global};
 use std::process::Abort;
@@ -353,34 +353,31 @@ fn numbers_variables_at_first_sight(rt: HostRuntime) {
 }
 
 fn see_numbers(rt: &impl Abort, cx: &mut Cx, folder: &mut Numbering) {
-    let three = cx
-        .declare_ctor(&[Sort::Ty; 3], &[Variance::Covariant; 3])
-        .expect(rt, "memory");
-    let a = cx
-        .mk_ty(TyKind::Infer(InferTy::TyVar(7)))
-        .expect(rt, "memory");
-    let b = cx
-        .mk_ty(TyKind::Infer(InferTy::TyVar(2)))
-        .expect(rt, "memory");
-    let args = cx
-        .mk_args(&[a.into(), b.into(), a.into()])
-        .expect(rt, "memory");
-    let first = cx
-        .mk_ty(TyKind::Bound(BoundVarIndexKind::Canonical, BoundTy { var: 0 }))
-        .expect(rt, "memory");
-    let second = cx
-        .mk_ty(TyKind::Bound(BoundVarIndexKind::Canonical, BoundTy { var: 1 }))
-        .expect(rt, "memory");
-    let expected = cx
-        .mk_args(&[first.into(), second.into(), first.into()])
-        .expect(rt, "memory");
+    let a = variable(rt, cx, 7);
+    let b = variable(rt, cx, 2);
+    let args = turned(rt, cx, a, b);
     held(rt, cx, args);
     held(rt, cx, b);
     let (folded, last) = (args, Some(b)).fold_with(cx, folder).expect(rt, "memory");
+    see_positions(rt, cx, folded, last);
+    assert_eq!(rt; folder.seen.len(), 2);
+}
+
+/// Three arguments, the last of which is the first.
+fn turned(rt: &impl Abort, cx: &mut Cx, a: Ty, b: Ty) -> GenericArgs {
+    held(rt, cx, a);
+    held(rt, cx, b);
+    cx.mk_args(&[a.into(), b.into(), a.into()])
+        .expect(rt, "memory")
+}
+
+/// The first two positions stand in the place of the variables.
+fn see_positions(rt: &impl Abort, cx: &mut Cx, folded: GenericArgs, last: Option<Ty>) {
+    let first = position(rt, cx, 0);
+    let second = position(rt, cx, 1);
+    let expected = turned(rt, cx, first, second);
     assert!(rt; folded == expected);
     assert!(rt; last == Some(second));
-    assert_eq!(rt; folder.seen.len(), 2);
-    assert_eq!(rt; three.number, 0);
 }
 
 #[test]
@@ -391,22 +388,25 @@ fn ends_at_the_first_refusal(rt: HostRuntime) {
 }
 
 fn see_the_refusal(rt: &impl Abort, cx: &mut Cx, folder: &mut Refusing) {
-    let a = cx
-        .mk_ty(TyKind::Infer(InferTy::TyVar(7)))
-        .expect(rt, "memory");
-    let b = cx
-        .mk_ty(TyKind::Infer(InferTy::TyVar(2)))
-        .expect(rt, "memory");
-    let byte = cx.mk_ty(TyKind::Param(0)).expect(rt, "memory");
-    let args = cx
-        .mk_args(&[byte.into(), a.into(), b.into()])
-        .expect(rt, "memory");
-    held(rt, cx, args);
+    let args = two_variables(rt, cx);
     match args.fold_with(cx, folder) {
         Ok(_) => assert!(rt; false),
         Err(refusal) => assert!(rt; refusal == Refusal::Variable(7)),
     }
     assert_eq!(rt; folder.types, 2);
+}
+
+/// A parameter, and two variables behind it.
+fn two_variables(rt: &impl Abort, cx: &mut Cx) -> GenericArgs
+    ensures { HoldsArgs cx.new.nodes result }
+{
+    let a = variable(rt, cx, 7);
+    let b = variable(rt, cx, 2);
+    let parameter = cx.mk_ty(TyKind::Param(0)).expect(rt, "memory");
+    held(rt, cx, a);
+    held(rt, cx, b);
+    cx.mk_args(&[parameter.into(), a.into(), b.into()])
+        .expect(rt, "memory")
 }
 
 #[test]
@@ -425,13 +425,9 @@ fn see_binders(rt: &impl Abort, cx: &mut Cx, folder: &mut Counting) {
     let bound = cx
         .mk_ty(TyKind::Bound(BoundVarIndexKind::Bound(0), BoundTy { var: 0 }))
         .expect(rt, "memory");
-    let inputs_and_output = cx.mk_args(&[bound.into()]).expect(rt, "memory");
+    let pointer = pointer_of(rt, cx, vars, bound);
     held(rt, cx, vars);
-    let value = FnSig { inputs_and_output };
-    let pointer = cx
-        .mk_ty(TyKind::FnPtr(Binder { vars, value }))
-        .expect(rt, "memory");
-    held(rt, cx, vars);
+    held(rt, cx, pointer);
     let value = PredicateKind::Coerce {
         a: pointer,
         b: pointer,
@@ -444,6 +440,15 @@ fn see_binders(rt: &impl Abort, cx: &mut Cx, folder: &mut Counting) {
     assert_eq!(rt; folder.rebuilt, 4);
 }
 
+/// A pointer to a function that gives a type.
+fn pointer_of(rt: &impl Abort, cx: &mut Cx, vars: BoundVars, output: Ty) -> Ty {
+    let inputs_and_output = only(rt, cx, output.into());
+    held(rt, cx, vars);
+    let value = FnSig { inputs_and_output };
+    cx.mk_ty(TyKind::FnPtr(Binder { vars, value }))
+        .expect(rt, "memory")
+}
+
 #[test]
 fn folds_a_deep_type(rt: HostRuntime) {
     let mut cx = Cx::new(rt.alloc());
@@ -454,9 +459,7 @@ fn folds_a_deep_type(rt: HostRuntime) {
 }
 
 fn see_a_deep_type(rt: &impl Abort, cx: &mut Cx, folder: &mut Numbering) {
-    let variable = cx
-        .mk_ty(TyKind::Infer(InferTy::TyVar(3)))
-        .expect(rt, "memory");
+    let variable = variable(rt, cx, 3);
     let mut deep = variable.node;
     for _ in 0..100_000u32 {
         deep = wrapped(&mut cx.nodes, deep).expect(rt, "memory");
@@ -476,13 +479,10 @@ fn folds_each_of_a_list(rt: HostRuntime) {
 }
 
 fn see_a_list(rt: &impl Abort, alloc: Global, cx: &mut Cx, folder: &mut Numbering) {
-    let a = cx
-        .mk_ty(TyKind::Infer(InferTy::TyVar(7)))
-        .expect(rt, "memory");
-    let b = cx
-        .mk_ty(TyKind::Infer(InferTy::TyVar(2)))
-        .expect(rt, "memory");
+    let a = variable(rt, cx, 7);
+    let b = variable(rt, cx, 2);
     held(rt, cx, a);
+    held(rt, cx, b);
     let list = vec![in alloc; b, a, b].expect(rt, "memory");
     let count = list.fold_with(cx, folder).expect(rt, "memory").len();
     assert_eq!(rt; count, 3);
@@ -503,15 +503,8 @@ fn see_arguments(rt: &impl Abort, cx: &mut Cx, folder: &mut Numbering) {
         .declare_alias(&[Sort::Ty], AliasKind::Projection)
         .expect(rt, "memory");
     let clone = cx.declare_trait(&[Sort::Ty]).expect(rt, "memory");
-    let variable = cx
-        .mk_ty(TyKind::Infer(InferTy::TyVar(7)))
-        .expect(rt, "memory");
-    let args = cx.mk_args(&[variable.into()]).expect(rt, "memory");
-    let first = cx
-        .mk_ty(TyKind::Bound(BoundVarIndexKind::Canonical, BoundTy { var: 0 }))
-        .expect(rt, "memory");
-    let expected = cx.mk_args(&[first.into()]).expect(rt, "memory");
-    held(rt, cx, args);
+    let variable = variable(rt, cx, 7);
+    let args = only(rt, cx, variable.into());
     let alias = AliasTerm {
         def_id: AliasDefId::Ty(item),
         args,
@@ -523,11 +516,18 @@ fn see_arguments(rt: &impl Abort, cx: &mut Cx, folder: &mut Numbering) {
     let (of_alias, of_trait) = (alias, trait_ref)
         .fold_with(cx, folder)
         .expect(rt, "memory");
-    assert!(rt; of_alias.args == expected);
     assert!(rt; of_alias.def_id == AliasDefId::Ty(item));
-    assert!(rt; of_trait.args == expected);
     assert!(rt; of_trait.def_id == clone);
     assert_eq!(rt; folder.seen.len(), 1);
+    see_the_first_position(rt, cx, of_alias.args);
+    see_the_first_position(rt, cx, of_trait.args);
+}
+
+/// The first position is the only argument.
+fn see_the_first_position(rt: &impl Abort, cx: &mut Cx, folded: GenericArgs) {
+    let first = position(rt, cx, 0);
+    let expected = only(rt, cx, first.into());
+    assert!(rt; folded == expected);
 }
 
 #[test]
@@ -544,21 +544,23 @@ fn see_under_a_binder(rt: &impl Abort, cx: &mut Cx, folder: &mut Levelling) {
     let vars = cx
         .mk_bound_vars(&[Sort::Ty, Sort::Region])
         .expect(rt, "memory");
-    let variable = cx
-        .mk_ty(TyKind::Infer(InferTy::TyVar(7)))
-        .expect(rt, "memory");
-    let args = cx.mk_args(&[variable.into()]).expect(rt, "memory");
-    let inside = cx.mk_ty(TyKind::Param(1)).expect(rt, "memory");
-    let outside = cx.mk_ty(TyKind::Param(0)).expect(rt, "memory");
-    let expected = cx.mk_args(&[inside.into()]).expect(rt, "memory");
+    let variable = variable(rt, cx, 7);
+    let args = only(rt, cx, variable.into());
     held(rt, cx, vars);
-    held(rt, cx, args);
     held(rt, cx, variable);
     let value = (Binder { vars, value: args }, variable);
     let (bound, last) = value.fold_with(cx, folder).expect(rt, "memory");
     assert!(rt; bound.vars == vars);
-    assert!(rt; bound.value == expected);
-    assert!(rt; last == outside);
     assert_eq!(rt; folder.entered, 1);
     assert_eq!(rt; folder.inside, 0);
+    see_levels(rt, cx, bound.value, last);
+}
+
+/// One binder is around the argument, and none around the type.
+fn see_levels(rt: &impl Abort, cx: &mut Cx, argument: GenericArgs, ty: Ty) {
+    let inside = cx.mk_ty(TyKind::Param(1)).expect(rt, "memory");
+    let outside = cx.mk_ty(TyKind::Param(0)).expect(rt, "memory");
+    let expected = only(rt, cx, inside.into());
+    assert!(rt; argument == expected);
+    assert!(rt; ty == outside);
 }

@@ -1,8 +1,8 @@
-use crate::seeing::held;
+use crate::seeing::{byte, held, unbound};
 use nts_model::{Sort, UintTy};
 use nts_terms::{
-    Binder, ClauseKind, ConstKind, Cx, GenericArg, PredicateKind, RegionKind, TraitId, TraitRef,
-    TyKind,
+    Binder, ClauseKind, ConstKind, Cx, GenericArg, Predicate, PredicateKind, RegionKind, TraitId,
+    TraitRef, TyKind,
 };
 use std::process::Abort;
 
@@ -15,10 +15,14 @@ fn equal_terms_are_one(rt: HostRuntime) {
 
 fn see_equal_leaves(rt: &impl Abort, cx: &mut Cx) {
     let word = cx.mk_ty(TyKind::Uint(UintTy::U32)).expect(rt, "memory");
-    let byte = cx.mk_ty(TyKind::Uint(UintTy::U8)).expect(rt, "memory");
+    let byte = byte(rt, cx);
     let again = cx.mk_ty(TyKind::Uint(UintTy::U32)).expect(rt, "memory");
     assert!(rt; word == again);
     assert!(rt; word != byte);
+    see_equal_others(rt, cx);
+}
+
+fn see_equal_others(rt: &impl Abort, cx: &mut Cx) {
     let region = cx.mk_region(RegionKind::ReErased).expect(rt, "memory");
     let same = cx.mk_region(RegionKind::ReErased).expect(rt, "memory");
     assert!(rt; region == same);
@@ -28,19 +32,8 @@ fn see_equal_leaves(rt: &impl Abort, cx: &mut Cx) {
 }
 
 fn see_equal_lists(rt: &impl Abort, cx: &mut Cx) {
-    let unstable = PredicateKind::Clause(ClauseKind::UnstableFeature(3));
-    let vars = cx.mk_bound_vars(&[]).expect(rt, "memory");
-    let value = Binder {
-        vars,
-        value: unstable,
-    };
-    let predicate = cx.mk_predicate(value).expect(rt, "memory");
-    let vars = cx.mk_bound_vars(&[]).expect(rt, "memory");
-    let value = Binder {
-        vars,
-        value: unstable,
-    };
-    let same = cx.mk_predicate(value).expect(rt, "memory");
+    let predicate = unstable(rt, cx);
+    let same = unstable(rt, cx);
     assert!(rt; predicate == same);
     held(rt, cx, predicate);
     let env = cx.mk_env(&[predicate]).expect(rt, "memory");
@@ -51,6 +44,13 @@ fn see_equal_lists(rt: &impl Abort, cx: &mut Cx) {
     assert!(rt; env != shorter);
 }
 
+/// A clause without variables.
+fn unstable(rt: &impl Abort, cx: &mut Cx) -> Predicate {
+    let value = PredicateKind::Clause(ClauseKind::UnstableFeature(3));
+    let vars = unbound(rt, cx);
+    cx.mk_predicate(Binder { vars, value }).expect(rt, "memory")
+}
+
 #[test]
 fn trait_predicates(rt: HostRuntime) {
     let mut cx = Cx::new(rt.alloc());
@@ -59,7 +59,7 @@ fn trait_predicates(rt: HostRuntime) {
 
 fn see_trait_predicates(rt: &impl Abort, cx: &mut Cx) {
     let clone = cx.declare_trait(&[Sort::Ty]).expect(rt, "memory");
-    let byte = cx.mk_ty(TyKind::Uint(UintTy::U8)).expect(rt, "memory");
+    let byte = byte(rt, cx);
     let made = cx
         .trait_predicate(clone, &[byte.into()])
         .expect(rt, "memory");

@@ -1,11 +1,12 @@
-use crate::seeing::{fitting, held};
+use crate::seeing::{byte, fitting, held, nothing, only, position, unbound, variable};
 use nts_certainty::{Certainty, MaybeCause, MaybeInfo, OpaqueTypesJank};
 use nts_model::{BoundVarIndexKind, Label, ListHead, Sort, TyHead, UintTy, Variance};
-use nts_store::{EvalError, Fault, Nodes, binders_of};
+use nts_store::{EvalError, Fault, NodeId, Nodes, binders_of};
 use nts_terms::{
-    AliasDefId, AliasKind, AliasTerm, Binder, BoundRegion, BoundTy, ClauseKind, ConstKind, Cx,
-    DefId, FnSig, GenericArg, GenericArgKind, InferTy, PlaceholderRegion, PredicateKind,
-    RegionKind, Stored, Term, TermKind, TraitId, TraitRef, Ty, TyKind, are_variances,
+    AliasDefId, AliasKind, AliasTerm, Binder, BoundRegion, BoundTy, BoundVars, ClauseKind, ConstId,
+    ConstKind, Cx, DefId, FnSig, GenericArg, GenericArgKind, GenericArgs, PlaceholderRegion,
+    Predicate, PredicateKind, Region, RegionKind, Stored, Term, TermKind, TraitId, TraitRef, Ty,
+    TyKind, are_variances,
 };
 use std::process::Abort;
 
@@ -16,21 +17,23 @@ fn limits(rt: HostRuntime) {
 }
 
 fn see_limits(rt: &impl Abort, cx: &mut Cx) {
-    assert_eq!(rt; cx.recursion_limit(), 128);
-    assert_eq!(rt; cx.step_limit(), 8);
-    assert_eq!(rt; cx.round_limit(), 8);
-    assert_eq!(rt; cx.depth_division(), 4);
+    assert!(rt; has_limits(cx, 128, 8, 8, 4));
     assert!(rt; !cx.disable_trait_solver_fast_paths());
     cx.set_recursion_limit(3);
     cx.set_disable_fast_paths(true);
     cx.set_step_limit(64);
     cx.set_round_limit(1);
     cx.set_depth_division(16);
-    assert_eq!(rt; cx.recursion_limit(), 3);
-    assert_eq!(rt; cx.step_limit(), 64);
-    assert_eq!(rt; cx.round_limit(), 1);
-    assert_eq!(rt; cx.depth_division(), 16);
+    assert!(rt; has_limits(cx, 3, 64, 1, 16));
     assert!(rt; cx.disable_trait_solver_fast_paths());
+}
+
+/// Whether these are the limits of depth, steps and rounds, and what a depth is divided by.
+fn has_limits(cx: &Cx, depth: usize, steps: usize, rounds: usize, division: usize) -> bool {
+    cx.recursion_limit() == depth
+        && cx.step_limit() == steps
+        && cx.round_limit() == rounds
+        && cx.depth_division() == division
 }
 
 #[test]
@@ -43,24 +46,31 @@ fn see_constructors(rt: &impl Abort, cx: &mut Cx) {
     let vec = cx
         .declare_ctor(&[Sort::Ty], &[Variance::Covariant])
         .expect(rt, "memory");
-    let byte = cx.mk_ty(TyKind::Uint(UintTy::U8)).expect(rt, "memory");
-    let args = cx.mk_args(&[byte.into()]).expect(rt, "memory");
-    let none = cx.mk_args(&[]).expect(rt, "memory");
+    let byte = byte(rt, cx);
+    let args = only(rt, cx, byte.into());
+    let none = nothing(rt, cx);
     held(rt, cx, args);
+    assert_eq!(rt; vec.number, 0);
     assert!(rt; !cx.fits(DefId::Ctor(vec), none));
     fitting(rt, cx, DefId::Ctor(vec), args);
     let bytes = cx.mk_ty(TyKind::Ctor(vec, args)).expect(rt, "memory");
     match bytes.kind(cx) {
         TyKind::Ctor(ctor, its_args) => {
             assert!(rt; ctor == vec);
-            assert_eq!(rt; its_args.len(cx), 1);
-            match its_args.get(cx, 0).kind(cx) {
-                GenericArgKind::Type(ty) => {
-                    held(rt, cx, byte);
-                    assert!(rt; cx.same(ty, byte));
-                }
-                _ => assert!(rt; false),
-            }
+            see_the_argument(rt, cx, its_args, byte);
+        }
+        _ => assert!(rt; false),
+    }
+}
+
+/// This type is the only argument.
+fn see_the_argument(rt: &impl Abort, cx: &Cx, args: GenericArgs, only: Ty) {
+    held(rt, cx, args);
+    assert_eq!(rt; args.len(cx), 1);
+    match args.get(cx, 0).kind(cx) {
+        GenericArgKind::Type(ty) => {
+            held(rt, cx, only);
+            assert!(rt; cx.same(ty, only));
         }
         _ => assert!(rt; false),
     }
@@ -88,7 +98,12 @@ fn see_binders(rt: &impl Abort, cx: &mut Cx) {
             RegionKind::ReBound(_, BoundRegion { var: 0 })
         )
     );
-    let args = cx.mk_args(&[region.into()]).expect(rt, "memory");
+    see_a_pointer(rt, cx, vars, region);
+}
+
+/// A pointer to a function of these variables closes the region that is the first of them.
+fn see_a_pointer(rt: &impl Abort, cx: &mut Cx, vars: BoundVars, region: Region) {
+    let args = only(rt, cx, region.into());
     held(rt, cx, vars);
     let sig = FnSig {
         inputs_and_output: args,
@@ -134,10 +149,9 @@ fn predicates(rt: HostRuntime) {
 
 fn see_predicates(rt: &impl Abort, cx: &mut Cx) {
     let clone = cx.declare_trait(&[Sort::Ty]).expect(rt, "memory");
-    let vars = cx.mk_bound_vars(&[]).expect(rt, "memory");
-    let first = TyKind::Bound(BoundVarIndexKind::Canonical, BoundTy { var: 0 });
-    let ty = cx.mk_ty(first).expect(rt, "memory");
-    let args = cx.mk_args(&[ty.into()]).expect(rt, "memory");
+    let vars = unbound(rt, cx);
+    let ty = position(rt, cx, 0);
+    let args = only(rt, cx, ty.into());
     held(rt, cx, vars);
     fitting(rt, cx, DefId::Trait(clone), args);
     let value = PredicateKind::Clause(ClauseKind::Trait(TraitRef {
@@ -150,6 +164,12 @@ fn see_predicates(rt: &impl Abort, cx: &mut Cx) {
         PredicateKind::Clause(ClauseKind::Trait(it)) => assert!(rt; it.def_id == clone),
         _ => assert!(rt; false),
     }
+    see_an_environment(rt, cx, predicate);
+}
+
+/// An environment of one predicate has it.
+fn see_an_environment(rt: &impl Abort, cx: &mut Cx, predicate: Predicate) {
+    held(rt, cx, predicate);
     let env = cx.mk_env(&[predicate]).expect(rt, "memory");
     assert_eq!(rt; env.len(cx), 1);
     held(rt, cx, predicate);
@@ -171,7 +191,7 @@ fn see_aliases(rt: &impl Abort, cx: &mut Cx) {
     let region = cx
         .mk_region(RegionKind::RePlaceholder(placeholder))
         .expect(rt, "memory");
-    let args = cx.mk_args(&[region.into()]).expect(rt, "memory");
+    let args = only(rt, cx, region.into());
     fitting(rt, cx, DefId::Alias(AliasDefId::Ty(item)), args);
     let alias = AliasTerm {
         def_id: AliasDefId::Ty(item),
@@ -192,9 +212,8 @@ fn see_declared_consts(rt: &impl Abort, cx: &mut Cx) {
     let list = cx
         .declare_ctor(&[Sort::Ty], &[Variance::Covariant])
         .expect(rt, "memory");
-    let position = |var| TyKind::Bound(BoundVarIndexKind::Canonical, BoundTy { var });
-    let first = cx.mk_ty(position(0)).expect(rt, "memory");
-    let args = cx.mk_args(&[first.into()]).expect(rt, "memory");
+    let first = position(rt, cx, 0);
+    let args = only(rt, cx, first.into());
     fitting(rt, cx, DefId::Ctor(list), args);
     let ty = cx.mk_ty(TyKind::Ctor(list, args)).expect(rt, "memory");
     held(rt, cx, ty);
@@ -203,7 +222,12 @@ fn see_declared_consts(rt: &impl Abort, cx: &mut Cx) {
     assert!(rt; cx.is_const_type(&[Sort::Ty], ty).expect(rt, "memory"));
     let length = cx.declare_const(&[Sort::Ty], ty).expect(rt, "memory");
     assert!(rt; cx.declarations.const_type(length) == Some(ty));
-    let none = cx.mk_args(&[]).expect(rt, "memory");
+    see_unevaluated(rt, cx, length, args);
+}
+
+/// A const of one argument that is to be evaluated takes these, and not none.
+fn see_unevaluated(rt: &impl Abort, cx: &mut Cx, length: ConstId, args: GenericArgs) {
+    let none = nothing(rt, cx);
     assert!(rt; !cx.fits(DefId::Alias(AliasDefId::Const(length)), none));
     fitting(rt, cx, DefId::Alias(AliasDefId::Const(length)), args);
     let def_id = AliasDefId::Const(length);
@@ -244,15 +268,13 @@ fn see_types_of_consts(rt: &impl Abort, cx: &mut Cx) {
         !cx.is_const_type(&[Sort::Ty], parameter)
             .expect(rt, "memory")
     );
-    let variable = cx
-        .mk_ty(TyKind::Infer(InferTy::TyVar(0)))
-        .expect(rt, "memory");
+    let variable = variable(rt, cx, 0);
     assert!(rt; !cx.is_const_type(&[Sort::Ty], variable).expect(rt, "memory"));
     let bound = cx
         .mk_ty(TyKind::Bound(BoundVarIndexKind::Bound(0), BoundTy { var: 0 }))
         .expect(rt, "memory");
     assert!(rt; !cx.is_const_type(&[Sort::Ty], bound).expect(rt, "memory"));
-    let byte = cx.mk_ty(TyKind::Uint(UintTy::U8)).expect(rt, "memory");
+    let byte = byte(rt, cx);
     assert!(rt; cx.is_const_type(&[], byte).expect(rt, "memory"));
 }
 
@@ -276,6 +298,12 @@ fn see_nodes(rt: &impl Abort, nodes: &mut Nodes) {
     assert!(rt; !nodes.flags(args).has_infer);
     assert!(rt; nodes.contains(args));
     assert_eq!(rt; binders_of(nodes.label(args)), 0);
+    see_a_handle(rt, nodes, error);
+}
+
+/// A node of a type is one as a handle, a term and an argument.
+fn see_a_handle(rt: &impl Abort, nodes: &Nodes, error: NodeId) {
+    assert!(rt; nodes.contains(error));
     let ty = Ty::from_node(error);
     assert!(rt; Stored::node(ty) == error);
     assert!(rt; Ty::may_have(nodes.label(error)));

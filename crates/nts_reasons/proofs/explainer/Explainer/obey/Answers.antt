@@ -1,16 +1,8 @@
 use Rattle.std.proofs.Common.{refl, inl}
-use Rattle.std.specs.Prelude.{Result, Ok, Err, IfOk, OnErr}
+use Rattle.nts_program.proofs.Obeyed.{never_passed, on_error}
 use Rattle.nts_reasons.proofs.Does.{obeyed}
 use Rattle.nts_reasons.proofs.Lining.{lines_kept}
 use Rattle.nts_reasons.proofs.explainer.Explainer.obey.Goals as goal
-
-never_passed : {X E : Type 0} (P : Type 0) (Q : X → Type 0) (r : Result X E) → (P → ⊥) → IfOk r (λ o. P → Q o)
-never_passed P Q (Ok o) n = λ p. absurd (n p)
-never_passed P Q (Err e) n = tt
-
-on_error : {X E : Type 0} (P : Type 0) (r : Result X E) → P → OnErr r P
-on_error P (Ok o) p = tt
-on_error P (Err e) p = p
 
 pub returns-in-Some-clause-passed : goal.returns-in-Some-clause-passed
 returns-in-Some-clause-passed c = never_passed _ _ c.follow.result (λ p. (let e = c.in_ok-command.ensures in let passed = rw c.in-Some.is at e.passed in let different = passed.1 p in cc different))

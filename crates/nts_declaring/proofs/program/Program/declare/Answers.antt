@@ -1,0 +1,13 @@
+use Rattle.std.specs.Prelude.{Result, Ok, Err, OnOk}
+use Rattle.nts_declaring.proofs.program.Program.declare.Goals as goal
+
+both_ok : {T E A B C : Type 0} (r : Result T E) → OnOk r A → OnOk r B → (A → B → C) → OnOk r C
+both_ok (Ok x) a b f = f a b
+both_ok (Err e) a b f = tt
+
+-- the clause that the line says is the one that is added
+pub returns-in-Impl-clause-declares : goal.returns-in-Impl-clause-declares
+returns-in-Impl-clause-declares c =
+    let e = c.add_impl.ensures in
+    both_ok c.add_impl.result e.added e.grows
+    (λ a g. rw c.in-Impl.is (a.0, a.1, rw (c.deref-in-Impl.ensures.value, c.deref-in-Impl-2.ensures.value) at a.2, g, e.mode, e.env))

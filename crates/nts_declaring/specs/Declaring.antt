@@ -1,0 +1,76 @@
+-- What the lines of a run have said, and what they declare.
+use Rattle.std.specs.Prelude.{◌≡◌, ℕ, true, false, List, [], length, map, Option, None, Some}
+use Rattle.nts_model.specs.declared.labels.Sort.{Sort}
+use Rattle.nts_terms.specs.declared.cx.Cx.{Cx}
+use Rattle.nts_terms.specs.declared.handles.ParamEnv.{ParamEnv}
+use Rattle.nts_terms.specs.Rest.{Grows}
+use Rattle.nts_terms.specs.Signatures.{nothing_declared, with_ctor, with_trait}
+use Rattle.nts_delegate.specs.Adding.{AddsClause, MakesCoinductive}
+use Rattle.nts_delegate.specs.Clauses.{clauses_of, coinductive_of}
+use Rattle.nts_delegate.specs.declared.clauses.Clause.{Clause}
+use Rattle.nts_text.specs.NameTable.{declared_as}
+use Rattle.nts_text.specs.Resolution.{trait_sorts}
+use Rattle.nts_text.specs.Spelled.{type_names, region_names}
+use Rattle.nts_text.specs.declared.commands.Command.{Command}
+use Rattle.nts_text.specs.declared.commands.Command.TheVariants as commands
+use Rattle.nts_text.specs.declared.parser.Mode.TheVariants as modes
+use Rattle.nts_text.specs.declared.parser.Param.{Param}
+use Rattle.nts_text.specs.declared.resolver.Resolved.{Resolved}
+use Rattle.nts_declaring.specs.declared.program.Program.{Program}
+use Rattle.nts_wording.specs.Meaning.{IsRuleOf, IsEnvironmentFor}
+
+-- a program that was told nothing: there are no terms, declarations, rules, names or parameters, and
+-- the depth is 128 and the mode analysis
+pub record IsNewProgram (p : Program) : Type 0 where
+  pub nodes : p.cx.nodes ≡ []
+  pub declarations : p.cx.declarations ≡ nothing_declared
+  pub depth : p.cx.recursion_limit ≡ 128
+  pub steps : p.cx.step_limit ≡ 8
+  pub rounds : p.cx.round_limit ≡ 8
+  pub division : p.cx.depth_division ≡ 4
+  pub fast_paths : p.cx.disable_fast_paths ≡ false
+  pub clauses : (i : ℕ) → clauses_of p.clauses i ≡ []
+  pub coinductive : (i : ℕ) → coinductive_of p.clauses i ≡ false
+  pub names : (name : List ℕ) → declared_as p.names name ≡ None
+  pub types : type_names p.scope.parameters ≡ []
+  pub regions : region_names p.scope.parameters ≡ []
+  pub mode : p.mode ≡ modes.Analysis
+  pub env : p.env ≡ None
+
+-- names and declarations are in step: the types and the traits that have names are those of the store,
+-- in order, with their sorts
+pub record IsInStep (p : Program) : Type 0 where
+  pub types : map (λ s. s.sorts.items) p.names.types.items ≡ map (λ d. d.sorts) p.cx.declarations.ctors
+  pub traits : map (λ s. s.sorts.items) p.names.traits.items ≡ p.cx.declarations.traits
+
+-- the rules, the mode and the environment stay
+pub record KeepsRules (old new : Program) : Type 0 where
+  pub clauses : new.clauses ≡ old.clauses
+  pub mode : new.mode ≡ old.mode
+  pub env : new.env ≡ old.env
+
+-- the environment is that of the predicates that the nodes say
+abbrev pub AssumesNodes : List Resolved → Program → Type 0
+AssumesNodes rs new = (e : ParamEnv) × (new.env ≡ Some e) × IsEnvironmentFor new.cx.nodes rs e
+
+-- a type is declared with these parameters, and a trait over these sorts: nothing else of the store changes
+abbrev pub DeclaresType : List Param → Cx → Cx → Type 0
+DeclaresType params old new =
+    new ≡ record old { declarations = with_ctor old.declarations (map (λ p. p.sort) params) (map (λ p. p.variance) params) }
+
+abbrev pub DeclaresTrait : List Sort → Cx → Cx → Type 0
+DeclaresTrait sorts old new = new ≡ record old { declarations = with_trait old.declarations sorts }
+
+-- what a command changes: a goal declares nothing
+abbrev pub HasDeclared : Program → Program → Command → Type 0
+HasDeclared old new (commands.Mode m) = (new.mode ≡ m) × (new.cx ≡ old.cx) × (new.clauses ≡ old.clauses) × (new.env ≡ old.env)
+HasDeclared old new (commands.Depth d) = (new.cx ≡ record old.cx { recursion_limit = d }) × KeepsRules old new
+HasDeclared old new (commands.Type n params) = DeclaresType params.items old.cx new.cx × KeepsRules old new
+HasDeclared old new (commands.Trait n true) =
+    DeclaresTrait (trait_sorts new.names n) old.cx new.cx × MakesCoinductive old.clauses new.clauses (length old.cx.declarations.traits) × (new.mode ≡ old.mode) × (new.env ≡ old.env)
+HasDeclared old new (commands.Trait n false) = DeclaresTrait (trait_sorts new.names n) old.cx new.cx × KeepsRules old new
+HasDeclared old new (commands.Impl head body) =
+    (c : Clause) × AddsClause old.clauses new.clauses c × IsRuleOf new.cx.nodes head.items body.items c
+    × Grows old.cx new.cx × (new.mode ≡ old.mode) × (new.env ≡ old.env)
+HasDeclared old new (commands.Goal nodes) = (new.cx ≡ old.cx) × KeepsRules old new
+HasDeclared old new (commands.Env nodes) = AssumesNodes nodes.items new × Grows old.cx new.cx × (new.clauses ≡ old.clauses) × (new.mode ≡ old.mode)

@@ -1,0 +1,6 @@
+//! Why a candidate does not serve a goal, as data.
+#![tactic(auto)]
+
+mod kinds;
+
+pub use kinds::Reason;

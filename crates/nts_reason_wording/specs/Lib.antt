@@ -1,0 +1,4 @@
+pub mod Held
+pub mod ImplLines
+pub mod Origins
+pub mod Reasons

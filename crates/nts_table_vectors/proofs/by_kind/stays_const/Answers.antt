@@ -1,0 +1,5 @@
+use Rattle.nts_table.specs.TableLaws.{IsTable-extended}
+use Rattle.nts_table_vectors.proofs.by_kind.stays_const.Goals as goal
+
+pub returns : goal.returns
+returns c = IsTable-extended c.shallow_resolve_const.ensures.grows.extends c.requires
