@@ -1,7 +1,7 @@
 #!/usr/bin/env bash
 # Compares the library example of README.md with the crate that it is quoted from. Then cases.py runs the programs of this folder
-# and the short texts of cases/. Where the proved program is built (the gate leaves it), it runs these, and is then used by hand:
-# each answer comes before the next line is sent.
+# and the short texts of cases/. Where the proved program is built (the gate leaves it), it runs these, its answers on random programs
+# are compared with what a plain search finds (against.py), and it is used by hand: each answer comes before the next line is sent.
 set -u
 here=$(cd "$(dirname "$0")" && pwd)
 quoted=$(sed -n '/^```rust$/,/^```$/p' "$here/../README.md" | sed '1d;$d')
@@ -25,8 +25,11 @@ by_hand() {
     [ "$first $second" = 'yes no' ]
 }
 if [ ! -x out/nts ]; then
-    echo "examples: the proved program is not built, so it was not used by hand"
-elif by_hand; then
+    echo "examples: the proved program is not built, so it was not used by hand, nor on random programs"
+    exit 0
+fi
+python3 "$here/against.py" --programs 100 || exit 1
+if by_hand; then
     echo "examples: each answer comes before the next line is sent"
 else
     echo "examples: an answer waits for the next line"

@@ -1,6 +1,7 @@
 #!/usr/bin/env bash
 # Tries the wrong bodies of crates/NAME/wrong-bodies/, of the crates that are named or of all, as the gate tries those of must-fail/.
-# The gate leaves these out for their time: each crate with any is proved once more. It works on a copy of what is committed.
+# The gate leaves these out for their time: each crate with any is proved once more. It works on a copy of what is committed, and
+# what a gate has proved on this machine it takes as proved. The last line is 'N passed, M failed'.
 set -eu
 cd "$(dirname "$0")/.."
 work=$(mktemp -d)
@@ -17,4 +18,4 @@ for name in "${names[@]}"; do
     mkdir -p "crates/$name/must-fail"
     cp "crates/$name"/wrong-bodies/*.edit "crates/$name/must-fail/"
 done
-rt must-fail "${names[@]}"
+rt ci "${names[@]}"
