@@ -1,8 +1,10 @@
 #!/usr/bin/env python3
 r"""Compares what `nts` prints, and its exit status, with what it should: for each program NAME.nts of this folder, with
-NAME.out beside it, for the cases of cases/*.cases, and for a few long ones that are made here.
+NAME.out beside it, for the cases of cases/*.cases, and for a few long ones that are made here. Likewise what `nts_why` prints
+for the cases of cases/why.
 
-The proved program is run where it is built (the gate leaves it), and else one that is built without proof.
+The proved programs are run where they are built (the gate leaves them). Else `nts` is built without proof, and `nts_why` is left
+out.
 
 A file has the cases of one topic, with comments between them:
 
@@ -30,6 +32,7 @@ import tempfile
 HERE = os.path.dirname(os.path.abspath(__file__))
 CRATE = os.path.join(HERE, "..", "crates", "nts")
 PROGRAM = os.path.join(CRATE, "out", "nts")
+WHY = os.path.join(HERE, "..", "crates", "nts_why", "out", "nts_why")
 OPTIONS = re.compile(r"((status \d+|escapes|no line feed at the end)\n)*")
 
 Case = collections.namedtuple("Case", "name text output status")
@@ -73,8 +76,8 @@ def programs():
             yield Case(os.path.basename(path), text.read(), output, status)
 
 
-def written_cases():
-    for path in sorted(glob.glob(os.path.join(HERE, "cases", "*.cases"))):
+def written_cases(*folder):
+    for path in sorted(glob.glob(os.path.join(HERE, "cases", *folder, "*.cases"))):
         topic = os.path.basename(path)
         with open(path, encoding="utf-8") as file:
             for block in re.split(r"^== ", file.read(), flags=re.M)[1:]:
@@ -112,6 +115,25 @@ def long_cases():
     yield "a goal of height 100, at a depth above it, at it, and below", [*rules, *depths], answers
 
 
+def cut_cases():
+    """A text that is cut after each of its bytes: up to its last bracket it is refused in one line, or says nothing."""
+    lines = ["trait T(type)", "type W(type)", "impl T(u32)", "impl T(W(?A)) <- T(?A)", "goal T(W(u32))"]
+    text = bytes_of_lines(lines)
+    for end in range(len(text) + 1):
+        yield text[:end], end >= len(text) - 1
+
+
+def faults_of_cut(text, is_whole):
+    run = subprocess.run([PROGRAM], input=text, stdout=subprocess.PIPE, timeout=60)
+    if is_whole:
+        is_right = (run.returncode, run.stdout) == (0, b"yes\n")
+    elif run.returncode == 0:
+        is_right = run.stdout == b""
+    else:
+        is_right = run.returncode == 2 and re.fullmatch(rb"line \d+: .+\n", run.stdout)
+    return [] if is_right else [f"status {run.returncode}, {run.stdout}"]
+
+
 def bytes_of_lines(lines):
     return "".join(f"{line}\n" for line in lines).encode()
 
@@ -128,10 +150,10 @@ def shown(output):
     return [line[:200] for line in output.decode(errors="backslashreplace").split("\n")]
 
 
-def faults_proved(case):
-    """What is wrong with what the proved program does."""
+def faults_proved(case, program=PROGRAM):
+    """What is wrong with what a proved program does."""
     try:
-        run = subprocess.run([PROGRAM], input=case.text, stdout=subprocess.PIPE, timeout=60)
+        run = subprocess.run([program], input=case.text, stdout=subprocess.PIPE, timeout=60)
     except subprocess.TimeoutExpired:
         return ["it does not end in a minute"]
     faults = []
@@ -165,6 +187,13 @@ def main():
     cases = list(all_cases())
     if os.access(PROGRAM, os.X_OK):
         faults = [faults_proved(case) for case in cases]
+        for text, is_whole in cut_cases():
+            cases.append(Case(f"cut: {text}", text, b"", 0))
+            faults.append(faults_of_cut(text, is_whole))
+        if os.access(WHY, os.X_OK):
+            told = list(written_cases("why"))
+            cases += told
+            faults += [faults_proved(case, WHY) for case in told]
     else:
         print("cases: the proved program is not built, so one that is built without proof is run")
         faults = faults_unproved(cases)

@@ -1,7 +1,8 @@
 #!/usr/bin/env bash
 # Compares the library example of README.md with the crate that it is quoted from. Then cases.py runs the programs of this folder
 # and the short texts of cases/. Where the proved program is built (the gate leaves it), it runs these, its answers on random programs
-# are compared with what a plain search finds (against.py), and it is used by hand: each answer comes before the next line is sent.
+# are compared with what a plain search finds (against.py), and it is used by hand: each answer comes before the next line is sent,
+# and a run whose output can't be written fails.
 set -u
 here=$(cd "$(dirname "$0")" && pwd)
 quoted=$(sed -n '/^```rust$/,/^```$/p' "$here/../README.md" | sed '1d;$d')
@@ -35,3 +36,13 @@ else
     echo "examples: an answer waits for the next line"
     exit 1
 fi
+for name in nts nts_why; do
+    cd "$here/../crates/$name" || exit 1
+    [ -x "out/$name" ] || continue
+    "out/$name" < stdin > /dev/full
+    if [ $? != 1 ]; then
+        echo "examples: $name does not say by its status that nothing could be written"
+        exit 1
+    fi
+done
+echo "examples: a run whose output can't be written fails"

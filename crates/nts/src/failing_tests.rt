@@ -1,4 +1,4 @@
-//! Texts that are cut, and reads and writes that fail in turn.
+//! Reads and writes that fail in turn.
 use nts_program::{Status, run};
 use std::io::{self, ErrorKind, Read, Write};
 use std::process::Abort;
@@ -119,28 +119,4 @@ fn an_answer_is_not_made_in_memory(rt: HostRuntime) {
     let status = run(rt.alloc(), ENDLESS, &mut output);
     assert_eq!(rt; status, Status::Failed);
     assert!(rt; output.taken.starts_with(b"yes\n  ?y = Q(Q(Q(Q("));
-}
-
-/// A text that is cut after each of its bytes: it is refused in one line or says nothing, and from its last bracket on it is
-/// answered.
-#[test]
-fn cut_texts(rt: HostRuntime) {
-    let text =
-        b"trait Clone(type)\ntype Vec(type)\nimpl Clone(u32)\nimpl Clone(Vec(?T)) <- Clone(?T)\ngoal Clone(Vec(u32))\n";
-    let whole = text.len() - 1;
-    for end in 0..text.len() {
-        let mut output = Vec::new(rt.alloc());
-        let status = run(rt.alloc(), &text[..end], &mut output);
-        if end >= whole {
-            assert_eq!(rt; status, Status::Done);
-            assert!(rt; output.as_slice() == b"yes\n".as_slice());
-        } else if status == Status::Done {
-            assert!(rt; output.is_empty());
-        } else {
-            assert_eq!(rt; status, Status::Refused);
-            assert!(rt; output.starts_with(b"line "));
-            let lines = output.iter().filter(|byte| **byte == b'\n').count();
-            assert_eq!(rt; lines, 1);
-        }
-    }
 }

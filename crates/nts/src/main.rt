@@ -8,8 +8,6 @@
 mod failing_tests;
 #[cfg(test)]
 mod limit_tests;
-#[cfg(test)]
-mod tests;
 
 use nts_program::{Status, run};
 use std::io::{self, BufWriter};

@@ -1,20 +1,20 @@
 -- What an insertion does to a store, and what is read at a place.
-use Rattle.std.proofs.Common.{◌≡◌, ⊎_elim, ℕ, zero, suc, ◌+◌, ◌<◌, ◌≤◌, Bool, true, false, ◌||◌, List, [], ◌∷◌, ◌++◌, length, get_or, Some, refl, sym, ap, subst, ◌∙◌, arith, rules, length-append, add-zero, zero-add}
+use Rattle.std.proofs.Common.{◌≡◌, ⊎_elim, ℕ, zero, suc, ◌+◌, ◌<◌, ◌≤◌, List, [], ◌∷◌, ◌++◌, length, get_or, Option, Some, None, refl, sym, ap, subst, ◌∙◌, arith, rules, length-append, add-zero, zero-add}
 use Rattle.std.specs.Prelude.{◌↔◌, IsTrue, slice_get}
-use Rattle.std.specs.List.{list_any}
-use Rattle.indexmap.specs.IndexSet.{insert_key}
 use Rattle.std.proofs.lemmas.Bool.{cases_lt}
 use Rattle.std.proofs.lemmas.Option.{slice_get_within, get_or_from_slice_get, slice_get-get_or}
-use Rattle.nts_model.specs.Terms.Trees.{Tree, empty, node}
+use Rattle.nts_model.specs.declared.labels.Label.{Label}
+use Rattle.nts_model.specs.Terms.Trees.{Tree, empty, node, shape, Meets}
 use Rattle.nts_model.specs.Terms.Scoping.{IsWellBound}
 use Rattle.nts_store.specs.declared.nodes.NodeId.{NodeId}
 use Rattle.nts_store.specs.declared.nodes.Node.{Node}
-use Rattle.nts_store.specs.contracts.nodes.NodePartialEq.TheImpl as node_eq
 use Rattle.nts_store.specs.TypeFlags.{flags_of}
 use Rattle.nts_store.specs.Growth.{tree_at, trees_at, IsIn, AllIn, AllBelow, Extends, AreApart, IsTheOne}
 use Rattle.nts_store.specs.Store.{tree_of_node, grown, trees, IsNode, IsGrown, IsShared}
 use Rattle.nts_store.proofs.Growing.{Extends-refl, Extends-trans, AllIn-extended, trees_at-extended, Extends-push, get_or-front, get_or-last}
-use Rattle.nts_store.proofs.Equal.{AreOne, one_answer, one_node, node_one}
+use Rattle.nts_store.specs.declared.index.Shape.{Shape}
+use Rattle.nts_store.specs.declared.index.Index.{Index}
+use Rattle.nts_store.specs.Index.{HasShape, IsOfShape, HasShapeAt, number_in, IsIndex}
 
 pub grown-push : (ts : List Tree) (ns : List Node) (n : Node) → grown ts (ns ++ n ∷ []) ≡ grown ts ns ++ tree_of_node (grown ts ns) n ∷ []
 grown-push ts [] n = refl
@@ -118,30 +118,21 @@ trees_at-apart ts (c ∷ cs) (d ∷ ds) a h k e =
     let rest : trees_at ts cs ≡ trees_at ts ds = cc in
     cc (term-apart ts c d a h.0 k.0 first, trees_at-apart ts cs ds a h.1 k.1 rest)
 
-list_any-at : (p : Node → Bool) (ns : List Node) (i : ℕ) (n : Node) → i < length ns → get_or ns i n ≡ n → p n ≡ true → list_any p ns ≡ true
-list_any-at p [] i n h e t = absurd (omega arith)
-list_any-at p (m ∷ ns) zero n h e t = rw (e, t) refl
-list_any-at p (m ∷ ns) (suc i) n h e t = let r = list_any-at p ns i n (omega arith) e t in rw r (by_case (p m))
-  where
-    by_case : (b : Bool) → (b || true) ≡ true
-    by_case true = refl
-    by_case false = refl
-
 -- a node that the store lacks is no tree of the store
-new_tree : (ns : List Node) (n : Node) (j : ℕ) → IsShared ns → IsNode (trees ns) n → list_any (node_eq.ghosts.eq n) ns ≡ false → j < length ns → tree_of_node (trees ns) n ≡ get_or (trees ns) j empty → ⊥
-new_tree ns n j s h f k e =
+new_tree : (x : Index) (n : Node) (s : Shape) (j : ℕ) → IsShared x.nodes.items → IsIndex x → IsNode (trees x.nodes.items) n → HasShape n s → number_in x s ≡ None → j < length x.nodes.items
+    → tree_of_node (trees x.nodes.items) n ≡ get_or (trees x.nodes.items) j empty → ⊥
+new_tree x n s j shared index h shape none k e =
+    let ns = x.nodes.items in
     let m = get_or ns j n in
     let at : get_or ns j m ≡ m = search (rules, get_or_from_slice_get, slice_get-get_or) in
-    let r = found ns (trees ns) j m refl s k at in
+    let r = found ns (trees ns) j m refl shared k at in
     let is = e ∙ r.is in
     let label : n.label ≡ m.label = cc in
     let kids : trees_at (trees ns) n.children.items ≡ trees_at (trees ns) m.children.items = cc in
-    let items = trees_at-apart (trees ns) n.children.items m.children.items s.apart h.all r.is_node.all kids in
-    let flags = h.flags ∙ ap flags_of is ∙ sym r.is_node.flags in
-    let well = one_answer n.is_well_bound m.is_well_bound (IsWellBound (tree_of_node (trees ns) n)) h.well_bound (subst (λ t. IsTrue m.is_well_bound ↔ IsWellBound t) (sym is) r.is_node.well_bound) in
-    let one : AreOne n m = record { labels = label; items = items; flags = flags; well_bound = well } in
-    let there = list_any-at (node_eq.ghosts.eq n) ns j m k at (node_one n m one) in
-    cc
+    let items = trees_at-apart (trees ns) n.children.items m.children.items shared.apart h.all r.is_node.all kids in
+    let of_shape : HasShape m s = record { label = sym label ∙ shape.label; children = sym items ∙ shape.children } in
+    let there : slice_get ns j ≡ Some m = slice_get-get_or ns j n k in
+    index.all s j (rw there of_shape) none
 
 apart-push : (ts : List Tree) (t : Tree) → AreApart ts → ((j : ℕ) → j < length ts → t ≡ get_or ts j empty → ⊥) → AreApart (ts ++ t ∷ [])
 apart-push ts t a new i j h k e =
@@ -163,41 +154,85 @@ pub record Kept (ns ms : List Node) : Type 0 where
   pub shared : IsShared ms
   pub extends : Extends (trees ns) (trees ms)
 
--- what an insertion does
-pub inserted : (ns ms : List Node) (n : Node) → IsShared ns → IsNode (trees ns) n → ms ≡ insert_key node_eq.ghosts.eq ns n → Kept ns ms
-inserted ns ms n s h e = by_case (list_any (node_eq.ghosts.eq n) ns) refl
-  where
-    by_case : (b : Bool) → list_any (node_eq.ghosts.eq n) ns ≡ b → Kept ns ms
-    by_case true q = let same : ms ≡ ns = e ∙ rw q refl in record { shared = rw same s; extends = rw same (Extends-refl (trees ns)) }
-    by_case false q =
-        let more_of : ms ≡ ns ++ n ∷ [] = e ∙ rw q refl in
-        let t = tree_of_node (trees ns) n in
-        let is : trees ms ≡ trees ns ++ t ∷ [] = ap trees more_of ∙ grown-push [] ns n in
-        let len = length-trees ns in
-        record {
-          shared = record {
-            ordered = rw more_of (IsGrown-push [] ns n s.ordered h);
-            apart = rw is (apart-push (trees ns) t s.apart (λ j k w. new_tree ns n j s h q (omega (arith, len)) w));
-          };
-          extends = rw is (Extends-push (trees ns) t);
-        }
+pub kept_same : (ns : List Node) → IsShared ns → Kept ns ns
+kept_same ns s = record { shared = s; extends = Extends-refl (trees ns) }
+
+-- what adding a node does whose shape is new
+pub kept_more : (x : Index) (ms : List Node) (n : Node) (s : Shape) → IsShared x.nodes.items → IsIndex x → IsNode (trees x.nodes.items) n → HasShape n s → number_in x s ≡ None → ms ≡ x.nodes.items ++ n ∷ [] → Kept x.nodes.items ms
+kept_more x ms n s shared index h shape none more_of =
+    let ns = x.nodes.items in
+    let t = tree_of_node (trees ns) n in
+    let is : trees ms ≡ trees ns ++ t ∷ [] = ap trees more_of ∙ grown-push [] ns n in
+    let len = length-trees ns in
+    record {
+      shared = record {
+        ordered = rw more_of (IsGrown-push [] ns n shared.ordered h);
+        apart = rw is (apart-push (trees ns) t shared.apart (λ j k w. new_tree x n s j shared index h shape none (omega (arith, len)) w));
+      };
+      extends = rw is (Extends-push (trees ns) t);
+    }
 
 -- the tree that it answers
-pub record Answered (ms : List Node) (ts : List Tree) (at : ℕ) (n : Node) : Type 0 where
+pub record Answered (ms : List Node) (ts : List Tree) (at : ℕ) (l : Label) (cs : List NodeId) : Type 0 where
   pub within : at < length (trees ms)
-  pub is : get_or (trees ms) at empty ≡ tree_of_node ts n
+  pub is : get_or (trees ms) at empty ≡ node l (trees_at ts cs)
 
-pub answered : (ns ms : List Node) (n k : Node) (at : ℕ) → Kept ns ms → IsNode (trees ns) n → slice_get ms at ≡ Some k → node_eq.ghosts.eq n k ≡ true → Answered ms (trees ns) at n
-answered ns ms n k at kept h e q =
+answered_at : (ns ms : List Node) (at : ℕ) (s : Shape) (o : Option Node) → slice_get ms at ≡ o → Kept ns ms → AllIn (trees ns) s.children.items → IsOfShape o s → Answered ms (trees ns) at s.label s.children.items
+answered_at ns ms at s None e kept all h = absurd h
+answered_at ns ms at s (Some k) e kept all h =
     let within : at < length ms = slice_get_within ms at k e in
     let here : get_or ms at k ≡ k = get_or_from_slice_get ms at k k e in
-    let w = one_node n k q in
-    let same : trees_at (trees ms) k.children.items ≡ trees_at (trees ns) n.children.items =
-    ap (trees_at (trees ms)) (sym w.items) ∙ trees_at-extended kept.extends n.children.items h.all in
+    let same : trees_at (trees ms) k.children.items ≡ trees_at (trees ns) s.children.items =
+    ap (trees_at (trees ms)) h.children ∙ trees_at-extended kept.extends s.children.items all in
     record {
       within = omega (arith, length-trees ms);
-      is = (found ms (trees ms) at k refl kept.shared within here).is ∙ cc (same, w.labels);
+      is = (found ms (trees ms) at k refl kept.shared within here).is ∙ cc (same, h.label);
     }
+
+pub answered : (ns ms : List Node) (at : ℕ) (s : Shape) → Kept ns ms → AllIn (trees ns) s.children.items → HasShapeAt ms at s → Answered ms (trees ns) at s.label s.children.items
+answered ns ms at s kept all h = answered_at ns ms at s (slice_get ms at) refl kept all h
+
+-- the node that was added stands last
+pub last_has : (ns : List Node) (n : Node) (s : Shape) → HasShape n s → HasShapeAt (ns ++ n ∷ []) (length ns) s
+last_has [] n s h = h
+last_has (m ∷ ns) n s h = last_has ns n s h
 
 pub only_one : {ns : List Node} (ms : List Node) (t : NodeId) → Kept ns ms → IsIn (trees ms) t → IsTheOne (trees ms) t
 only_one ms t kept h = λ u k e. term-apart (trees ms) u t kept.shared.apart k h e
+
+-- a term of the store with that label and these children
+pub record IsMade (ts us : List Tree) (at : ℕ) (l : Label) (cs : List NodeId) : Type 0 where
+  pub within : at < length us
+  pub is : get_or us at empty ≡ node l (trees_at ts cs)
+  pub one : IsTheOne us (record { number = at })
+  pub extends : Extends ts us
+
+made : (ns ms : List Node) (ts us : List Tree) (at : ℕ) (s : Shape) (cs : List NodeId) → trees ns ≡ ts → trees ms ≡ us → Kept ns ms → AllIn ts cs → s.children.items ≡ cs → HasShapeAt ms at s → IsMade ts us at s.label cs
+made ns ms ts us at s cs v w kept all same h =
+    let a = answered ns ms at s kept (rw (same, v) all) h in
+    record {
+      within = rw (← w) a.within;
+      is = rw (← w, ← v, ← same) a.is;
+      one = rw (← w) (only_one ms (record { number = at }) kept a.within);
+      extends = rw (← w, ← v) kept.extends;
+    }
+
+-- it was there
+pub found_again : (ns : List Node) (ts : List Tree) (at : ℕ) (s : Shape) (cs : List NodeId) → trees ns ≡ ts → IsShared ns → AllIn ts cs → s.children.items ≡ cs → HasShapeAt ns at s → IsMade ts ts at s.label cs
+found_again ns ts at s cs v shared all same h = made ns ns ts ts at s cs v v (kept_same ns shared) all same h
+
+-- or is added
+pub made_anew : (x : Index) (ms : List Node) (n : Node) (ts : List Tree) (at : ℕ) (s : Shape) (cs : List NodeId) → trees x.nodes.items ≡ ts → Kept x.nodes.items ms → AllIn ts cs → s.children.items ≡ cs → HasShape n s → at ≡ length x.nodes.items → ms ≡ x.nodes.items ++ n ∷ []
+    → IsMade ts (trees ms) at s.label cs
+made_anew x ms n ts at s cs v kept all same shape last nodes =
+    made x.nodes.items ms ts (trees ms) at s cs v refl kept all same (rw (nodes, last) (last_has x.nodes.items n s shape))
+
+-- the facts of a node over its children
+pub is_node : (ns : List Node) (ts : List Tree) (n : Node) (cs : List NodeId) → trees ns ≡ ts → AllIn ts cs → n.children.items ≡ cs → Meets (shape n.label) (trees_at ts cs) → n.flags ≡ flags_of (node n.label (trees_at ts cs)) → (IsTrue n.is_well_bound ↔ IsWellBound (node n.label (trees_at ts cs))) → IsNode (trees ns) n
+is_node ns ts n cs v all same formed flags bound =
+    rw v (record {
+      all = rw same all;
+      formed = rw same formed;
+      flags = rw same flags;
+      well_bound = rw same bound;
+    })

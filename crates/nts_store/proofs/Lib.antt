@@ -11,3 +11,4 @@ pub mod Replacing
 pub mod SharingExamples
 pub mod Walking
 pub mod WellBound
+mod Indexing

@@ -9,3 +9,4 @@ pub mod Replacement
 pub mod Sorts
 pub mod Store
 pub mod Under
+pub mod Index

@@ -6,6 +6,7 @@
 #![tactic(auto)]
 
 mod fault;
+mod index;
 mod instantiate;
 mod labels_walk;
 mod levels_walk;

@@ -7,9 +7,9 @@ ghost use Rattle.nts_store.specs.Formed.{AreFormed};
 ghost use Rattle.nts_store.specs.TypeFlags.{flags_of};
 ghost use Rattle.nts_store.specs.Sorts.{ChildrenFit};
 
+use crate::index::{Index, Shape, copied};
 use crate::levels_walk::all_listed;
 use crate::type_flags::{TypeFlags, binders_of};
-use indexmap::IndexSet;
 use nts_model::Label;
 use std::alloc::{AllocError, Global};
 use std::marker::Model;
@@ -20,20 +20,20 @@ pub struct NodeId {
     pub number: usize,
 }
 
-#[derive(PartialEq, Eq, Hash, Drop)]
-struct Node {
-    label: Label,
-    children: Vec<NodeId>,
-    flags: TypeFlags,
+#[derive(Drop)]
+pub(crate) struct Node {
+    pub label: Label,
+    pub children: Vec<NodeId>,
+    pub flags: TypeFlags,
     /// Whether each bound variable of a binder in the tree is of that binder's list.
-    is_well_bound: bool,
+    pub is_well_bound: bool,
 }
 
 /// The nodes of all terms, each once. A caller sees the list of their trees.
 #[derive(Drop)]
 pub struct Nodes {
     alloc: Global,
-    nodes: IndexSet<Node>,
+    index: Index,
 }
 
 impl Model for Nodes {
@@ -49,9 +49,11 @@ impl Model for Nodes {
 
     ghost use Rattle.nts_store.specs.Store.{trees, IsShared};
 
-    ghost view = { λ c. trees c.nodes.keys };
+    ghost view = { λ c. trees c.index.nodes.items };
 
-    ghost invariant = { λ c. IsShared c.nodes.keys };
+    ghost use Rattle.nts_store.specs.Index.{IsIndex};
+
+    ghost invariant = { λ c. IsShared c.index.nodes.items × IsIndex c.index };
 }
 
 impl Nodes {
@@ -61,7 +63,7 @@ impl Nodes {
     {
         Nodes {
             alloc,
-            nodes: IndexSet::new(alloc),
+            index: Index::new(alloc),
         }
     }
 
@@ -69,7 +71,7 @@ impl Nodes {
     pub fn len(&self) -> usize
         ensures count { result ≡ length self.now }
     {
-        self.nodes.len()
+        self.index.nodes.len()
     }
 
     /// What the store keeps of its terms, for a proof that rests on it: no two of them have equal trees, and in each tree the nodes
@@ -78,7 +80,7 @@ impl Nodes {
         ensures apart { AreApart self.now }
         ensures formed { AreFormed self.now }
     {
-        let _ = self.nodes.len();
+        let _ = self.index.nodes.len();
     }
 
     /// The term with that label and these children: the only one of the store with this tree. Every older term keeps its tree.
@@ -92,16 +94,20 @@ impl Nodes {
         ensures extends { Extends self.old self.new }
         ensures err { OnErr result (self.new ≡ self.old) }
     {
-        let flags = self.flags_under(label, children);
-        let is_well_bound = self.is_well_bound_under(label, children)?;
-        let mut list = Vec::with_capacity(self.alloc, children.len())?;
-        list.extend_from_slice(children)?;
-        let (number, _) = self.nodes.insert_full(Node {
+        let shape = Shape {
             label,
-            children: list,
-            flags,
-            is_well_bound,
-        })?;
+            children: copied(self.alloc, children)?,
+        };
+        if let Some(number) = self.index.find(&shape) {
+            return Ok(NodeId { number });
+        }
+        let node = Node {
+            label,
+            children: copied(self.alloc, children)?,
+            flags: self.flags_under(label, children),
+            is_well_bound: self.is_well_bound_under(label, children)?,
+        };
+        let number = self.index.add(shape, node)?;
         Ok(NodeId { number })
     }
 
@@ -150,7 +156,7 @@ impl Nodes {
         ensures flags { result.now.flags ≡ flags_of (tree_at self.now t) }
         ensures well_bound { IsTrue result.now.is_well_bound ↔ IsWellBound (tree_at self.now t) }
     {
-        &self.nodes[t.number]
+        &self.index.nodes[t.number]
     }
 
     /// The label of a term's node. Its children fit the label.
@@ -209,7 +215,7 @@ impl Nodes {
         ensures tree { IsTrue result ↔ (tree_at self.now a ≡ tree_at self.now b) }
         ensures one { IsTrue result ↔ (a ≡ b) }
     {
-        let _ = &self.nodes;
+        let _ = &self.index;
         a.number == b.number
     }
 

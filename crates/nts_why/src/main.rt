@@ -5,11 +5,6 @@
 //! contract of `nts_reasons::run`.
 #![tactic(auto)]
 
-#[cfg(test)]
-mod failing_tests;
-#[cfg(test)]
-mod tests;
-
 use nts_program::Status;
 use nts_reasons::run;
 use std::io::{self, BufWriter};

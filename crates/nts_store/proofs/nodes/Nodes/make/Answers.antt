@@ -1,46 +1,54 @@
-use Rattle.std.proofs.Common.{rules, ap, sym, subst, ◌∙◌, ◌≡◌}
-use Rattle.std.specs.Prelude.{◌↔◌, IsTrue}
-use Rattle.nts_model.specs.Terms.Scoping.{IsWellBound}
-use Rattle.nts_model.specs.Terms.Trees.{node}
-use Rattle.nts_store.specs.TypeFlags.{flags_of}
-use Rattle.nts_store.specs.Growth.{trees_at}
-use Rattle.nts_store.specs.Store.{trees, IsNode}
-use Rattle.nts_store.proofs.Inserting.{Kept, inserted, Answered, answered, only_one}
+use Rattle.std.proofs.Common.{sym, ◌∙◌, refl}
+use Rattle.nts_store.specs.declared.nodes.Node.{Node}
+use Rattle.nts_store.specs.declared.index.Shape.{Shape}
+use Rattle.nts_store.specs.Index.{HasShape}
+use Rattle.nts_store.specs.Store.{trees}
+use Rattle.nts_store.proofs.Inserting.{Kept, kept_more, IsMade, found_again, made_anew, is_node}
 use Rattle.nts_store.proofs.nodes.Nodes.make.Goals as goal
 
-copied : (c : goal.In_ok-number) → c.extend_from_slice.new.self.items ≡ c.args.children.now
-copied c = search rules
+pub returns-in-Some-clause-within : goal.returns-in-Some-clause-within
+returns-in-Some-clause-within c =
+    (found_again c.self.inside.index.nodes.items c.args.self.now c.in-Some.number (record { label = c.args.label; children = c.in_ok-copied.field-0 }) c.args.children.now c.self.view_is c.self.invariant.0 c.requires.within c.in_ok-copied.ensures c.in-Some.ensures.found).within
 
-is_node : (c : goal.In_ok-number) → IsNode (trees c.self.inside.nodes.keys) (record { label = c.args.label; children = c.extend_from_slice.new.self; flags = c.flags_under-flags.result; is_well_bound = c.in_ok-is_well_bound.is_well_bound })
-is_node c =
-    record {
-      all = rw (copied c, c.self.view_is) c.requires.within;
-      formed = rw (copied c, c.self.view_is) c.requires.formed;
-      flags = c.flags_under-flags.ensures ∙ ap (λ ts. flags_of (node c.args.label (trees_at ts c.args.children.now))) (sym c.self.view_is) ∙ ap (λ cs. flags_of (node c.args.label (trees_at (trees c.self.inside.nodes.keys) cs))) (sym (copied c));
-      well_bound = subst (λ cs. IsTrue c.in_ok-is_well_bound.is_well_bound ↔ IsWellBound (node c.args.label (trees_at (trees c.self.inside.nodes.keys) cs))) (sym (copied c))
-          (subst (λ ts. IsTrue c.in_ok-is_well_bound.is_well_bound ↔ IsWellBound (node c.args.label (trees_at ts c.args.children.now))) (sym c.self.view_is) c.in_ok-is_well_bound.ensures);
-    }
+pub returns-in-Some-clause-tree : goal.returns-in-Some-clause-tree
+returns-in-Some-clause-tree c =
+    (found_again c.self.inside.index.nodes.items c.args.self.now c.in-Some.number (record { label = c.args.label; children = c.in_ok-copied.field-0 }) c.args.children.now c.self.view_is c.self.invariant.0 c.requires.within c.in_ok-copied.ensures c.in-Some.ensures.found).is
 
-kept : (c : goal.In_ok-number) → Kept c.self.inside.nodes.keys c.insert_full.new.self.keys
+pub returns-in-Some-clause-one : goal.returns-in-Some-clause-one
+returns-in-Some-clause-one c =
+    (found_again c.self.inside.index.nodes.items c.args.self.now c.in-Some.number (record { label = c.args.label; children = c.in_ok-copied.field-0 }) c.args.children.now c.self.view_is c.self.invariant.0 c.requires.within c.in_ok-copied.ensures c.in-Some.ensures.found).one
+
+abbrev shape_made : (c : goal.In_ok-number) → Shape
+shape_made c = record { label = c.args.label; children = c.in_ok-copied.field-0 }
+
+abbrev node_made : (c : goal.In_ok-number) → Node
+node_made c =
+    record { label = c.args.label; children = c.in_ok-copied-2.field-0; flags = c.flags_under.result; is_well_bound = c.in_ok-is_well_bound_under.field-0 }
+
+has_shape : (c : goal.In_ok-number) → HasShape (node_made c) (shape_made c)
+has_shape c = record { label = refl; children = c.in_ok-copied-2.ensures ∙ sym c.in_ok-copied.ensures }
+
+kept : (c : goal.In_ok-number) → Kept c.self.inside.index.nodes.items c.add.new.self.nodes.items
 kept c =
-    inserted c.self.inside.nodes.keys c.insert_full.new.self.keys _ c.self.invariant (is_node c) c.in_ok-number.ensures.keys
+    kept_more c.self.inside.index c.add.new.self.nodes.items (node_made c) (shape_made c) c.self.invariant.0 c.self.invariant.1
+    (is_node c.self.inside.index.nodes.items c.args.self.now (node_made c) c.args.children.now c.self.view_is c.requires.within c.in_ok-copied-2.ensures c.requires.formed c.flags_under.ensures c.in_ok-is_well_bound_under.ensures)
+    (has_shape c) (c.in_default.ensures.absent refl) c.in_ok-number.ensures.nodes
 
-result_is : (c : goal.In_ok-number) → Answered c.insert_full.new.self.keys (trees c.self.inside.nodes.keys) c.in_ok-number.number (record { label = c.args.label; children = c.extend_from_slice.new.self; flags = c.flags_under-flags.result; is_well_bound = c.in_ok-is_well_bound.is_well_bound })
+result_is : (c : goal.In_ok-number) → IsMade c.args.self.now (trees c.add.new.self.nodes.items) c.in_ok-number.number c.args.label c.args.children.now
 result_is c =
-    let s = c.in_ok-number.ensures.stored in
-    answered c.self.inside.nodes.keys _ _ s.0 _ (kept c) (is_node c) s.1 s.2
+    made_anew c.self.inside.index c.add.new.self.nodes.items (node_made c) c.args.self.now c.in_ok-number.number (shape_made c) c.args.children.now c.self.view_is (kept c) c.requires.within c.in_ok-copied.ensures (has_shape c) c.in_ok-number.ensures.number c.in_ok-number.ensures.nodes
 
 pub invariant_of-self-2 : goal.invariant_of-self-2
-invariant_of-self-2 c = (kept c).shared
+invariant_of-self-2 c = ((kept c).shared, c.in_ok-number.ensures.index)
 
 pub returns-clause-within : goal.returns-clause-within
 returns-clause-within c = (result_is c).within
 
 pub returns-clause-tree : goal.returns-clause-tree
-returns-clause-tree c = rw (copied c, c.self.view_is) at (result_is c).is
+returns-clause-tree c = (result_is c).is
 
 pub returns-clause-extends : goal.returns-clause-extends
-returns-clause-extends c = rw c.self.view_is at (kept c).extends
+returns-clause-extends c = (result_is c).extends
 
 pub returns-clause-one : goal.returns-clause-one
-returns-clause-one c = only_one c.insert_full.new.self.keys (record { number = c.in_ok-number.number }) (kept c) (result_is c).within
+returns-clause-one c = (result_is c).one

@@ -1,19 +1,18 @@
 use Rattle.std.proofs.Common.{arith, ap, sym, subst, length, ◌∙◌}
 use Rattle.std.specs.Prelude.{◌↔◌, IsTrue}
 use Rattle.nts_model.specs.Terms.Scoping.{IsWellBound}
-use Rattle.std.proofs.lemmas.Option.{slice_get_within, get_or_from_slice_get}
 use Rattle.nts_store.specs.TypeFlags.{flags_of}
 use Rattle.nts_store.proofs.Inserting.{Found, found, length-trees}
 use Rattle.nts_store.proofs.nodes.Nodes.node.Goals as goal
 
 read : (c : goal.After-index) → Found c.args.self.now c.args.t.number c.index.result.now
 read c =
-    let ns = c.self.inside.nodes.keys in
+    let ns = c.self.inside.index.nodes.items in
     let n = c.index.result.now in
-    found ns c.args.self.now c.args.t.number n c.self.view_is c.self.invariant (slice_get_within ns c.args.t.number n c.index.ensures) (get_or_from_slice_get ns c.args.t.number n n c.index.ensures)
+    found ns c.args.self.now c.args.t.number n c.self.view_is c.self.invariant.0 (omega (arith, ap length c.self.view_is, length-trees ns, c.requires)) (sym c.index.ensures)
 
 pub index-requires : goal.index-requires
-index-requires c = omega (arith, ap length c.self.view_is, length-trees c.self.inside.nodes.keys)
+index-requires c = omega (arith, ap length c.self.view_is, length-trees c.self.inside.index.nodes.items)
 
 pub returns-clause-is : goal.returns-clause-is
 returns-clause-is c = (read c).is
