@@ -1,2 +1,2 @@
 //! The values of variables.
-pub use nts_resolve::eager_resolve_vars;
+pub use nts_table::eager_resolve_vars;

@@ -41,7 +41,7 @@ use Rattle.nts_unify.specs.Reading.{content_of, recorded_of, AreConstraints}
 use Rattle.nts_table.specs.Tables.{Table, IsTable}
 use Rattle.nts_canonical.specs.declared.types.Canonical.{Canonical}
 use Rattle.nts_canonical.specs.Forms.{kind_of_var}
-use Rattle.nts_delegate.specs.Offered.{hidden_of}
+use Rattle.nts_candidates.specs.Offered.{hidden_of}
 use Rattle.nts_response.specs.declared.types.Response.{Response}
 use Rattle.nts_response.specs.Forms.{HoldsResponse, recorded_at, premise_at, response_at}
 use Rattle.nts_response.specs.Replacing.{argument_value}

@@ -28,7 +28,7 @@ use Rattle.nts_unify.specs.Reading.{content_of}
 use Rattle.nts_unify.specs.Lawful.{IsLawful-moved}
 use Rattle.nts_table.specs.Tables.{Table, IsTable}
 use Rattle.nts_table.proofs.TermTables.{proper_content, holds_terms}
-use Rattle.nts_delegate.specs.Offered.{hidden_of}
+use Rattle.nts_candidates.specs.Offered.{hidden_of}
 use Rattle.nts_canonical.specs.declared.types.Canonical.{Canonical}
 use Rattle.nts_canonical.specs.declared.types.CanonicalVarKind.{CanonicalVarKind}
 use Rattle.nts_canonical.specs.Forms.{kind_of_var, trees_of, IsHidden}

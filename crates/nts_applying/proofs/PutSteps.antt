@@ -16,7 +16,7 @@ use Rattle.nts_terms.specs.declared.handles.AliasTerm.{AliasTerm}
 use Rattle.nts_terms.specs.declared.handles.Ty.{Ty}
 use Rattle.nts_unify.specs.Reading.{content_of, IsHiddenType}
 use Rattle.nts_table.specs.Tables.{Table}
-use Rattle.nts_delegate.specs.Offered.{hidden_of}
+use Rattle.nts_candidates.specs.Offered.{hidden_of}
 use Rattle.nts_canonical.specs.Building.{stored_hidden}
 use Rattle.nts_canonical.specs.Forms.{hidden_pairs}
 use Rattle.nts_canonical.specs.Replaced.{AreImages}

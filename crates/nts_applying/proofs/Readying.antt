@@ -26,7 +26,7 @@ use Rattle.nts_terms.specs.declared.handles.GenericArg.{GenericArg}
 use Rattle.nts_terms.specs.declared.handles.Ty.{Ty}
 use Rattle.nts_terms.specs.declared.modes.VisibleForLeakCheck.{VisibleForLeakCheck}
 use Rattle.nts_table.proofs.Filling.{knows-filled}
-use Rattle.nts_delegate.specs.declared.delegate.RegionConstraint.{RegionConstraint}
+use Rattle.nts_candidates.specs.declared.data.RegionConstraint.{RegionConstraint}
 use Rattle.nts_canonical.specs.declared.types.Canonical.{Canonical}
 use Rattle.nts_canonical.specs.declared.types.CanonicalVarKind.{CanonicalVarKind}
 use Rattle.nts_canonical.specs.Forms.{kind_of_var, trees_of, hidden_pairs, IsHidden, AreHidden}

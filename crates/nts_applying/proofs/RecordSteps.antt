@@ -12,7 +12,7 @@ use Rattle.nts_store.specs.declared.nodes.NodeId.{NodeId}
 use Rattle.nts_store.specs.Growth.{tree_at, AllIn}
 use Rattle.nts_terms.specs.declared.cx.Cx.{Cx}
 use Rattle.nts_terms.specs.declared.modes.VisibleForLeakCheck.{VisibleForLeakCheck}
-use Rattle.nts_delegate.specs.declared.delegate.RegionConstraint.{RegionConstraint}
+use Rattle.nts_candidates.specs.declared.data.RegionConstraint.{RegionConstraint}
 use Rattle.nts_unify.specs.Reading.{content_of}
 use Rattle.nts_table.specs.Tables.{Table}
 use Rattle.nts_response.specs.Forms.{recorded_at}

@@ -15,7 +15,8 @@ ghost use Rattle.nts_canonical.specs.Building.{IsArgOf};
 ghost use Rattle.nts_response.specs.Applied.{StepKeeps, IsFillable};
 
 use nts_equating::relate_nodes;
-use nts_store::{EvalError, NodeId, instantiate_canonical};
+use nts_replacing::instantiate_canonical;
+use nts_store::{EvalError, NodeId};
 use nts_table::InferCtxt;
 use nts_terms::{Cx, GenericArg};
 

@@ -16,9 +16,10 @@ ghost use Rattle.nts_response.specs.Forms.{recorded_at};
 ghost use Rattle.nts_response.specs.Applied.{StepKeeps};
 ghost use Rattle.nts_response.specs.Recorded.{sides_of, IsLeftSide, IsRecordable, AddsSeen, AddsAllSeen, seen_by_leak_check, seen_if};
 
-use nts_delegate::RegionConstraint;
+use nts_candidates::RegionConstraint;
 use nts_model::Relation;
-use nts_store::{Fault, NodeId, instantiate_canonical};
+use nts_replacing::instantiate_canonical;
+use nts_store::{Fault, NodeId};
 use nts_table::InferCtxt;
 use nts_terms::{Cx, Region, Span, Ty, VisibleForLeakCheck};
 

@@ -4,7 +4,7 @@ ghost use Rattle.nts_model.specs.Derivations.Proofs.{passed};
 ghost use Rattle.nts_model.specs.Searching.Stacks.{IsUsable};
 ghost use Rattle.nts_model.specs.Answers.Responses.{answer_sequent};
 ghost use Rattle.nts_terms.specs.Rest.{Grows};
-ghost use Rattle.nts_delegate.specs.Offered.{path_kind_of};
+ghost use Rattle.nts_candidates.specs.Offered.{path_kind_of};
 ghost use Rattle.nts_canonical.specs.Alike.{AreOneInput};
 ghost use Rattle.nts_canonical.specs.Building.{kinds_of};
 ghost use Rattle.nts_canonical.specs.Forms.{form_of};

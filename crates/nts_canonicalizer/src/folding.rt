@@ -18,9 +18,8 @@ use crate::collecting::{Staying, collect};
 use crate::leaves::Leaves;
 use crate::numbering::numbered;
 use nts_folding::{TermFolder, TypeFoldable};
-use nts_resolve::eager_resolve_vars;
 use nts_store::Fault;
-use nts_table::InferCtxt;
+use nts_table::{InferCtxt, eager_resolve_vars};
 use nts_terms::{Cx, Stored};
 
 /// The value with each variable replaced by its value, through values of values, or by the first variable of its class.

@@ -3,3 +3,4 @@ pub mod Begun
 pub mod Ended
 pub mod Handed
 pub mod Relates
+mod AnsweredExamples

@@ -102,6 +102,13 @@ pub record IsContextRun {H R : Type 0} (calls : MutBor (EvalCtxt H) → R → Mu
   pub called : calls before r after
   pub left : leaves after.now
 
+-- a closure whose calls are such was called with a context that begins so, and answered r
+pub record WasAnswered {H R : Type 0} (calls : MutBor (EvalCtxt H) → R → MutBor (EvalCtxt H) → Type 0) (begins : EvalCtxt H → Type 0) (r : R) : Type 0 where
+  pub before : MutBor (EvalCtxt H)
+  pub after : MutBor (EvalCtxt H)
+  pub begun : begins before.now
+  pub called : calls before r after
+
 -- what a root context leaves: its store, and its table where it was answered; it has no fault
 pub record IsLeftByRoot {H R E : Type 0} (r : Result R E) (t : Table) (s : Cx) (c : EvalCtxt H) : Type 0 where
   pub cx : s ≡ c.cx.now

@@ -5,7 +5,7 @@ ghost use Rattle.nts_store.specs.Errors.{error_of};
 ghost use Rattle.nts_table.specs.Tables.{IsTable};
 ghost use Rattle.nts_meaning.specs.Evaluation.{Runs};
 ghost use Rattle.nts_contexts.specs.Faults.{fault_of, fault_in, fault_after, AnsweredNoFault};
-ghost use Rattle.nts_contexts.specs.Contexts.{IsContextReady, KeepsContext, IsOpened, IsRootContext, IsProbe, IsContextRun, IsLeftByRoot, IsCopy, EvaluatedNothing, RanOutIn};
+ghost use Rattle.nts_contexts.specs.Contexts.{IsContextReady, KeepsContext, IsOpened, IsRootContext, IsProbe, IsContextRun, IsLeftByRoot, IsCopy, EvaluatedNothing, RanOutIn, WasAnswered};
 
 use crate::state::EvalState;
 use nts_delegate::GoalHandler;
@@ -98,8 +98,8 @@ impl<'a, H: GoalHandler> EvalCtxt<'a, H> {
         ensures answers { AnsweredNoFault result → IsContextRun (λ b r a. F.post f b r a)
             (IsProbe H.ready self.old) result (λ c. c.state.now.fault ≡ self.new.state.now.fault) }
         ensures noted { IfSome (fault_in result) (λ f. IsSome self.new.state.now.fault) }
-        ensures full { self.old.state.now.fault ≡ None → result ≡ Err EvalError.Full → RanOutIn
-            (λ b r a. F.post f b r a) (IsProbe H.ready self.old) }
+        ensures full { self.old.state.now.fault ≡ None → result ≡ Err EvalError.Full → WasAnswered
+            (λ b r a. F.post f b r a) (IsProbe H.ready self.old) (Err EvalError.Full) }
         ensures faulted { IfSome self.old.state.now.fault (λ f. result ≡ Err (error_of f)) }
     {
         let (mut state, snapshot) = self.begin_probe()?;

@@ -2,11 +2,11 @@
 ghost use Rattle.std.specs.Prelude.{◌≢◌, ◌↔◌, IsTrue};
 ghost use Rattle.nts_model.specs.Derivations.Rules.{erased};
 ghost use Rattle.nts_terms.specs.Modes.{mode_of};
-ghost use Rattle.nts_reruns.specs.Deciding.{IsRigidIn};
+ghost use Rattle.nts_certainty.specs.Deciding.{IsRigidIn};
 
 use crate::context::EvalCtxt;
+use nts_certainty::opaque_type_is_rigid;
 use nts_delegate::GoalHandler;
-use nts_reruns::opaque_type_is_rigid;
 use nts_terms::AliasId;
 
 impl<H: GoalHandler> EvalCtxt<'_, H> {

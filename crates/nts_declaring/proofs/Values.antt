@@ -14,8 +14,8 @@ use Rattle.nts_unify.specs.Reading.{content_of}
 use Rattle.nts_table.specs.TableLaws.{IsTable-extended}
 use Rattle.nts_delegate.specs.ClausesKept.{AreClausesReady-kept}
 use Rattle.nts_meaning.specs.Evaluation.{Goes, AreValues, AllKnown, AreOfSorts}
-use Rattle.nts_printing.specs.Found.{IsKnownValue}
-use Rattle.nts_printing.proofs.Telling.{values-extended}
+use Rattle.nts_wording.specs.Found.{IsKnownValue}
+use Rattle.nts_wording.proofs.Telling.{values-extended}
 use Rattle.nts_meaning.proofs.Evaluating.{Knows-goes}
 
 -- the values later on

@@ -1,2 +1,6 @@
 pub mod Declaring
+pub mod Held
+pub mod ImplLines
+pub mod Origins
 pub mod Posing
+pub mod Reasons

@@ -21,13 +21,13 @@ use Rattle.nts_terms.specs.Modes.{mode_of}
 use Rattle.nts_delegate.specs.declared.clauses.Clauses.{Clauses}
 use Rattle.nts_text.specs.declared.parser.Mode.{Mode}
 use Rattle.nts_text.specs.declared.parser.Mode.TheVariants as modes
-use Rattle.nts_printing.specs.Found.{IsFoundIn, IsKnownValue}
+use Rattle.nts_wording.specs.Found.{IsFoundIn, IsKnownValue}
 use Rattle.nts_text.specs.declared.resolver.Resolved.{Resolved}
 use Rattle.nts_wording.specs.Meaning.{HasOwnPlaces, HasPlace, AreVariablesFrom, IsGoalOf, IsGoalFor}
-use Rattle.nts_printing.specs.declared.answer.Found.{Found}
+use Rattle.nts_wording.specs.declared.answer.Found.{Found}
 use Rattle.nts_declaring.specs.declared.posing.Posed.{Posed}
-use Rattle.nts_printing.specs.declared.answer.Answer.{Answer}
-use Rattle.nts_printing.specs.declared.answer.Answer.TheVariants as answers
+use Rattle.nts_wording.specs.declared.answer.Answer.{Answer}
+use Rattle.nts_wording.specs.declared.answer.Answer.TheVariants as answers
 
 -- the mode that a line names, with no hidden types
 abbrev pub IsTypingMode : Mode → TypingMode → Type 0

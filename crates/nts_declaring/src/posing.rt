@@ -5,7 +5,7 @@ ghost use Rattle.nts_store.specs.Growth.{Extends};
 ghost use Rattle.nts_table.specs.Tables.{IsTable};
 ghost use Rattle.nts_meaning.specs.Evaluation.{AreOfSorts};
 ghost use Rattle.nts_declaring.specs.Posing.{IsTypingMode, IsPosedLine};
-ghost use Rattle.nts_printing.specs.Found.{IsKnownValue};
+ghost use Rattle.nts_wording.specs.Found.{IsKnownValue};
 ghost use Rattle.nts_wording.specs.Meaning.{AreVariablesFrom};
 ghost use Rattle.nts_store.specs.Growth.{tree_at};
 ghost use Rattle.nts_terms.specs.Rest.{Grows};

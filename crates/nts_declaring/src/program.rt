@@ -5,18 +5,17 @@ ghost use Rattle.nts_delegate.specs.Clauses.{AreClausesReady};
 ghost use Rattle.nts_delegate.specs.declared.clauses.Clause.{Clause};
 ghost use Rattle.nts_text.specs.Resolution.{trait_sorts};
 ghost use Rattle.nts_wording.specs.Meaning.{IsRuleOf};
-ghost use Rattle.nts_printing.specs.Answers.{IsAnswerPut};
-ghost use Rattle.nts_printing.specs.Growing.{Begins};
+ghost use Rattle.nts_wording.specs.Answers.{IsAnswerPut};
+ghost use Rattle.nts_wording.specs.Growing.{Begins};
 ghost use Rattle.nts_wording.specs.Statuses.{is_refusal};
 ghost use Rattle.nts_declaring.specs.Declaring.{IsNewProgram, DeclaresType, DeclaresTrait, HasDeclared, KeepsRules, AssumesNodes, IsInStep};
 ghost use Rattle.nts_terms.specs.Rest.{Grows};
 
 use nts_delegate::Clauses;
 use nts_model::{Sort, Variance};
-use nts_printing::{Answer, write_answer};
 use nts_terms::{Cx, ParamEnv, are_variances};
 use nts_text::{Command, Mode, NameTable, Param, Resolved, Scope};
-use nts_wording::{MISFIT, Stop, clause_of, environment_of};
+use nts_wording::{Answer, MISFIT, Stop, clause_of, environment_of, write_answer};
 use std::alloc::{AllocError, Global};
 use std::io::Write;
 
@@ -55,7 +54,7 @@ impl Program {
     }
 
     /// Writes the answer to the last line, and lets it out. Whatever happens, what was written before stays.
-    #[tactic(auto, using(nts_printing::proofs::Growths::writes))]
+    #[tactic(auto, using(nts_wording::proofs::Growths::writes))]
     pub fn write_answer<W: Write>(&self, output: &mut W, answer: &Answer) -> Result<(), Stop>
         ensures told { OnOk result (IsAnswerPut self.now.cx.nodes self.now.names self.now.scope
             answer.now (W.contents output.old) (W.contents output.new)) }

@@ -10,13 +10,13 @@ use Rattle.nts_model.specs.Derivations.Rules.{related}
 use Rattle.nts_model.specs.Derivations.Handlers.{Candidate}
 use Rattle.nts_store.specs.Growth.{tree_at}
 use Rattle.nts_terms.specs.declared.handles.Goal.{Goal}
-use Rattle.nts_delegate.specs.declared.delegate.CandidateData.{CandidateData}
+use Rattle.nts_candidates.specs.declared.data.CandidateData.{CandidateData}
 use Rattle.nts_delegate.specs.declared.clauses.Clause.{Clause}
 use Rattle.nts_delegate.specs.Candidates.{IsAskedIn, AreCandidates}
 use Rattle.nts_delegate.specs.Clauses.{HoldsClause, AreClauses, head_of_clause}
 use Rattle.nts_delegate.specs.ClauseHandlers.{equations_of, offer_by, takes_all, offers_of_clauses, clause_tree}
 use Rattle.nts_delegate.specs.ClausesLawful.{offer_read}
-use Rattle.nts_delegate.specs.Offered.{candidate_of, candidates_of}
+use Rattle.nts_candidates.specs.Offered.{candidate_of, candidates_of}
 use Rattle.nts_delegate.specs.Offers.{IsOffer}
 use Rattle.nts_delegate.specs.Places.{same_head, may_be_built_by, places_from}
 use Rattle.nts_delegate.specs.Relevant.{first_built_by, IsIrrelevant, LeavesOut}

@@ -6,7 +6,6 @@ pub mod Offering
 pub mod Over
 pub mod Ready
 pub mod Relevance
-pub mod Results
 pub mod RowOffers
 pub mod Testing
 pub mod Traits

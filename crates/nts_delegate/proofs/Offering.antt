@@ -22,8 +22,8 @@ use Rattle.nts_delegate.specs.Candidates.{IsAskedIn, AreEquations, AreNested, Is
 use Rattle.nts_delegate.specs.Clauses.{is_foreign, AreBodies, HoldsClause, AreClauses}
 use Rattle.nts_delegate.specs.OwnTerms.{leaves_fixed}
 use Rattle.nts_delegate.specs.Offers.{trait_read, trait_of_body, trait_of, IsArgumentPair, AreArgumentPairs, asked_by, IsOffer, takes, AreEach}
-use Rattle.nts_delegate.specs.declared.delegate.Equation.{Equation}
-use Rattle.nts_delegate.specs.declared.delegate.CandidateData.{CandidateData}
+use Rattle.nts_candidates.specs.declared.data.Equation.{Equation}
+use Rattle.nts_candidates.specs.declared.data.CandidateData.{CandidateData}
 use Rattle.nts_delegate.specs.declared.clauses.Clause.{Clause}
 use Rattle.nts_store.proofs.Filling.{both_false}
 

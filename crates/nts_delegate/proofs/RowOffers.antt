@@ -17,9 +17,9 @@ use Rattle.nts_terms.specs.declared.handles.TraitRef.{TraitRef}
 use Rattle.nts_terms.specs.declared.cx.Cx.{Cx}
 use Rattle.nts_terms.specs.Rest.{Grows}
 use Rattle.nts_terms.specs.Kinds.{tree_of_sort}
-use Rattle.nts_delegate.specs.declared.delegate.Equation.{Equation as EquationData}
-use Rattle.nts_delegate.specs.declared.delegate.EquationKind.{EquationKind}
-use Rattle.nts_delegate.specs.declared.delegate.CandidateData.{CandidateData}
+use Rattle.nts_candidates.specs.declared.data.Equation.{Equation as EquationData}
+use Rattle.nts_candidates.specs.declared.data.EquationKind.{EquationKind}
+use Rattle.nts_candidates.specs.declared.data.CandidateData.{CandidateData}
 use Rattle.nts_delegate.specs.Assumptions.{rows_of, sort_read, sorts_in, sorts_of_predicate, positioned, assumed_offer, fits_trait, offer_where, offer_if, offers_over, assumed_offers}
 use Rattle.nts_delegate.specs.Assumed.{IsLawfulHandler-assuming}
 use Rattle.nts_delegate.specs.AssumedOffers.{among_over}
@@ -28,7 +28,7 @@ use Rattle.nts_delegate.specs.ClausesLawful.{pairs_read}
 use Rattle.nts_delegate.specs.EnvironmentRows.{one_or_none, IsAssumedOffer, IsOfferWhere, IsOfferIf, IsOfferOfRow}
 use Rattle.nts_delegate.specs.Keeping.{AreCandidates-kept, AreCandidates-append, candidates_of-kept, HoldsGoal-kept, same_goal}
 use Rattle.nts_certainty.specs.Accesses.{access_of}
-use Rattle.nts_delegate.specs.Offered.{certainty_of, equation_as, equation_of, constraint_of, hidden_of, premise_of, candidate_of, candidates_of}
+use Rattle.nts_candidates.specs.Offered.{certainty_of, equation_as, equation_of, constraint_of, hidden_of, premise_of, candidate_of, candidates_of}
 use Rattle.nts_delegate.specs.Offers.{AreArgumentPairs, trait_of}
 
 -- the sorts that a binder lists, one by one

@@ -61,10 +61,6 @@ body_at ts fresh [] i p h l = absurd (omega arith)
 body_at ts fresh (q ∷ ps) zero p h l = (h.0, h.1)
 body_at ts fresh (q ∷ ps) (suc i) p h l = body_at ts fresh ps i p h.2 (omega arith)
 
-pub if_then : {E : Type 0} (r : Result Bool E) (P Q : Bool → Type 0) → ((b : Bool) → P b → Q b) → IfOk r P → IfOk r Q
-if_then (Ok b) P Q f h = f b h
-if_then (Err e) P Q f h = tt
-
 pub bodies_step : (ts : List Tree) (fresh named : List Sort) (ps : List Predicate) (i : ℕ) (d : Predicate) → named ≡ fresh → i < length ps → AreBodies ts fresh (take i ps) → HoldsPredicate ts (get_or ps i d) × IsClauseTerm ts named (get_or ps i d).node → AreBodies ts fresh (take (i + 1) ps)
 bodies_step ts fresh named ps i d e l h k =
     let same : HoldsPredicate ts (get_or ps i d) × IsClauseTerm ts fresh (get_or ps i d).node = rw e at k in

@@ -17,10 +17,10 @@ use Rattle.nts_model.specs.Derivations.Handlers.{NamesFresh, IsFixed}
 use Rattle.nts_model.specs.Derivations.Handlers as handlers
 use Rattle.nts_model.specs.Tables.Recording.{left_kind}
 use Rattle.nts_model.specs.declared.labels.Sort.TheVariants as sort
-use Rattle.nts_delegate.specs.declared.delegate.Equation.{Equation}
-use Rattle.nts_delegate.specs.declared.delegate.RegionConstraint.{RegionConstraint}
-use Rattle.nts_delegate.specs.declared.delegate.CandidateGoal.{CandidateGoal}
-use Rattle.nts_delegate.specs.declared.delegate.CandidateData.{CandidateData}
+use Rattle.nts_candidates.specs.declared.data.Equation.{Equation}
+use Rattle.nts_candidates.specs.declared.data.RegionConstraint.{RegionConstraint}
+use Rattle.nts_candidates.specs.declared.data.CandidateGoal.{CandidateGoal}
+use Rattle.nts_candidates.specs.declared.data.CandidateData.{CandidateData}
 
 -- .. that handlers are asked
 pub record IsAskedIn (ts : List Tree) (g : Goal) : Type 0 where

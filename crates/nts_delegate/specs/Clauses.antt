@@ -1,10 +1,6 @@
 -- Clauses that a handler may be made of.
 use Rattle.std.specs.Prelude.{◌≡◌, ℕ, Bool, true, false, List, [], ◌∷◌, map, Option, Some, None, slice_get}
 use Rattle.nts_model.specs.declared.labels.Sort.{Sort}
-use Rattle.nts_model.specs.declared.labels.FreeRegion.{FreeRegion}
-use Rattle.nts_model.specs.declared.labels.FreeRegion.TheVariants as region
-use Rattle.nts_model.specs.declared.labels.Leaf.{Leaf}
-use Rattle.nts_model.specs.declared.labels.Leaf.TheVariants as leaf
 use Rattle.nts_model.specs.declared.labels.PredicateHead.{PredicateHead}
 use Rattle.nts_model.specs.declared.labels.PredicateHead.TheVariants as predicate
 use Rattle.nts_model.specs.declared.labels.Label.{Label}
@@ -18,22 +14,12 @@ use Rattle.nts_store.specs.Growth.{tree_at, IsIn}
 use Rattle.nts_model.specs.Terms.Substitutions.{position_of}
 use Rattle.nts_terms.specs.Handles.{HoldsArgs, HoldsPredicate}
 use Rattle.nts_model.specs.Derivations.Handlers.{NamesAt, NamesFresh}
+use Rattle.nts_candidates.specs.Foreign.{is_foreign_leaf}
 use Rattle.nts_delegate.specs.Places.{IsIndexOf}
 use Rattle.nts_delegate.specs.Relevant.{first_built_by}
 use Rattle.nts_delegate.specs.declared.clauses.Clause.{Clause}
 use Rattle.nts_delegate.specs.declared.clauses.TraitClauses.{TraitClauses}
 use Rattle.nts_delegate.specs.declared.clauses.Clauses.{Clauses}
-
--- leaves that a clause may not have: only regions that stand for themselves everywhere are left
-abbrev pub is_foreign_region : FreeRegion → Bool
-is_foreign_region region.Static = false
-is_foreign_region region.Erased = false
-is_foreign_region region.Error = false
-is_foreign_region r = true
-
-abbrev pub is_foreign_leaf : Leaf → Bool
-is_foreign_leaf (leaf.Region r) = is_foreign_region r
-is_foreign_leaf l = true
 
 -- goals that a clause may not ask for
 abbrev pub is_foreign_predicate : PredicateHead → Bool

@@ -4,7 +4,7 @@ use Rattle.nts_model.specs.declared.labels.Sort.{Sort}
 use Rattle.nts_model.specs.Terms.Trees.{Tree, children}
 use Rattle.nts_certainty.specs.declared.certainty.Certainty.TheVariants as certainty
 use Rattle.nts_certainty.specs.declared.reruns.RerunCondition.TheVariants as rerun
-use Rattle.nts_delegate.specs.declared.delegate.CandidateData.{CandidateData}
+use Rattle.nts_candidates.specs.declared.data.CandidateData.{CandidateData}
 use Rattle.nts_delegate.specs.Assumptions.{positioned, sorts_of_predicate, fits_trait}
 use Rattle.nts_delegate.specs.Offers.{AreArgumentPairs, trait_of}
 

@@ -12,13 +12,13 @@ use Rattle.nts_terms.specs.Handles.{HoldsGoal}
 use Rattle.nts_delegate.specs.ClausesKept.{Holds-kept}
 use Rattle.std.proofs.lemmas.List.{map-append}
 use Rattle.nts_delegate.specs.Candidates.{IsOverIn, AreEquations, AreRegionConstraints, AreNested, IsCandidate, AreCandidates}
-use Rattle.nts_delegate.specs.Offered.{equation_of, constraint_of, premise_of, hidden_of, candidate_of, candidates_of}
+use Rattle.nts_candidates.specs.Offered.{equation_of, constraint_of, premise_of, hidden_of, candidate_of, candidates_of}
 use Rattle.nts_delegate.specs.Relevant.{LeavesOut}
 use Rattle.nts_delegate.specs.Relevant.LeavesOut.{none, offered, left_out}
-use Rattle.nts_delegate.specs.declared.delegate.Equation.{Equation}
-use Rattle.nts_delegate.specs.declared.delegate.RegionConstraint.{RegionConstraint}
-use Rattle.nts_delegate.specs.declared.delegate.CandidateGoal.{CandidateGoal}
-use Rattle.nts_delegate.specs.declared.delegate.CandidateData.{CandidateData}
+use Rattle.nts_candidates.specs.declared.data.Equation.{Equation}
+use Rattle.nts_candidates.specs.declared.data.RegionConstraint.{RegionConstraint}
+use Rattle.nts_candidates.specs.declared.data.CandidateGoal.{CandidateGoal}
+use Rattle.nts_candidates.specs.declared.data.CandidateData.{CandidateData}
 
 -- the trees of a goal
 pub record IsSameGoal (a b : List Tree) (g : Goal) : Type 0 where

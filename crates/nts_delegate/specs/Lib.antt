@@ -12,7 +12,6 @@ pub mod ClausesLawful
 pub mod EnvironmentRows
 pub mod HandlerLaws
 pub mod Keeping
-pub mod Offered
 pub mod Offers
 pub mod OwnClauses
 pub mod OwnTerms

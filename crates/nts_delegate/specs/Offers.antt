@@ -12,10 +12,10 @@ use Rattle.nts_terms.specs.declared.handles.Predicate.{Predicate}
 use Rattle.nts_terms.specs.declared.handles.TraitRef.{TraitRef}
 use Rattle.nts_store.specs.Growth.{tree_at, IsIn}
 use Rattle.nts_terms.specs.Handles.{HoldsArgs}
-use Rattle.nts_delegate.specs.declared.delegate.Equation.{Equation}
-use Rattle.nts_delegate.specs.declared.delegate.EquationKind.TheVariants as equation
-use Rattle.nts_delegate.specs.declared.delegate.CandidateGoal.{CandidateGoal}
-use Rattle.nts_delegate.specs.declared.delegate.CandidateData.{CandidateData}
+use Rattle.nts_candidates.specs.declared.data.Equation.{Equation}
+use Rattle.nts_candidates.specs.declared.data.EquationKind.TheVariants as equation
+use Rattle.nts_candidates.specs.declared.data.CandidateGoal.{CandidateGoal}
+use Rattle.nts_candidates.specs.declared.data.CandidateData.{CandidateData}
 use Rattle.nts_delegate.specs.declared.clauses.Clause.{Clause}
 use Rattle.nts_delegate.specs.declared.clauses.Clauses.{Clauses}
 use Rattle.nts_delegate.specs.Clauses.{clauses_of}

@@ -12,7 +12,8 @@ use Rattle.nts_model.specs.Terms.Trees.{Tree, empty, more, node, any_label, is_c
 use Rattle.nts_model.specs.Terms.Substitutions.{leaf_tree, put, replace, Occurs, StaysItself, filled, filled_under, position_of, value_or}
 use Rattle.nts_model.specs.Derivations.Handlers.{NamesFresh, IsFixed}
 use Rattle.nts_model.proofs.Terms.Substituting.{leaf_alone}
-use Rattle.nts_delegate.specs.Clauses.{is_foreign_region, is_foreign_leaf, is_foreign}
+use Rattle.nts_candidates.specs.Foreign.{is_foreign_region, is_foreign_leaf}
+use Rattle.nts_delegate.specs.Clauses.{is_foreign}
 
 pub both_false : (p q : Bool) → (p || q) ≡ false → (p ≡ false) × (q ≡ false)
 both_false true q h = cc

@@ -3,7 +3,8 @@ ghost use Rattle.std.specs.Prelude.{◌≡◌};
 
 use crate::assumptions::Assumptions;
 use crate::both::Both;
-use crate::delegate::{CandidateData, GoalHandler};
+use crate::delegate::GoalHandler;
+use nts_candidates::CandidateData;
 use nts_store::{EvalError, Fault};
 use nts_table::InferCtxt;
 use nts_terms::{Cx, Goal, TraitId, TypingMode, UniverseIndex};

@@ -8,10 +8,12 @@ ghost use Rattle.nts_delegate.specs.Assumptions.{positioned, sorts_in, fits_trai
 ghost use Rattle.nts_delegate.specs.EnvironmentRows.{one_or_none, IsOfferOfRow};
 
 use crate::clauses::{pairs_of, trait_of_statement};
-use crate::delegate::{CandidateData, GoalHandler};
+use crate::delegate::GoalHandler;
+use nts_candidates::CandidateData;
 use nts_certainty::{Certainty, RerunCondition};
 use nts_model::{BoundVarIndexKind, Label, Sort};
-use nts_store::{Fault, NodeId, Nodes, Place, ReplacerUnder, is_closed_under, replace_under};
+use nts_replacing::{Place, ReplacerUnder, replace_under};
+use nts_store::{Fault, NodeId, Nodes, is_closed_under};
 use nts_terms::{BoundVars, Cx, GenericArgs, Goal, Predicate, TraitId, TraitRef, TypingMode};
 use std::alloc::{AllocError, Global};
 

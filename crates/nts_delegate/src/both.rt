@@ -4,7 +4,8 @@ ghost use Rattle.nts_model.specs.Terms.Trees.{Tree};
 ghost use Rattle.nts_store.specs.Growth.{tree_at};
 ghost use Rattle.nts_terms.specs.Rest.{Grows};
 
-use crate::delegate::{CandidateData, GoalHandler};
+use crate::delegate::GoalHandler;
+use nts_candidates::CandidateData;
 use nts_store::{EvalError, Fault};
 use nts_table::InferCtxt;
 use nts_terms::{Cx, Goal, TraitId, TypingMode, UniverseIndex};

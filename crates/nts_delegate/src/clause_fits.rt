@@ -1,14 +1,12 @@
 //! Whether a clause may be added to a handler.
-ghost use Rattle.std.specs.Prelude.{◌≡◌, ◌↔◌, IfOk, IsTrue, IsOkUnless, slice_get};
-ghost use Rattle.nts_model.specs.Terms.Trees.{of_sort};
+ghost use Rattle.std.specs.Prelude.{◌≡◌, ◌↔◌, IfOk, IsTrue, IsOkUnless};
 ghost use Rattle.nts_store.specs.Growth.{IsIn};
-ghost use Rattle.nts_model.specs.Terms.Substitutions.{position_of};
 ghost use Rattle.nts_terms.specs.Handles.{HoldsArgs, HoldsPredicate};
-ghost use Rattle.nts_model.specs.Derivations.Handlers.{IsOfSort, NamesAt};
-ghost use Rattle.nts_delegate.specs.Clauses.{MayHave, is_foreign, is_foreign_leaf, IsClauseTerm, HoldsClause};
+ghost use Rattle.nts_delegate.specs.Clauses.{MayHave, is_foreign, IsClauseTerm, HoldsClause};
 
 use crate::clauses::{Clause, Clauses};
-use nts_model::{BoundVarIndexKind, FreeRegion, Label, Leaf, PredicateHead, Sort};
+use nts_candidates::{is_foreign_leaf_of, names_fresh};
+use nts_model::{Label, PredicateHead, Sort};
 use nts_store::{Fault, LabelTest, NodeId, all_labels};
 use nts_terms::{Cx, GenericArgs, Predicate};
 use std::alloc::AllocError;
@@ -79,33 +77,6 @@ fn is_clause_term(cx: &Cx, fresh: &[Sort], t: NodeId) -> Result<bool, AllocError
     all_labels(cx.alloc, &cx.nodes, t, &ClauseLabels { fresh })
 }
 
-/// Whether the position that a label names, if it is one, is among the variables of these sorts, and of its sort.
-pub fn names_fresh(fresh: &[Sort], label: Label) -> bool
-    ensures { IsTrue result ↔ NamesAt fresh.now (position_of label) label }
-{
-    match label {
-        Label::Bound(sort, BoundVarIndexKind::Canonical, position) => is_sort_at(
-            fresh, position, sort,
-        ),
-        Label::Bound(_, BoundVarIndexKind::Bound(_), _) => true,
-        Label::Leaf(_) => true,
-        Label::Ty(_) => true,
-        Label::Const(_) => true,
-        Label::Clause(_) => true,
-        Label::Predicate(_) => true,
-        Label::List(_) => true,
-    }
-}
-
-fn is_sort_at(fresh: &[Sort], position: usize, sort: Sort) -> bool
-    ensures { IsTrue result ↔ IsOfSort (slice_get fresh.now position) (of_sort sort) }
-{
-    match fresh.get(position) {
-        Some(its_sort) => *its_sort == sort,
-        None => false,
-    }
-}
-
 /// Whether a clause may not have the label, whatever it names.
 fn is_foreign_label(label: Label) -> bool
     ensures { result ≡ is_foreign label }
@@ -115,17 +86,5 @@ fn is_foreign_label(label: Label) -> bool
         Label::Predicate(PredicateHead::ConstEquate) => true,
         Label::Predicate(PredicateHead::NormalizesTo(_)) => true,
         _ => false,
-    }
-}
-
-/// Whether a leaf stands for something else elsewhere: all do but 'static, the erased and the error region.
-pub fn is_foreign_leaf_of(leaf: Leaf) -> bool
-    ensures { result ≡ is_foreign_leaf leaf }
-{
-    match leaf {
-        Leaf::Region(FreeRegion::Static) => false,
-        Leaf::Region(FreeRegion::Erased) => false,
-        Leaf::Region(FreeRegion::Error) => false,
-        _ => true,
     }
 }

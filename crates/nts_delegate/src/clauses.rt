@@ -11,11 +11,12 @@ ghost use Rattle.nts_delegate.specs.Candidates.{IsAskedIn, AreCandidates};
 ghost use Rattle.nts_delegate.specs.ClauseHandlers.{clause_tree, offers_of_clauses};
 ghost use Rattle.nts_delegate.specs.Clauses.{head_of_clause, AreClauses, IsIndexed};
 ghost use Rattle.nts_delegate.specs.Places.{IsIndexOf};
-ghost use Rattle.nts_delegate.specs.Offered.{candidates_of};
+ghost use Rattle.nts_candidates.specs.Offered.{candidates_of};
 ghost use Rattle.nts_delegate.specs.Relevant.{built_by_label, first_built_by, LeavesOut};
 
-use crate::delegate::{CandidateData, CandidateGoal, Equation, EquationKind, GoalHandler};
+use crate::delegate::GoalHandler;
 use crate::head_index::HeadIndex;
+use nts_candidates::{CandidateData, CandidateGoal, Equation, EquationKind};
 use nts_certainty::{Certainty, GoalSource, RerunCondition};
 use nts_model::{Label, Sort, TyHead};
 use nts_store::Fault;
@@ -159,7 +160,7 @@ impl GoalHandler for Clauses {
     ghost use Rattle.nts_delegate.specs.ClausesKept.{AreClausesReady-kept};
     ghost use Rattle.nts_delegate.specs.ClauseHandlers.{handler_of};
     ghost use Rattle.nts_delegate.specs.ClausesLawful.{IsLawfulHandler-handler_of, AreOffered-handler_of, MeansSame-kept};
-    ghost use Rattle.nts_delegate.specs.Offered.{candidates_of};
+    ghost use Rattle.nts_candidates.specs.Offered.{candidates_of};
     ghost use Rattle.nts_delegate.specs.Relevant.{LeavesOut};
     ghost use Rattle.nts_terms.specs.Modes.{mode_of};
     ghost use Rattle.nts_delegate.specs.Offers.{AreOffers};
@@ -234,7 +235,7 @@ impl Clauses {
     ghost use Rattle.nts_delegate.specs.Candidates.{IsAskedIn, AreCandidates};
     ghost use Rattle.nts_delegate.specs.ClauseHandlers.{clauses_in_store, offers_by};
     ghost use Rattle.nts_delegate.specs.Clauses.{AreClausesReady};
-    ghost use Rattle.nts_delegate.specs.Offered.{candidates_of};
+    ghost use Rattle.nts_candidates.specs.Offered.{candidates_of};
     ghost use Rattle.nts_delegate.specs.Offers.{trait_of, AreOffers};
     ghost use Rattle.nts_delegate.specs.Relevant.{LeavesOut};
 

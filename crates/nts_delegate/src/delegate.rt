@@ -4,58 +4,10 @@ ghost use Rattle.nts_model.specs.Terms.Trees.{Tree};
 ghost use Rattle.nts_store.specs.Growth.{Extends};
 ghost use Rattle.nts_terms.specs.Rest.{Grows};
 
-use nts_certainty::{Certainty, GoalSource, RerunCondition};
-use nts_model::{Relation, Sort};
+use nts_candidates::CandidateData;
 use nts_store::{EvalError, Fault};
 use nts_table::InferCtxt;
-use nts_terms::{AliasTerm, Cx, GenericArg, Goal, Region, TraitId, Ty, TypingMode, UniverseIndex};
-
-/// How the two sides of an equation are made equal.
-#[derive(Clone, Copy)]
-pub enum EquationKind {
-    /// Aliases stand for what they normalize to.
-    Related,
-    /// Aliases are taken as they stand.
-    Structural,
-}
-
-/// Two arguments that a candidate makes equal.
-#[derive(Clone, Copy)]
-pub struct Equation {
-    pub kind: EquationKind,
-    pub lhs: GenericArg,
-    pub rhs: GenericArg,
-}
-
-/// A region constraint that a candidate asks for.
-#[derive(Clone, Copy)]
-pub struct RegionConstraint {
-    pub relation: Relation,
-    pub left: GenericArg,
-    pub right: Region,
-}
-
-/// A goal that a candidate asks for.
-#[derive(Clone, Copy)]
-pub struct CandidateGoal {
-    pub source: GoalSource,
-    pub goal: Goal,
-}
-
-/// A way in which a goal may hold. Its terms name its fresh variables as canonical bound variables.
-#[derive(Drop)]
-pub struct CandidateData {
-    /// The sorts of the fresh variables.
-    pub fresh: Vec<Sort>,
-    pub equations: Vec<Equation>,
-    pub region_constraints: Vec<RegionConstraint>,
-    /// Aliases, each with the type that it hides.
-    pub hidden_types: Vec<(AliasTerm, Ty)>,
-    pub goals: Vec<CandidateGoal>,
-    /// How sure the candidate is where all that it asks for holds.
-    pub certainty: Certainty,
-    pub accesses: RerunCondition,
-}
+use nts_terms::{Cx, Goal, TraitId, TypingMode, UniverseIndex};
 
 /// What offers the rules of traits as data.
 pub trait GoalHandler {
@@ -65,7 +17,7 @@ pub trait GoalHandler {
     ghost use Rattle.nts_store.specs.Growth.{tree_at};
     ghost use Rattle.nts_store.specs.Formed.{AreFormed};
     ghost use Rattle.nts_delegate.specs.Candidates.{IsAskedIn, AreCandidates};
-    ghost use Rattle.nts_delegate.specs.Offered.{candidates_of};
+    ghost use Rattle.nts_candidates.specs.Offered.{candidates_of};
     ghost use Rattle.nts_delegate.specs.Relevant.{LeavesOut};
     ghost use Rattle.nts_terms.specs.Modes.{mode_of};
     ghost use Rattle.nts_delegate.specs.SameHandlers.{MeansSame};

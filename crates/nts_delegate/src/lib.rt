@@ -12,8 +12,8 @@ mod head_index;
 pub use assembly::Assembly;
 pub use assumptions::Assumptions;
 pub use both::Both;
-pub use clause_fits::{is_foreign_leaf_of, names_fresh};
 pub use clauses::{Clause, Clauses};
-pub use delegate::{
-    CandidateData, CandidateGoal, Equation, EquationKind, GoalHandler, RegionConstraint,
+pub use delegate::GoalHandler;
+pub use nts_candidates::{
+    CandidateData, CandidateGoal, Equation, EquationKind, Reason, RegionConstraint,
 };

@@ -33,14 +33,14 @@ use Rattle.nts_canonical.specs.declared.types.Canonical.{Canonical}
 use Rattle.nts_canonical.specs.declared.types.CanonicalVarKind.{CanonicalVarKind}
 use Rattle.nts_canonical.specs.Forms.{trees_of, kind_of_var}
 use Rattle.nts_canonical.specs.Kinds.{value_leaf, value_leaves, count_of, kind_of_position}
-use Rattle.nts_delegate.specs.declared.delegate.CandidateData.{CandidateData}
-use Rattle.nts_delegate.specs.Offered.{certainty_of, candidate_of, candidates_of}
+use Rattle.nts_candidates.specs.declared.data.CandidateData.{CandidateData}
+use Rattle.nts_candidates.specs.Offered.{certainty_of, candidate_of, candidates_of}
 use Rattle.nts_response.specs.declared.types.Response.{Response}
 use Rattle.nts_response.specs.Forms.{response_at, recorded_at, FoundNothing}
 use Rattle.nts_response.specs.Same.{AreOneResponse}
-use Rattle.nts_merging.specs.declared.merging.MergeCandidateInfo.{MergeCandidateInfo}
-use Rattle.nts_merging.specs.declared.merging.MergeCandidateInfo.TheVariants as info
-use Rattle.nts_merging.specs.Merging.{AppliesAlways, Merges}
+use Rattle.nts_search.specs.declared.merging.MergeCandidateInfo.{MergeCandidateInfo}
+use Rattle.nts_search.specs.declared.merging.MergeCandidateInfo.TheVariants as info
+use Rattle.nts_search.specs.Merging.{AppliesAlways, Merges}
 use Rattle.nts_search.specs.declared.stack.SearchGraph.{SearchGraph}
 use Rattle.nts_trying.specs.Found.{IsOverTerms, StandsForThem, IsMerged, kept_after}
 use Rattle.nts_trying.specs.Found.{Found}

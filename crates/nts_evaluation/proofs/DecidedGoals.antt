@@ -30,8 +30,8 @@ use Rattle.nts_trying.specs.Opening.{IsOpenedTo, CannotOpen}
 use Rattle.nts_trying.proofs.LeftOut.{unmet, among_all}
 use Rattle.nts_terms.specs.declared.modes.TypingMode.{TypingMode}
 use Rattle.nts_terms.specs.Modes.{mode_of}
-use Rattle.nts_delegate.specs.declared.delegate.CandidateData.{CandidateData}
-use Rattle.nts_delegate.specs.Offered.{candidates_of}
+use Rattle.nts_candidates.specs.declared.data.CandidateData.{CandidateData}
+use Rattle.nts_candidates.specs.Offered.{candidates_of}
 use Rattle.nts_evaluation.specs.Deciding.{IsRootQuery, CandidatesSettled}
 use Rattle.nts_evaluation.proofs.DecidedTrials.{formed_before}
 

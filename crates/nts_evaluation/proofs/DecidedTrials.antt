@@ -27,9 +27,9 @@ use Rattle.nts_unify.specs.Reading.{content_of}
 use Rattle.nts_unify.specs.Lawful.{content_of-extended}
 use Rattle.nts_table.specs.Tables.{Table, IsTable}
 use Rattle.nts_table.specs.TableLaws.{IsTable-extended}
-use Rattle.nts_delegate.specs.declared.delegate.CandidateData.{CandidateData}
+use Rattle.nts_candidates.specs.declared.data.CandidateData.{CandidateData}
 use Rattle.nts_delegate.specs.Candidates.{IsCandidate, AreNested}
-use Rattle.nts_delegate.specs.Offered.{constraint_of, premise_of, candidate_of}
+use Rattle.nts_candidates.specs.Offered.{constraint_of, premise_of, candidate_of}
 use Rattle.nts_response.specs.Forms.{premise_at}
 use Rattle.nts_meaning.specs.Evaluation.{IsPosed, goals_at}
 use Rattle.nts_meaning.proofs.Running.{term_table}

@@ -23,8 +23,8 @@ use Rattle.nts_table.specs.Tables.{Table, IsTable}
 use Rattle.nts_canonical.specs.declared.types.Canonical.{Canonical}
 use Rattle.nts_canonical.specs.Forms.{trees_of, kind_of_var}
 use Rattle.nts_canonical.specs.Kinds.{value_leaves}
-use Rattle.nts_delegate.specs.declared.delegate.CandidateData.{CandidateData}
-use Rattle.nts_delegate.specs.Offered.{candidate_of, candidates_of}
+use Rattle.nts_candidates.specs.declared.data.CandidateData.{CandidateData}
+use Rattle.nts_candidates.specs.Offered.{candidate_of, candidates_of}
 use Rattle.nts_delegate.specs.Relevant.{LeavesOut}
 use Rattle.nts_response.specs.declared.types.Response.{Response}
 use Rattle.nts_response.specs.Forms.{response_at, recorded_at, HoldsResponse}

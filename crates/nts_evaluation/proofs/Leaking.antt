@@ -14,8 +14,8 @@ use Rattle.nts_unify.specs.Reading.{content_of}
 use Rattle.nts_unify.specs.Lawful.{content_of-extended}
 use Rattle.nts_table.specs.Tables.{Table}
 use Rattle.nts_delegate.specs.SameHandlers.{MeansSame}
-use Rattle.nts_delegate.specs.declared.delegate.CandidateData.{CandidateData}
-use Rattle.nts_delegate.proofs.Results.{OnOk-map}
+use Rattle.nts_candidates.specs.declared.data.CandidateData.{CandidateData}
+use Rattle.nts_candidates.proofs.Results.{OnOk-map}
 use Rattle.nts_search.specs.declared.stack.SearchGraph.{SearchGraph}
 use Rattle.nts_theory.specs.Telling.Fails.{is_leaky}
 use Rattle.nts_meaning.specs.Meant.{Rules, Since, FailsIn, HasRunTo}

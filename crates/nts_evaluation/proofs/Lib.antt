@@ -1,11 +1,11 @@
 mod Failing
 mod FactQueries
-mod FactRoots
+pub mod FactRoots
 mod FactTrials
-mod Coherence
+pub mod Coherence
 mod Leaking
 mod AnswerExamples
-mod Deciding
+pub mod Deciding
 mod DecidedSteps
 mod DecidedCandidates
 mod DecidedTrials
@@ -14,3 +14,5 @@ mod DecidedGoals
 mod DecidedRounds
 mod DecidedExamples
 mod FactLeaves
+pub mod Skipped
+mod SkippedExamples

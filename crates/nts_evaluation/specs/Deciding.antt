@@ -29,12 +29,12 @@ use Rattle.nts_terms.specs.Modes.{mode_of}
 use Rattle.nts_terms.specs.declared.modes.TypingMode.{TypingMode}
 use Rattle.nts_unify.specs.Reading.{content_of}
 use Rattle.nts_table.specs.Tables.{Table}
-use Rattle.nts_delegate.specs.declared.delegate.CandidateData.{CandidateData}
-use Rattle.nts_delegate.specs.Offered.{candidate_of, candidates_of}
+use Rattle.nts_candidates.specs.declared.data.CandidateData.{CandidateData}
+use Rattle.nts_candidates.specs.Offered.{candidate_of, candidates_of}
 use Rattle.nts_canonical.specs.declared.types.Canonical.{Canonical}
 use Rattle.nts_canonical.specs.Forms.{form_of, trees_of, kind_of_var}
 use Rattle.nts_canonical.specs.Kinds.{value_leaves}
-use Rattle.nts_merging.specs.Merging.{AppliesAlways}
+use Rattle.nts_search.specs.Merging.{AppliesAlways}
 use Rattle.nts_response.specs.declared.types.Response.{Response}
 use Rattle.nts_response.specs.Forms.{response_at}
 use Rattle.nts_search.specs.declared.stack.SearchGraph.{SearchGraph}

@@ -1,3 +1,4 @@
 pub mod Deciding
 pub mod Promises
+pub mod Skipping
 pub mod Solutions

@@ -18,7 +18,7 @@ use Rattle.nts_model.specs.Canonical.Inputs.{canonical_of, IsInput}
 use Rattle.nts_canonical.specs.Building.{kinds_of}
 use Rattle.nts_response.specs.declared.types.Response.{Response}
 use Rattle.nts_response.specs.Forms.{response_at}
-use Rattle.nts_delegate.specs.Offered.{path_kind_of, candidate_of}
+use Rattle.nts_candidates.specs.Offered.{path_kind_of, candidate_of}
 use Rattle.nts_search.specs.declared.stack.SearchGraph.{SearchGraph}
 use Rattle.nts_meaning.specs.Meant.{Since, Rules, Always, meaning_since, IsQueryTold, IsQueryRefuted, AreOffered, IsOffered, IsServedSince, IsProvedNow, IsProvedFromSince, IsNestedSince, EvaluatesGoal, IsRefusedIn, EvaluatesUnder, IsRefusedUnder, IsTold, IsRefuted, HaveOutcomes, CandidatesTell, RepliesWith, FailsIn, HasRunTo, ReachesBy}
 use Rattle.nts_meaning.specs.Searching.{Searches, HeadsTell, IsCut, assumed_in, IsHeadAnswer, IsAnswerTold, IsGoalCut}
@@ -30,7 +30,7 @@ use Rattle.nts_terms.specs.declared.handles.Goal.{Goal}
 use Rattle.nts_terms.specs.declared.handles.GenericArg.{GenericArg}
 use Rattle.nts_unify.specs.Reading.{content_of}
 use Rattle.nts_table.specs.Tables.{Table}
-use Rattle.nts_delegate.specs.declared.delegate.CandidateData.{CandidateData}
+use Rattle.nts_candidates.specs.declared.data.CandidateData.{CandidateData}
 use Rattle.nts_search.specs.declared.kinds.CurrentGoalKind.{CurrentGoalKind}
 use Rattle.nts_search.specs.Kinds.{goal_kind_of}
 use Rattle.nts_search.specs.Searching.{entry_at, entries_at, HasNoInput}

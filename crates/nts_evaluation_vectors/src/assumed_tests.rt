@@ -4,9 +4,9 @@ ghost use Rattle.nts_terms.specs.Handles.{HoldsGoal};
 ghost use Rattle.nts_terms.specs.Rest.{Grows};
 
 use crate::evaluation_tests::evaluated;
+use crate::goals::goal_about;
 use nts_certainty::Certainty;
 use nts_delegate::{Assembly, Clauses};
-use nts_goal_fixtures::goal_about;
 use nts_model::Sort;
 use nts_table::InferCtxt;
 use nts_terms::{Cx, Goal, TyKind, TypingMode};

@@ -5,12 +5,12 @@ ghost use Rattle.nts_terms.specs.Rest.{Grows};
 ghost use Rattle.nts_delegate.specs.Clauses.{AreClausesReady};
 
 use crate::evaluation_tests::evaluated;
+use crate::goals::{goal_about, uint};
+use crate::rules::fact;
 use nts_certainty::{Certainty, HasChanged};
 use nts_delegate::{Clause, Clauses};
-use nts_goal_fixtures::{fact, goal_about, uint};
 use nts_model::{BoundVarIndexKind, Sort, UintTy, Variance};
-use nts_resolve::eager_resolve_vars;
-use nts_table::InferCtxt;
+use nts_table::{InferCtxt, eager_resolve_vars};
 use nts_terms::{BoundTy, CtorId, Cx, DefId, GenericArg, TraitId, TyKind, TypingMode};
 use std::test::Fail;
 

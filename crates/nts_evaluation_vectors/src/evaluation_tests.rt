@@ -4,14 +4,14 @@ ghost use Rattle.nts_table.specs.Tables.{IsTable};
 ghost use Rattle.nts_terms.specs.Handles.{HoldsGoal};
 ghost use Rattle.nts_terms.specs.Rest.{Grows};
 
+use crate::goals::{goal_about, goal_between, uint};
+use crate::rules::rule_of_one;
 use nts_certainty::{Certainty, HasChanged};
 use nts_delegate::{Clauses, GoalHandler};
 use nts_evaluation::{GoalEvaluation, GoalStalledOn, evaluate_root_goal, goal_is_admitted};
-use nts_goal_fixtures::{goal_about, goal_between, rule_of_one, uint};
 use nts_model::{BoundVarIndexKind, Sort, UintTy};
-use nts_resolve::eager_resolve_vars;
 use nts_store::EvalError;
-use nts_table::InferCtxt;
+use nts_table::{InferCtxt, eager_resolve_vars};
 use nts_terms::{BoundTy, Cx, Goal, PlaceholderType, Span, TraitId, TyKind, TypingMode};
 use std::test::Fail;
 

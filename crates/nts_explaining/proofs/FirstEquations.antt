@@ -11,10 +11,10 @@ use Rattle.nts_unify.specs.Reading.{content_of}
 use Rattle.nts_unify.specs.Lawful.{content_of-extended}
 use Rattle.nts_table.specs.Tables.{Table, IsTable}
 use Rattle.nts_terms.specs.declared.handles.Goal.{Goal}
-use Rattle.nts_delegate.specs.declared.delegate.Equation.{Equation}
-use Rattle.nts_delegate.specs.declared.delegate.CandidateData.{CandidateData}
+use Rattle.nts_candidates.specs.declared.data.Equation.{Equation}
+use Rattle.nts_candidates.specs.declared.data.CandidateData.{CandidateData}
 use Rattle.nts_delegate.specs.Candidates.{AreEquations, IsCandidate}
-use Rattle.nts_delegate.specs.Offered.{equation_of, candidate_of}
+use Rattle.nts_candidates.specs.Offered.{equation_of, candidate_of}
 use Rattle.nts_certainty.specs.declared.reruns.RerunCondition.TheVariants as rerun
 use Rattle.nts_meaning.proofs.Running.{candidate-kept}
 use Rattle.nts_explaining.specs.Explaining.{MeetsFirst, StopsAtEquation}

@@ -15,10 +15,10 @@ use Rattle.nts_unify.specs.Lawful.{content_of-extended}
 use Rattle.nts_table.specs.Tables.{Table, IsTable}
 use Rattle.nts_terms.specs.declared.handles.Goal.{Goal}
 use Rattle.nts_terms.specs.declared.modes.TypingMode.{TypingMode}
-use Rattle.nts_delegate.specs.declared.delegate.CandidateData.{CandidateData}
-use Rattle.nts_delegate.specs.declared.delegate.CandidateGoal.{CandidateGoal}
+use Rattle.nts_candidates.specs.declared.data.CandidateData.{CandidateData}
+use Rattle.nts_candidates.specs.declared.data.CandidateGoal.{CandidateGoal}
 use Rattle.nts_delegate.specs.Candidates.{AreCandidates}
-use Rattle.nts_delegate.specs.Offered.{candidate_of, candidates_of, premise_of}
+use Rattle.nts_candidates.specs.Offered.{candidate_of, candidates_of, premise_of}
 use Rattle.nts_response.specs.Forms.{premise_at}
 use Rattle.nts_meaning.proofs.Evaluating.{candidate_at, HoldsGoal-extended}
 use Rattle.nts_meaning.proofs.Running.{candidate-kept}
@@ -28,10 +28,10 @@ use Rattle.nts_trying.specs.Opening.{IsOpenedTo, CannotOpen}
 use Rattle.nts_explaining.specs.declared.conditions.Outcome.{Outcome}
 use Rattle.nts_explaining.specs.declared.conditions.Outcome.TheVariants as outcome
 use Rattle.nts_explaining.specs.Asking.{IsWithin, IsReasonOf}
-use Rattle.nts_reason.specs.declared.kinds.Reason.{Reason}
-use Rattle.nts_reason.specs.declared.kinds.Reason.TheVariants as reason
+use Rattle.nts_candidates.specs.declared.reasons.Reason.{Reason}
+use Rattle.nts_candidates.specs.declared.reasons.Reason.TheVariants as reason
 use Rattle.nts_explaining.specs.Explaining.{Explains, ExplainsEach, GivesReasons}
-use Rattle.nts_reason.specs.Held.{HoldsReason}
+use Rattle.nts_candidates.specs.HeldReasons.{HoldsReason}
 use Rattle.nts_explaining.specs.Explaining.ExplainsEach.{more}
 use Rattle.nts_explaining.specs.Explaining.GivesReasons.{of_candidates, is_unasked, is_unopened}
 

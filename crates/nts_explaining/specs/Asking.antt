@@ -4,8 +4,8 @@ use Rattle.nts_certainty.specs.declared.certainty.Certainty.{Certainty}
 use Rattle.nts_terms.specs.declared.handles.Goal.{Goal}
 use Rattle.nts_explaining.specs.declared.conditions.Outcome.{Outcome}
 use Rattle.nts_explaining.specs.declared.conditions.Outcome.TheVariants as outcome
-use Rattle.nts_reason.specs.declared.kinds.Reason.{Reason}
-use Rattle.nts_reason.specs.declared.kinds.Reason.TheVariants as reason
+use Rattle.nts_candidates.specs.declared.reasons.Reason.{Reason}
+use Rattle.nts_candidates.specs.declared.reasons.Reason.TheVariants as reason
 
 -- a condition that the outcome names is one of the first n
 abbrev pub IsWithin : ℕ → Outcome → Type 0

@@ -10,12 +10,12 @@ use Rattle.nts_table.specs.Tables.{Table}
 use Rattle.nts_terms.specs.declared.handles.Goal.{Goal}
 use Rattle.nts_terms.specs.declared.modes.TypingMode.{TypingMode}
 use Rattle.nts_terms.specs.Modes.{mode_of}
-use Rattle.nts_delegate.specs.Offered.{certainty_of}
+use Rattle.nts_candidates.specs.Offered.{certainty_of}
 use Rattle.nts_meaning.specs.Evaluation.{IsAskedGoal}
 use Rattle.nts_meaning.specs.Meant.{offers_of}
 use Rattle.nts_trying.specs.Opening.{IsOpenedTo, CannotOpen}
-use Rattle.nts_reason.specs.declared.kinds.Reason.{Reason}
-use Rattle.nts_reason.specs.declared.kinds.Reason.TheVariants as reason
+use Rattle.nts_candidates.specs.declared.reasons.Reason.{Reason}
+use Rattle.nts_candidates.specs.declared.reasons.Reason.TheVariants as reason
 
 -- some world of the table meets the first n equations of the candidate
 abbrev pub MeetsFirst : ℕ → Content → Candidate → Type 0

@@ -4,7 +4,7 @@ ghost use Rattle.nts_model.specs.Refutation.Choosing.{IsCandidateMet};
 ghost use Rattle.nts_unify.specs.Reading.{content_of};
 ghost use Rattle.nts_certainty.specs.declared.reruns.RerunCondition.TheVariants.{Never};
 ghost use Rattle.nts_delegate.specs.Candidates.{IsCandidate};
-ghost use Rattle.nts_delegate.specs.Offered.{candidate_of};
+ghost use Rattle.nts_candidates.specs.Offered.{candidate_of};
 ghost use Rattle.nts_meaning.specs.Evaluation.{IsPosed};
 ghost use Rattle.nts_terms.specs.Rest.{Grows};
 ghost use Rattle.nts_explaining.specs.Explaining.{MeetsFirst, StopsAtEquation};

@@ -7,4 +7,4 @@ mod conditions;
 mod equations;
 
 pub use candidates::explain;
-pub use nts_reason::Reason;
+pub use nts_delegate::Reason;

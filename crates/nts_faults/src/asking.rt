@@ -6,10 +6,9 @@ ghost use Rattle.nts_delegate.specs.Clauses.{AreClausesReady};
 ghost use Rattle.nts_table.specs.Tables.{IsTable};
 ghost use Rattle.nts_terms.specs.Rest.{Grows};
 
-use crate::content::content_of;
-use crate::rows::Called;
 use nts_delegate::{Clause, Clauses};
 use nts_evaluation::{evaluate_root_goal, goal_is_admitted};
+use nts_fault_rows::{Called, content_of};
 use nts_fixtures::Fixture;
 use nts_model::{BoundVarIndexKind, Sort, UintTy};
 use nts_store::EvalError;

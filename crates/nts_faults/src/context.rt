@@ -8,12 +8,11 @@ ghost use Rattle.nts_meaning.specs.Evaluation.{Runs, IsPosed};
 ghost use Rattle.nts_contexts.specs.Contexts.{IsContextReady, KeepsContext, IsGoalOfContext};
 
 use crate::asking::{goal_of, rules_of, traits_of};
-use crate::content::content_of;
-use crate::rows::Called;
 use nts_certainty::GoalSource;
 use nts_contexts::EvalCtxt;
 use nts_delegate::Clauses;
 use nts_evaluation::goal_is_admitted;
+use nts_fault_rows::{Called, content_of};
 use nts_fixtures::Fixture;
 use nts_model::UintTy;
 use nts_store::EvalError;

@@ -8,19 +8,16 @@
 #![tactic(auto)]
 
 mod asking;
-mod content;
 mod context;
-mod rows;
 
 ghost use Rattle.std.specs.Prelude.{OnOk};
 ghost use Rattle.nts_table.specs.Tables.{IsTable};
 
 use asking::{Rule, ask};
-use content::{content_of, fill};
+use nts_fault_rows::{Called, content_of, fill};
 use nts_fixtures::Fixture;
 use nts_model::UintTy;
 use nts_store::EvalError;
-use rows::Called;
 use std::alloc::Global;
 use std::io;
 use std::process::ExitCode;
@@ -69,13 +66,13 @@ fn call(fixture: &mut Fixture, row: &str) -> Result<Called, EvalError>
             let wrapped = fixture.wrap(byte)?;
             ask(fixture, Rule::Condition, wrapped)
         }
-        "relate" => rows::relate(fixture),
-        "equate" => rows::equate(fixture),
-        "canonicalize" => rows::canonicalize(fixture),
-        "instantiate" => rows::instantiate(fixture),
-        "apply" => rows::apply(fixture),
-        "open" => rows::open(fixture),
-        "hide" => rows::hide(fixture, alias, variable),
+        "relate" => nts_fault_rows::relate(fixture),
+        "equate" => nts_fault_rows::equate(fixture),
+        "canonicalize" => nts_fault_rows::canonicalize(fixture),
+        "instantiate" => nts_fault_rows::instantiate(fixture),
+        "apply" => nts_fault_rows::apply(fixture),
+        "open" => nts_fault_rows::open(fixture),
+        "hide" => nts_fault_rows::hide(fixture, alias, variable),
         "context" => context::context(fixture),
         _ => Err(EvalError::NoSolution),
     }

@@ -8,7 +8,8 @@ ghost use Rattle.nts_folding.specs.Folding.{MayAnswer, AtBinder, Starts, HandsOv
 ghost use Rattle.nts_terms.specs.Rest.{Grows};
 
 use nts_model::{Label, ListHead, Sort};
-use nts_store::{NodeId, Task, binders_of, push_node, sort_of};
+use nts_replacing::{Task, push_node};
+use nts_store::{NodeId, binders_of, sort_of};
 use nts_terms::{Const, Cx, Predicate, Region, Term, Ty};
 use std::alloc::AllocError;
 

@@ -1,7 +1,7 @@
 //! A trait that holds where it holds.
 ghost use Rattle.std.specs.Prelude.{◌≡◌, IfOk, IsOkUnless};
 ghost use Rattle.nts_delegate.specs.Candidates.{IsAskedIn, IsCandidate};
-ghost use Rattle.nts_delegate.specs.Offered.{candidate_of};
+ghost use Rattle.nts_candidates.specs.Offered.{candidate_of};
 ghost use Rattle.nts_store.specs.Growth.{tree_at};
 ghost use Rattle.nts_marker.specs.Circling.{again};
 

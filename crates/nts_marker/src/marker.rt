@@ -3,7 +3,7 @@ ghost use Rattle.std.specs.Prelude.{◌≡◌, ℕ, ◌∷◌, [], false, List};
 ghost use Rattle.nts_model.specs.Terms.Trees.{Tree};
 ghost use Rattle.nts_store.specs.Growth.{tree_at};
 ghost use Rattle.nts_terms.specs.Handles.{HoldsGoal};
-ghost use Rattle.nts_delegate.specs.Offered.{candidate_of, certainty_of};
+ghost use Rattle.nts_candidates.specs.Offered.{candidate_of, certainty_of};
 ghost use Rattle.nts_marker.specs.Marking.{marks, fact};
 
 use nts_certainty::{Certainty, RerunCondition};
@@ -51,7 +51,7 @@ pub(crate) fn marks(id: TraitId, cx: &Cx, goal: Goal) -> bool
 }
 
 impl GoalHandler for Marker {
-    ghost use Rattle.nts_delegate.specs.Offered.{certainty_of};
+    ghost use Rattle.nts_candidates.specs.Offered.{certainty_of};
     ghost use Rattle.nts_marker.specs.Marking.{marking};
     ghost use Rattle.nts_marker.specs.MarkerLaws.{IsLawfulHandler-marking, RulesAreOffered-marking, MeansSame-itself};
 

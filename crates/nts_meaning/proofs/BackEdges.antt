@@ -24,7 +24,7 @@ use Rattle.nts_canonical.specs.declared.types.Canonical.{Canonical}
 use Rattle.nts_canonical.specs.declared.types.CanonicalInput.{CanonicalInput}
 use Rattle.nts_canonical.specs.Forms.{form_of}
 use Rattle.nts_canonical.specs.Building.{kinds_of}
-use Rattle.nts_delegate.specs.Offered.{path_kind_of, certainty_of}
+use Rattle.nts_candidates.specs.Offered.{path_kind_of, certainty_of}
 use Rattle.nts_response.specs.declared.types.Response.{Response}
 use Rattle.nts_response.specs.Applicable.{IsApplicable}
 use Rattle.nts_response.specs.Forms.{response_at, HoldsResponse}

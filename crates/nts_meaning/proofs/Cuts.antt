@@ -10,7 +10,7 @@ use Rattle.nts_certainty.specs.declared.sources.PathKind.{PathKind as PathKindDa
 use Rattle.nts_store.specs.Growth.{Extends}
 use Rattle.nts_terms.specs.declared.modes.TypingMode.{TypingMode}
 use Rattle.nts_canonical.specs.Forms.{form_of}
-use Rattle.nts_delegate.specs.Offered.{path_kind_of}
+use Rattle.nts_candidates.specs.Offered.{path_kind_of}
 use Rattle.nts_search.specs.declared.stack.StackEntry.{StackEntry}
 use Rattle.nts_search.specs.declared.stack.SearchGraph.{SearchGraph}
 use Rattle.nts_search.specs.Searching.{IsStack, entry_at}

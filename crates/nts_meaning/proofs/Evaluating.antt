@@ -35,9 +35,9 @@ use Rattle.nts_model.proofs.Tables.Slots.{KeepsKinds, KeepsKinds-with_slot, fiel
 use Rattle.nts_unify.proofs.SavedLemmas.{push_inj}
 use Rattle.nts_table.proofs.GoingBack.{back_to}
 use Rattle.nts_table.proofs.Filling.{knows-filled}
-use Rattle.nts_delegate.specs.declared.delegate.CandidateData.{CandidateData}
-use Rattle.nts_delegate.specs.declared.delegate.RegionConstraint.{RegionConstraint}
-use Rattle.nts_delegate.specs.declared.delegate.CandidateGoal.{CandidateGoal}
+use Rattle.nts_candidates.specs.declared.data.CandidateData.{CandidateData}
+use Rattle.nts_candidates.specs.declared.data.RegionConstraint.{RegionConstraint}
+use Rattle.nts_candidates.specs.declared.data.CandidateGoal.{CandidateGoal}
 use Rattle.nts_unify.specs.Recording.{Records}
 use Rattle.nts_model.specs.Tables.Recording.{left_kind}
 use Rattle.nts_unify.specs.Reading.{content_of, slot_of, recorded_of, IsConstraint}
@@ -53,7 +53,7 @@ use Rattle.nts_unify.specs.declared.contents.Variable.{Variable}
 use Rattle.nts_terms.specs.declared.cx.Cx.{Cx}
 use Rattle.nts_terms.specs.Rest.{KeepsRest, Grows}
 use Rattle.nts_terms.specs.Signatures.{variances_in}
-use Rattle.nts_delegate.specs.declared.delegate.Equation.{Equation}
+use Rattle.nts_candidates.specs.declared.data.Equation.{Equation}
 use Rattle.nts_model.specs.declared.labels.Sort.TheVariants as sort
 use Rattle.nts_delegate.specs.Candidates.{IsEquation, AreEquations, IsRegionConstraint, AreRegionConstraints, IsNestedIn, AreNested, IsCandidate, AreCandidates, IsOverIn}
 use Rattle.nts_delegate.proofs.Over.{over_knows}

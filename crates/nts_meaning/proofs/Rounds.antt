@@ -29,7 +29,7 @@ use Rattle.nts_canonical.specs.declared.types.CanonicalInput.{CanonicalInput}
 use Rattle.nts_canonical.specs.Alike.{AreOneInput}
 use Rattle.nts_canonical.specs.Forms.{form_of, HoldsQuery}
 use Rattle.nts_canonical.specs.Building.{kinds_of}
-use Rattle.nts_delegate.specs.Offered.{path_kind_of}
+use Rattle.nts_candidates.specs.Offered.{path_kind_of}
 use Rattle.nts_response.specs.declared.types.Response.{Response}
 use Rattle.nts_response.specs.Forms.{response_at}
 use Rattle.nts_search.specs.declared.stack.StackEntry.{StackEntry}

@@ -45,16 +45,16 @@ use Rattle.nts_unify.specs.Recording.{Records}
 use Rattle.nts_model.specs.Tables.Recording.{left_kind}
 use Rattle.nts_unify.specs.Reading.{content_of, recorded_of, AreConstraints}
 use Rattle.nts_table.specs.Tables.{IsTable}
-use Rattle.nts_delegate.specs.declared.delegate.Equation.{Equation}
-use Rattle.nts_delegate.specs.declared.delegate.EquationKind.{EquationKind}
-use Rattle.nts_delegate.specs.declared.delegate.EquationKind.TheVariants as kind_data
-use Rattle.nts_delegate.specs.declared.delegate.RegionConstraint.{RegionConstraint}
-use Rattle.nts_delegate.specs.declared.delegate.CandidateGoal.{CandidateGoal}
-use Rattle.nts_delegate.specs.declared.delegate.CandidateData.{CandidateData}
+use Rattle.nts_candidates.specs.declared.data.Equation.{Equation}
+use Rattle.nts_candidates.specs.declared.data.EquationKind.{EquationKind}
+use Rattle.nts_candidates.specs.declared.data.EquationKind.TheVariants as kind_data
+use Rattle.nts_candidates.specs.declared.data.RegionConstraint.{RegionConstraint}
+use Rattle.nts_candidates.specs.declared.data.CandidateGoal.{CandidateGoal}
+use Rattle.nts_candidates.specs.declared.data.CandidateData.{CandidateData}
 use Rattle.nts_terms.specs.declared.handles.Goal.{Goal}
 use Rattle.nts_delegate.specs.Candidates.{AreEquations, AreRegionConstraints, AreNested, IsCandidate, AreCandidates}
 use Rattle.nts_certainty.specs.Accesses.{access_of}
-use Rattle.nts_delegate.specs.Offered.{certainty_of, source_of, equation_as, equation_of, hidden_of, constraint_of, premise_of, candidate_of, candidates_of}
+use Rattle.nts_candidates.specs.Offered.{certainty_of, source_of, equation_as, equation_of, hidden_of, constraint_of, premise_of, candidate_of, candidates_of}
 use Rattle.nts_meaning.specs.Meant.{IsServed}
 use Rattle.nts_meaning.specs.Running.{Stays, EquationHolds, ConstraintHolds, PremiseHolds, EachStays, EquatesEach, Constrains}
 use Rattle.nts_theory.specs.Telling.{IsTermTable}

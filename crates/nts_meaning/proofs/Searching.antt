@@ -36,7 +36,7 @@ use Rattle.nts_meaning.specs.Answering.{IsFormOf, IsQueryInput, IsAnswerTo, Tell
 use Rattle.nts_meaning.specs.Meant.{IsServed}
 use Rattle.nts_meaning.specs.Running.{Stays}
 use Rattle.nts_meaning.specs.Telling.{QueryTells}
-use Rattle.nts_delegate.specs.Offered.{path_kind_of}
+use Rattle.nts_candidates.specs.Offered.{path_kind_of}
 use Rattle.nts_search.specs.declared.stack.StackEntry.{StackEntry}
 use Rattle.nts_search.specs.declared.stack.SearchGraph.{SearchGraph}
 use Rattle.nts_canonical.specs.Alike.{AreOneInput}

@@ -35,8 +35,8 @@ use Rattle.nts_unify.specs.Reading.{content_of, recorded_of, IsConstraint, AreCo
 use Rattle.nts_unify.specs.Lawful.{content_of-extended}
 use Rattle.nts_table.specs.Tables.{IsTable, IsTermIn, Table}
 use Rattle.nts_model.specs.Tables.Recording.{resolved_constraint, resolved_constraints, RelatesSame, IsAmong, AreNews, none, passed, told}
-use Rattle.nts_delegate.specs.declared.delegate.RegionConstraint.{RegionConstraint}
-use Rattle.nts_delegate.specs.Offered.{hidden_of}
+use Rattle.nts_candidates.specs.declared.data.RegionConstraint.{RegionConstraint}
+use Rattle.nts_candidates.specs.Offered.{hidden_of}
 use Rattle.nts_canonical.specs.Forms.{trees_of}
 use Rattle.nts_canonical.specs.Building.{IsArgOf}
 use Rattle.nts_certainty.specs.declared.certainty.Certainty.{Certainty}

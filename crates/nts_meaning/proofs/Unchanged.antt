@@ -3,7 +3,7 @@ use Rattle.std.proofs.Common.{◌≡◌, inl, inr, ⊎_elim, ℕ, zero, suc, ◌
 use Rattle.std.specs.Prelude.{slice_get, Contains, All}
 use Rattle.std.proofs.lemmas.List.{length-map}
 use Rattle.nts_model.proofs.Terms.Listed.{map-map}
-use Rattle.nts_delegate.specs.Offered.{hidden_of}
+use Rattle.nts_candidates.specs.Offered.{hidden_of}
 use Rattle.nts_response.specs.Replacing.{argument_value}
 use Rattle.nts_model.specs.declared.labels.Sort.TheVariants as sort
 use Rattle.nts_model.specs.declared.labels.Leaf.{Leaf}

@@ -18,7 +18,7 @@ use Rattle.nts_table.specs.Tables.{Table}
 use Rattle.nts_unify.specs.Reading.{content_of}
 use Rattle.nts_terms.specs.declared.modes.TypingMode.{TypingMode}
 use Rattle.nts_terms.specs.Modes.{mode_of}
-use Rattle.nts_delegate.specs.declared.delegate.CandidateData.{CandidateData}
+use Rattle.nts_candidates.specs.declared.data.CandidateData.{CandidateData}
 use Rattle.nts_terms.specs.declared.handles.GenericArg.{GenericArg}
 use Rattle.nts_certainty.specs.declared.sources.GoalSource.{GoalSource}
 use Rattle.nts_canonical.specs.declared.types.Canonical.{Canonical}
@@ -28,7 +28,7 @@ use Rattle.nts_response.specs.declared.types.Response.{Response}
 use Rattle.nts_response.specs.Forms.{response_at}
 use Rattle.nts_model.specs.Canonical.Inputs.{PositionKind}
 use Rattle.nts_model.specs.Answers.Responses.{answer_sequent}
-use Rattle.nts_delegate.specs.Offered.{source_of, candidate_of, candidates_of}
+use Rattle.nts_candidates.specs.Offered.{source_of, candidate_of, candidates_of}
 use Rattle.nts_meaning.specs.Telling.{Tells, Refutes, Outcomes, Replies, Fails, Reaches, RefusesOne, Asked, Refused, QueryTells, QueryRefutes}
 use Rattle.nts_theory.specs.Telling.{IsPlainResponse, goals_with, IsBegun}
 use Rattle.nts_meaning.specs.Evaluation.{goals_at}

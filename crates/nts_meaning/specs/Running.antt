@@ -17,9 +17,9 @@ use Rattle.nts_terms.specs.declared.handles.Goal.{Goal}
 use Rattle.nts_store.specs.Growth.{tree_at}
 use Rattle.nts_table.specs.Tables.{Table}
 use Rattle.nts_unify.specs.Reading.{content_of}
-use Rattle.nts_delegate.specs.declared.delegate.Equation.{Equation as EquationData}
-use Rattle.nts_delegate.specs.declared.delegate.RegionConstraint.{RegionConstraint}
-use Rattle.nts_delegate.specs.Offered.{equation_of, constraint_of}
+use Rattle.nts_candidates.specs.declared.data.Equation.{Equation as EquationData}
+use Rattle.nts_candidates.specs.declared.data.RegionConstraint.{RegionConstraint}
+use Rattle.nts_candidates.specs.Offered.{equation_of, constraint_of}
 
 -- under this table, and under each later one
 pub record Stays (c : Content) (P : Content → Type 0) : Type 0 where

@@ -22,7 +22,7 @@ use Rattle.nts_meaning.specs.Answering.{IsQueryInput, IsAnswerTo, verdict_at}
 use Rattle.nts_meaning.specs.Telling.{QueryTells, QueryRefutes}
 use Rattle.nts_theory.specs.Telling.{IsCutIn, IsInputFor}
 use Rattle.nts_model.specs.Derivations.Sequents.{inductive}
-use Rattle.nts_delegate.specs.Offered.{path_kind_of}
+use Rattle.nts_candidates.specs.Offered.{path_kind_of}
 use Rattle.nts_model.specs.Tables.Contents.{Content}
 
 -- an answer to an input of these kinds can be applied where that is asked

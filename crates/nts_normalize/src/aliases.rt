@@ -13,9 +13,8 @@ ghost use Rattle.nts_normalize.specs.Normalizing.{is_alias_tree, NamesVariables}
 ghost use Rattle.nts_normalize.specs.Naming.{IsNamedBy};
 
 use nts_model::Label;
-use nts_resolve::eager_resolve_vars;
 use nts_store::{Fault, LabelTest, all_labels};
-use nts_table::InferCtxt;
+use nts_table::{InferCtxt, eager_resolve_vars};
 use nts_terms::{AliasTerm, ConstKind, Cx, Term, TermKind, TyKind, UniverseIndex};
 use nts_unify::named_variable;
 

@@ -4,6 +4,8 @@
 #[cfg(test)]
 mod fixture;
 #[cfg(test)]
+mod placeholder;
+#[cfg(test)]
 mod scripts;
 #[cfg(test)]
 mod steps;

@@ -10,7 +10,7 @@ use Rattle.nts_model.specs.Terms.Trees.{Tree, empty, more, node, binders, childr
 use Rattle.nts_placeholder.specs.declared.maps.Placeholder.{Placeholder}
 use Rattle.nts_placeholder.specs.declared.maps.BoundVar.{BoundVar}
 use Rattle.nts_placeholder.specs.Closing.{placeholder_of, one_on, is_universe, entry_of, closed_placeholder, closed_label, closed_by}
-use Rattle.nts_store.specs.Under.{GoesInside}
+use Rattle.nts_replacing.specs.Under.{GoesInside}
 
 no_placeholder : (l : Label) → is_placeholder l ≡ false → placeholder_of l ≡ None
 no_placeholder (label.Leaf (leaf.Region (region.Placeholder u n))) h = cc

@@ -12,7 +12,8 @@ ghost use Rattle.nts_placeholder.specs.ClosingLaws.{Closing, CanClose, closing_o
 use crate::maps::{Placeholder, PlaceholderMaps};
 use crate::universes::entry_of_universe;
 use nts_model::{BoundVarIndexKind, Constant, FreeRegion, Label, Leaf, Sort};
-use nts_store::{Fault, NodeId, Nodes, Place, ReplacerUnder, replace_under};
+use nts_replacing::{Place, ReplacerUnder, replace_under};
+use nts_store::{Fault, NodeId, Nodes};
 use nts_table::{InferCtxt, resolve_nodes};
 use nts_terms::{Cx, Stored, UniverseIndex};
 use std::alloc::{AllocError, Global};

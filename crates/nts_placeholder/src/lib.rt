@@ -11,5 +11,5 @@ mod universes;
 pub use closing::PlaceholderReplacer;
 pub use laws::{closing_gives_back, known_stays_known};
 pub use maps::{BoundVar, Placeholder, PlaceholderMaps};
-pub use nts_store::{Place, ReplacerUnder, replace_under};
+pub use nts_replacing::{Place, ReplacerUnder, replace_under};
 pub use opening::BoundVarReplacer;

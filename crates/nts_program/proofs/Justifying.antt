@@ -19,12 +19,12 @@ use Rattle.nts_delegate.specs.declared.clauses.Clauses.{Clauses}
 use Rattle.nts_text.specs.declared.resolver.Resolved.{Resolved}
 use Rattle.nts_wording.specs.declared.variables.LineVariables.{LineVariables}
 use Rattle.nts_wording.specs.Meaning.{HasOwnPlaces, HasPlace, AreVariablesFrom, IsGoalOf}
-use Rattle.nts_printing.specs.Found.{IsFoundIn, IsOf}
+use Rattle.nts_wording.specs.Found.{IsFoundIn, IsOf}
 use Rattle.nts_text.specs.declared.parser.Mode.{Mode}
 use Rattle.nts_declaring.specs.Posing.{IsTypingMode}
 use Rattle.nts_program.specs.Proving.{rules_with, IsProvedGoal, IsJustifiedAnswer}
-use Rattle.nts_printing.specs.declared.answer.Answer.{Answer}
-use Rattle.nts_printing.specs.declared.answer.Answer.TheVariants as answers
+use Rattle.nts_wording.specs.declared.answer.Answer.{Answer}
+use Rattle.nts_wording.specs.declared.answer.Answer.TheVariants as answers
 
 pub earlier : (a b : Cx) (us : List Tree) (h : Clauses) (t : Table) (g : Goal) → Grows a b → IsProvedGoal b us h t g → IsProvedGoal a us h t g
 earlier a b us h t g e k =

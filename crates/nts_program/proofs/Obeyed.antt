@@ -1,7 +1,7 @@
 -- What a line does, by its command.
 use Rattle.std.proofs.Common.{◌≡◌, ℕ, true, false, List, Option, Result, Ok, Err, inl, inr, ap}
 use Rattle.std.specs.Prelude.{IfOk, OnOk, OnErr}
-use Rattle.nts_printing.specs.declared.answer.Answer.{Answer}
+use Rattle.nts_wording.specs.declared.answer.Answer.{Answer}
 use Rattle.nts_text.specs.Commands.{IsCommandOf, IsMeant, Declares}
 use Rattle.nts_text.specs.Spelled.{KeepsNumbers}
 use Rattle.nts_text.specs.declared.commands.Command.{Command}

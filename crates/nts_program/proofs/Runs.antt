@@ -1,7 +1,7 @@
 -- Lines that are obeyed one after the other.
 use Rattle.std.proofs.Common.{◌≡◌, ℕ, ◌+◌, ◌<◌, List, [], ◌∷◌, ◌++◌, length, Option, None, Some, length-append, refl, sym, ap, subst, ◌∙◌, append_assoc, arith}
-use Rattle.nts_printing.specs.declared.answer.Answer.{Answer}
-use Rattle.nts_printing.specs.Answers.{IsAnswerPut}
+use Rattle.nts_wording.specs.declared.answer.Answer.{Answer}
+use Rattle.nts_wording.specs.Answers.{IsAnswerPut}
 use Rattle.std.specs.Io.Buffered.{reader_inner, reader_buffer, reader_capacity, reader_remaining}
 use Rattle.std.specs.declared.io.buffered.BufReader.{BufReader}
 use Rattle.std.proofs.KnownBytes.{prepend_known-nil, Appends-kept}
@@ -17,12 +17,12 @@ use Rattle.nts_declaring.specs.declared.program.Program.{Program}
 use Rattle.nts_wording.specs.declared.status.Status.TheVariants.{Done, Refused}
 use Rattle.nts_wording.specs.declared.status.Stop.{Stop}
 use Rattle.nts_wording.specs.declared.status.Stop.TheVariants as stop
-use Rattle.nts_printing.specs.Growing.{refusal_line, IsStopTold}
+use Rattle.nts_wording.specs.Growing.{refusal_line, IsStopTold}
 use Rattle.nts_wording.specs.Statuses.{status_of}
 use Rattle.nts_declaring.specs.Declaring.{IsNewProgram}
 use Rattle.nts_program.specs.Obeying.{IsObeyed}
 use Rattle.nts_program.specs.Running.{IsTextOf, IsAnsweredLine, AreObeyed, AnswersAll, StopsAtRefusal}
-use Rattle.nts_printing.proofs.Growths.{Appends-trans, Appends-none}
+use Rattle.nts_wording.proofs.Growths.{Appends-trans, Appends-none}
 
 obeyed_more : (lines : List (List ℕ)) (line : List ℕ) (p q r : Program) (s t : List ℕ) (o : Option Answer)
     → AreObeyed lines p q s → IsObeyed line q r o → IsTextOf r o t → AreObeyed (lines ++ line ∷ []) p r (s ++ t)

@@ -7,7 +7,7 @@ use Rattle.nts_text.specs.Spelled.{KeepsNumbers}
 use Rattle.nts_text.specs.declared.commands.Command.{Command}
 use Rattle.nts_text.specs.declared.commands.Command.TheVariants as commands
 use Rattle.nts_text.specs.declared.resolver.Resolved.{Resolved}
-use Rattle.nts_printing.specs.declared.answer.Answer.{Answer}
+use Rattle.nts_wording.specs.declared.answer.Answer.{Answer}
 use Rattle.nts_declaring.specs.declared.program.Program.{Program}
 use Rattle.nts_declaring.specs.Declaring.{KeepsRules, HasDeclared}
 use Rattle.nts_program.specs.Proving.{IsJustifiedAnswer}

@@ -5,9 +5,9 @@ use Rattle.nts_text.specs.Input.{lines_of}
 use Rattle.nts_text.specs.Lines.{IsPassedOver}
 use Rattle.nts_text.specs.declared.refusals.Refusal.{Refusal}
 use Rattle.nts_declaring.specs.declared.program.Program.{Program}
-use Rattle.nts_printing.specs.declared.answer.Answer.{Answer}
-use Rattle.nts_printing.specs.Answers.{IsAnswerText}
-use Rattle.nts_printing.specs.Growing.{refusal_line}
+use Rattle.nts_wording.specs.declared.answer.Answer.{Answer}
+use Rattle.nts_wording.specs.Answers.{IsAnswerText}
+use Rattle.nts_wording.specs.Growing.{refusal_line}
 use Rattle.nts_declaring.specs.Declaring.{IsNewProgram}
 use Rattle.nts_program.specs.Obeying.{IsObeyed}
 

@@ -6,19 +6,18 @@ ghost use Rattle.nts_delegate.specs.Clauses.{AreClausesReady};
 ghost use Rattle.nts_meaning.specs.Evaluation.{IsAdmitted};
 ghost use Rattle.nts_certainty.specs.declared.certainty.Certainty.TheVariants as certainty;
 ghost use Rattle.nts_program.specs.Proving.{IsProvedGoal, IsJustifiedAnswer};
-ghost use Rattle.nts_printing.specs.Found.{IsKnownValue};
+ghost use Rattle.nts_wording.specs.Found.{IsKnownValue};
 ghost use Rattle.nts_terms.specs.Rest.{Grows};
 
 use nts_certainty::{Certainty, MaybeCause};
 use nts_declaring::pose;
 use nts_delegate::{Assembly, Clauses};
 use nts_evaluation::{evaluate_root_goal, goal_is_admitted};
-use nts_printing::{Answer, answer_of};
 use nts_store::EvalError;
 use nts_table::InferCtxt;
 use nts_terms::{Cx, GenericArg, Goal, ParamEnv, Span};
 use nts_text::{Mode, Resolved};
-use nts_wording::{MISFIT, Stop};
+use nts_wording::{Answer, MISFIT, Stop, answer_of};
 
 /// Asks a goal in this environment, or in the empty one, with its clauses and these as the rules.
 #[tactic(auto, using(crate::proofs::Asking::asking))]

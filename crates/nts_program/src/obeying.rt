@@ -7,9 +7,8 @@ ghost use Rattle.nts_program.specs.Obeying.{Follows, IsObeyed};
 
 use crate::answer::ask;
 use nts_declaring::Program;
-use nts_printing::Answer;
 use nts_text::{Command, read_command};
-use nts_wording::Stop;
+use nts_wording::{Answer, Stop};
 
 /// Does what a line says. The result is its answer, if it asks for one.
 pub fn obey(program: &mut Program, line: &[u8]) -> Result<Option<Answer>, Stop>

@@ -2,22 +2,21 @@
 ghost use Rattle.std.specs.Prelude.{◌≡◌, OnOk, IfErr};
 ghost use Rattle.nts_delegate.specs.Clauses.{AreClausesReady};
 ghost use Rattle.nts_text.specs.Lines.{IsPassedOver};
-ghost use Rattle.nts_printing.specs.Growing.{Begins, IsStopTold};
+ghost use Rattle.nts_wording.specs.Growing.{Begins, IsStopTold};
 ghost use Rattle.nts_program.specs.Running.{IsAnsweredLine, AnswersAll, StopsAtRefusal};
 ghost use Rattle.nts_wording.specs.Statuses.{status_of};
 ghost use Rattle.nts_wording.specs.declared.status.Status.TheVariants.{Done, Refused};
 
 use crate::obeying::obey;
 use nts_declaring::Program;
-use nts_printing::put_refusal;
 use nts_text::next_line;
-use nts_wording::{Status, Stop};
+use nts_wording::{Status, Stop, put_refusal};
 use std::alloc::Global;
 use std::io::{BufRead, BufReader, Read, Write};
 
 /// Handles the lines of the input in order, and writes the answers, each before the next line is read. Whatever happens, what
 /// was written before stays.
-#[tactic(auto, using(nts_printing::proofs::Growths::writes))]
+#[tactic(auto, using(nts_wording::proofs::Growths::writes))]
 pub fn run<R: Read + Drop, W: Write>(alloc: Global, input: R, output: &mut W) -> Status
     ensures done { result ≡ Done → AnswersAll (R.remaining input) (W.contents output.old)
         (W.contents output.new) }
@@ -35,7 +34,7 @@ pub fn run<R: Read + Drop, W: Write>(alloc: Global, input: R, output: &mut W) ->
     }
 }
 
-#[tactic(auto, using(nts_printing::proofs::Growths::writes))]
+#[tactic(auto, using(nts_wording::proofs::Growths::writes))]
 fn run_input<R: Read + Drop, W: Write>(alloc: Global, input: R, output: &mut W) -> Result<(), Stop>
     ensures done { OnOk result (AnswersAll (R.remaining input) (W.contents output.old)
         (W.contents output.new)) }
@@ -47,7 +46,7 @@ fn run_input<R: Read + Drop, W: Write>(alloc: Global, input: R, output: &mut W) 
     run_lines(alloc, &mut reader, output)
 }
 
-#[tactic(auto, using(nts_printing::proofs::Growths::writes))]
+#[tactic(auto, using(nts_wording::proofs::Growths::writes))]
 fn run_lines<R: BufRead, W: Write>(
     alloc: Global,
     reader: &mut R,
@@ -71,7 +70,7 @@ fn run_lines<R: BufRead, W: Write>(
 }
 
 /// Does what a line says, and writes its answer or why it is refused.
-#[tactic(auto, using(nts_printing::proofs::Growths::writes))]
+#[tactic(auto, using(nts_wording::proofs::Growths::writes))]
 fn handle_line<W: Write>(
     program: &mut Program,
     line: &[u8],

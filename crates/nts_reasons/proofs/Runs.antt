@@ -12,9 +12,9 @@ use Rattle.nts_text.proofs.InputLemmas.{lines_of-first}
 use Rattle.nts_wording.specs.declared.status.Status.TheVariants.{Refused}
 use Rattle.nts_wording.specs.declared.status.Stop.{Stop}
 use Rattle.nts_wording.specs.declared.status.Stop.TheVariants as stop
-use Rattle.nts_printing.specs.Growing.{refusal_line, IsStopTold}
+use Rattle.nts_wording.specs.Growing.{refusal_line, IsStopTold}
 use Rattle.nts_wording.specs.Statuses.{status_of}
-use Rattle.nts_printing.proofs.Growths.{Appends-trans, Appends-none}
+use Rattle.nts_wording.proofs.Growths.{Appends-trans, Appends-none}
 use Rattle.nts_reasons.specs.declared.explainer.Asked.{Asked}
 use Rattle.nts_reasons.specs.declared.explainer.Explainer.{Explainer}
 use Rattle.nts_reasons.specs.Obeying.{IsNewExplainer, IsObeyed}

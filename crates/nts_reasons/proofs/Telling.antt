@@ -5,10 +5,10 @@ use Rattle.std.specs.Prelude.{OnOk}
 use Rattle.nts_store.proofs.Growing.{Extends-refl}
 use Rattle.nts_terms.proofs.Moved.{KeepsRest-refl}
 use Rattle.nts_text.specs.declared.resolver.Resolved.{Resolved}
-use Rattle.nts_printing.specs.declared.answer.Answer.{Answer}
-use Rattle.nts_printing.specs.declared.answer.Answer.TheVariants as answers
-use Rattle.nts_printing.specs.Answers.{IsAnswerPut}
-use Rattle.nts_printing.proofs.Growths.{Appends-trans}
+use Rattle.nts_wording.specs.declared.answer.Answer.{Answer}
+use Rattle.nts_wording.specs.declared.answer.Answer.TheVariants as answers
+use Rattle.nts_wording.specs.Answers.{IsAnswerPut}
+use Rattle.nts_wording.proofs.Growths.{Appends-trans}
 use Rattle.nts_reasons.specs.declared.explainer.Asked.{Asked}
 use Rattle.nts_reasons.specs.declared.explainer.Explainer.{Explainer}
 use Rattle.nts_reasons.specs.Obeying.{IsObeyed}

@@ -11,18 +11,18 @@ use Rattle.nts_text.specs.Input.{lines_of}
 use Rattle.nts_text.specs.Lines.{IsPassedOver}
 use Rattle.nts_text.specs.declared.refusals.Refusal.{Refusal}
 use Rattle.nts_text.specs.declared.resolver.Resolved.{Resolved}
-use Rattle.nts_printing.specs.declared.answer.Answer.{Answer}
-use Rattle.nts_printing.specs.declared.answer.Answer.TheVariants as answers
-use Rattle.nts_printing.specs.Answers.{IsAnswerText}
-use Rattle.nts_printing.specs.Growing.{refusal_line}
+use Rattle.nts_wording.specs.declared.answer.Answer.{Answer}
+use Rattle.nts_wording.specs.declared.answer.Answer.TheVariants as answers
+use Rattle.nts_wording.specs.Answers.{IsAnswerText}
+use Rattle.nts_wording.specs.Growing.{refusal_line}
 use Rattle.nts_explaining.specs.Explaining.{GivesReasons}
-use Rattle.nts_reason.specs.declared.kinds.Reason.{Reason}
+use Rattle.nts_candidates.specs.declared.reasons.Reason.{Reason}
 use Rattle.nts_declaring.specs.Posing.{IsPosedLine}
 use Rattle.nts_program.specs.Proving.{rules_with}
 use Rattle.nts_declaring.specs.declared.posing.Posed.{Posed}
 use Rattle.nts_declaring.specs.declared.program.Program.{Program}
 use Rattle.nts_reasons.specs.Obeying.{trait_of, lines_for, IsNewExplainer, IsObeyed}
-use Rattle.nts_reason_wording.specs.Reasons.{IsReasonsText}
+use Rattle.nts_declaring.specs.Reasons.{IsReasonsText}
 use Rattle.nts_reasons.specs.declared.explainer.Asked.{Asked}
 use Rattle.nts_reasons.specs.declared.explainer.Explainer.{Explainer}
 

@@ -1,28 +1,25 @@
 //! A program that can say why a goal is not answered yes.
 ghost use Rattle.std.specs.Prelude.{◌≡◌, false, All, IsNone, IfOk, IfErr, OnOk, OnErr};
 ghost use Rattle.nts_delegate.specs.Clauses.{AreClausesReady};
-ghost use Rattle.nts_reason.specs.Held.{HoldsReason};
+ghost use Rattle.nts_candidates.specs.HeldReasons.{HoldsReason};
 ghost use Rattle.nts_table.specs.Tables.{IsTable};
 ghost use Rattle.nts_terms.specs.Handles.{HoldsGoal};
 ghost use Rattle.nts_terms.specs.Rest.{Grows};
 ghost use Rattle.nts_text.specs.Lines.{IsPassedOver};
-ghost use Rattle.nts_printing.specs.Growing.{Begins};
+ghost use Rattle.nts_wording.specs.Growing.{Begins};
 ghost use Rattle.nts_wording.specs.Statuses.{is_refusal};
 ghost use Rattle.nts_reasons.specs.Obeying.{trait_of, lines_for, IsNewExplainer, HasLines, DoesCommand, IsObeyed, Notes};
 ghost use Rattle.nts_reasons.specs.Running.{is_yes, HasMoreTerms, HasReasons, AreReasonsOf, IsReasonedPut, IsTold};
 
-use nts_declaring::{Program, pose};
-use nts_delegate::{Assembly, Clauses};
+use nts_declaring::{ImplLines, Program, pose, write_reasons};
+use nts_delegate::{Assembly, Clauses, Reason};
 use nts_evaluation::goal_is_admitted;
 use nts_explaining::explain;
-use nts_printing::Answer;
 use nts_program::{Stop, follow};
-use nts_reason::Reason;
-use nts_reason_wording::{ImplLines, write_reasons};
 use nts_table::InferCtxt;
 use nts_terms::{Cx, Goal};
 use nts_text::{Command, Resolved, read_command};
-use nts_wording::{LineVariables, MISFIT};
+use nts_wording::{Answer, LineVariables, MISFIT};
 use std::alloc::Global;
 use std::io::Write;
 
@@ -107,7 +104,7 @@ impl Explainer {
 
     /// Writes the answer to the goal of the last line, and behind it what its candidates came to, if the answer is not yes. Each
     /// is let out. Whatever happens, what was written before stays.
-    #[tactic(auto, using(nts_printing::proofs::Growths::writes))]
+    #[tactic(auto, using(nts_wording::proofs::Growths::writes))]
     pub fn tell<W: Write>(&mut self, output: &mut W, asked: &Asked) -> Result<(), Stop>
         requires ready { AreClausesReady self.old.program.cx.nodes self.old.program.clauses }
         ensures ready { AreClausesReady self.new.program.cx.nodes self.new.program.clauses }
@@ -125,7 +122,7 @@ impl Explainer {
     }
 
     /// Writes what the candidates for the goal that these nodes say come to.
-    #[tactic(auto, using(nts_printing::proofs::Growths::writes))]
+    #[tactic(auto, using(nts_wording::proofs::Growths::writes))]
     fn tell_reasons<W: Write>(&mut self, output: &mut W, nodes: &[Resolved]) -> Result<(), Stop>
         requires ready { AreClausesReady self.old.program.cx.nodes self.old.program.clauses }
         ensures ready { AreClausesReady self.new.program.cx.nodes self.new.program.clauses }

@@ -2,7 +2,7 @@
 //! why no candidate made it yes.
 //!
 //! A line is obeyed by `nts_program`; what the candidates of a goal come to is found by `nts_explaining`, and worded by
-//! `nts_reason_wording`. This crate notes the line of each impl, and asks for the reasons of a goal behind its answer.
+//! `nts_declaring`. This crate notes the line of each impl, and asks for the reasons of a goal behind its answer.
 #![tactic(auto)]
 
 mod explainer;

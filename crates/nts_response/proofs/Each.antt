@@ -13,7 +13,7 @@ use Rattle.nts_response.specs.Replacing.{ReplacesEach, argument_value}
 use Rattle.nts_response.specs.declared.types.Response.{Response}
 use Rattle.nts_response.specs.Forms.{StoreHoldsConstraint, HoldsOpen, HoldsResponse, recorded_at, premise_at}
 use Rattle.nts_canonical.specs.Forms.{IsHidden}
-use Rattle.nts_delegate.specs.Offered.{hidden_of}
+use Rattle.nts_candidates.specs.Offered.{hidden_of}
 
 -- a store that grows keeps what a value of it stands for
 pub record IsKept {X V : Type 0} (holds : List Tree → X → Type 0) (view : List Tree → X → V) : Type 0 where

@@ -17,7 +17,7 @@ use Rattle.nts_store.specs.TypeFlags.{flags_of, escaping}
 use Rattle.nts_store.specs.Growth.{tree_at}
 use Rattle.nts_model.specs.Tables.Passing.{AllLabels}
 use Rattle.nts_store.proofs.Escaping.{escapes}
-use Rattle.nts_delegate.specs.Clauses.{is_foreign_leaf}
+use Rattle.nts_candidates.specs.Foreign.{is_foreign_leaf}
 use Rattle.nts_store.proofs.Escaping.{closed_by_facts}
 use Rattle.nts_canonical.specs.declared.types.Canonical.{Canonical}
 use Rattle.nts_canonical.specs.Forms.{kind_of_var}

@@ -16,8 +16,8 @@ use Rattle.nts_terms.specs.declared.handles.Ty.{Ty}
 use Rattle.nts_terms.specs.declared.modes.VisibleForLeakCheck.{VisibleForLeakCheck}
 use Rattle.nts_store.specs.Growth.{tree_at}
 use Rattle.nts_unify.specs.Recording.{is_visible}
-use Rattle.nts_delegate.specs.declared.delegate.RegionConstraint.{RegionConstraint}
-use Rattle.nts_delegate.specs.Offered.{source_of, hidden_of}
+use Rattle.nts_candidates.specs.declared.data.RegionConstraint.{RegionConstraint}
+use Rattle.nts_candidates.specs.Offered.{source_of, hidden_of}
 use Rattle.nts_canonical.specs.declared.types.Canonical.{Canonical}
 use Rattle.nts_terms.specs.Handles.{HoldsArg, HoldsRegion, HoldsGoal}
 use Rattle.nts_canonical.specs.Forms.{kind_of_var, trees_of, IsHidden}

@@ -13,8 +13,8 @@ use Rattle.nts_terms.specs.declared.handles.Ty.{Ty}
 use Rattle.nts_terms.specs.declared.modes.VisibleForLeakCheck.{VisibleForLeakCheck}
 use Rattle.nts_terms.specs.Handles.{HoldsArg}
 use Rattle.nts_certainty.specs.declared.sources.GoalSource.{GoalSource}
-use Rattle.nts_delegate.specs.declared.delegate.RegionConstraint.{RegionConstraint}
-use Rattle.nts_delegate.specs.Clauses.{is_foreign_leaf}
+use Rattle.nts_candidates.specs.declared.data.RegionConstraint.{RegionConstraint}
+use Rattle.nts_candidates.specs.Foreign.{is_foreign_leaf}
 use Rattle.nts_canonical.specs.Forms.{IsHidden}
 use Rattle.nts_response.specs.declared.types.Response.{Response}
 use Rattle.nts_response.specs.Forms.{StoreHoldsConstraint, HoldsOpen}

@@ -3,15 +3,15 @@ ghost use Rattle.std.specs.Prelude.{◌≡◌, ◌↔◌, List, All, IsTrue};
 ghost use Rattle.nts_model.specs.Terms.Trees.{Tree};
 ghost use Rattle.nts_store.specs.Growth.{tree_at};
 ghost use Rattle.nts_terms.specs.Handles.{HoldsArg};
-ghost use Rattle.nts_delegate.specs.Offered.{hidden_of};
+ghost use Rattle.nts_candidates.specs.Offered.{hidden_of};
 ghost use Rattle.nts_canonical.specs.Forms.{IsHidden};
 ghost use Rattle.nts_response.specs.Forms.{StoreHoldsConstraint, HoldsOpen, HoldsResponse, recorded_at, premise_at};
 ghost use Rattle.nts_response.specs.Same.{AreOneEach, FoundOne, AreOneResponse};
 
 use crate::types::{CanonicalResponse, Response};
+use nts_candidates::RegionConstraint;
 use nts_canonical::{same_kinds, same_pair};
 use nts_certainty::GoalSource;
-use nts_delegate::RegionConstraint;
 use nts_store::Nodes;
 use nts_terms::{AliasTerm, Cx, GenericArg, Goal, Ty, VisibleForLeakCheck};
 

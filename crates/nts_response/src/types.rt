@@ -1,7 +1,7 @@
 //! What a query answers, and states of an evaluation.
+use nts_candidates::RegionConstraint;
 use nts_canonical::Canonical;
 use nts_certainty::{Certainty, GoalSource};
-use nts_delegate::RegionConstraint;
 use nts_folding::{TypeFoldable, TypeFolder};
 use nts_terms::{AliasTerm, Cx, GenericArg, Goal, Ty, VisibleForLeakCheck};
 

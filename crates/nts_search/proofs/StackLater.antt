@@ -4,7 +4,7 @@ use Rattle.std.specs.Prelude.{reverse}
 use Rattle.nts_model.specs.Terms.Trees.{Tree}
 use Rattle.nts_store.specs.Growth.{Extends}
 use Rattle.nts_store.proofs.Growing.{Extends-trans}
-use Rattle.nts_delegate.specs.Offered.{path_kind_of, hidden_of}
+use Rattle.nts_candidates.specs.Offered.{path_kind_of, hidden_of}
 use Rattle.nts_canonical.specs.declared.types.Canonical.{Canonical}
 use Rattle.nts_canonical.specs.declared.types.CanonicalInput.{CanonicalInput}
 use Rattle.nts_canonical.specs.Forms.{form_of, kind_of_var, IsHidden, HoldsQuery}

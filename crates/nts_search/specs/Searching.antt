@@ -6,7 +6,7 @@ use Rattle.nts_model.specs.Answers.Responses.{Response as Form}
 use Rattle.nts_model.specs.Searching.Stacks.{Entry}
 use Rattle.nts_model.specs.Searching.Driving.{unconstrained}
 use Rattle.nts_certainty.specs.Certainties.{ambiguous}
-use Rattle.nts_delegate.specs.Offered.{certainty_of, path_kind_of}
+use Rattle.nts_candidates.specs.Offered.{certainty_of, path_kind_of}
 use Rattle.nts_canonical.specs.declared.types.Canonical.{Canonical}
 use Rattle.nts_canonical.specs.declared.types.CanonicalInput.{CanonicalInput}
 use Rattle.nts_canonical.specs.Forms.{form_of, kind_of_var, HoldsQuery}

@@ -3,7 +3,7 @@ ghost use Rattle.std.specs.Prelude.{◌≡◌, ◌-◌, ◌<◌, ◌≤◌, ◌+
 ghost use Rattle.nts_model.specs.Terms.Trees.{Tree};
 ghost use Rattle.nts_model.specs.Searching.Stacks.{path_kind};
 ghost use Rattle.nts_model.specs.Searching.Driving.{marked};
-ghost use Rattle.nts_delegate.specs.Offered.{path_kind_of};
+ghost use Rattle.nts_candidates.specs.Offered.{path_kind_of};
 ghost use Rattle.nts_canonical.specs.Forms.{HoldsQuery};
 ghost use Rattle.nts_search.specs.declared.terms.GoalTerms.{GoalTerms};
 ghost use Rattle.nts_search.specs.Indexed.{led_to, same_terms};

@@ -7,8 +7,6 @@ pub mod Inserting
 pub mod Levels
 pub mod Pending
 pub mod Reading
-pub mod Replacing
 pub mod SharingExamples
-pub mod Walking
 pub mod WellBound
 mod Indexing

@@ -5,8 +5,6 @@ pub mod Formed
 pub mod Growth
 pub mod Kept
 pub mod Levels
-pub mod Replacement
 pub mod Sorts
 pub mod Store
-pub mod Under
 pub mod Index

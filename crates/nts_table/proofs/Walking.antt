@@ -14,9 +14,9 @@ use Rattle.nts_model.proofs.Tables.Resolved.{resolved-empty, resolved-node, deep
 use Rattle.nts_model.proofs.Tables.Kept.{resolved-no_infer, deeply_resolved-no_variables}
 use Rattle.nts_store.specs.declared.nodes.NodeId.{NodeId}
 use Rattle.nts_store.specs.Growth.{tree_at, IsIn}
-use Rattle.nts_store.specs.Replacement.{GoesDown, IsStep}
-use Rattle.nts_store.specs.declared.replacement.Step.{Step}
-use Rattle.nts_store.specs.declared.replacement.Step.TheVariants as step
+use Rattle.nts_replacing.specs.Replacement.{GoesDown, IsStep}
+use Rattle.nts_replacing.specs.declared.replacement.Step.{Step}
+use Rattle.nts_replacing.specs.declared.replacement.Step.TheVariants as step
 use Rattle.nts_unify.specs.declared.contents.State.{State}
 use Rattle.nts_unify.specs.declared.contents.State.TheVariants.{Unset, Known}
 use Rattle.nts_table.specs.Tables.{Table}

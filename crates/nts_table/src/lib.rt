@@ -5,6 +5,7 @@ mod changed;
 mod classes;
 mod constraints;
 mod deduplicated;
+mod eager;
 mod equating;
 mod fresh;
 mod hidden;
@@ -16,6 +17,7 @@ mod resolving;
 mod shallow;
 mod variables;
 
+pub use eager::eager_resolve_vars;
 pub use equating::is_unbound;
 pub use infer_ctxt::InferCtxt;
 pub use nts_unify::{Constraint, HiddenType, Snapshot, State, Variable};

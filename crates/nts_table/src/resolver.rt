@@ -5,7 +5,7 @@ ghost use Rattle.nts_model.specs.Tables.Contents.{kind_at};
 ghost use Rattle.nts_model.specs.Terms.Trees.{variable_tree};
 ghost use Rattle.nts_model.specs.Tables.Resolving.{Knows};
 ghost use Rattle.nts_store.specs.Growth.{tree_at, IsIn, Extends};
-ghost use Rattle.nts_store.specs.Replacement.{IsStep};
+ghost use Rattle.nts_replacing.specs.Replacement.{IsStep};
 ghost use Rattle.nts_unify.specs.Reading.{content_of};
 ghost use Rattle.nts_table.specs.Tables.{IsTable};
 ghost use Rattle.nts_table.specs.TableLaws.{IsTable-extended};
@@ -13,7 +13,8 @@ ghost use Rattle.nts_table.specs.Resolution.{Resolution, resolution, CanResolve,
 
 use crate::infer_ctxt::InferCtxt;
 use nts_model::{Label, Leaf, VariableKind};
-use nts_store::{NodeId, Nodes, Replacer, Step, replace};
+use nts_replacing::{Replacer, Step, replace};
+use nts_store::{NodeId, Nodes};
 use nts_unify::named_variable;
 use std::alloc::{AllocError, Global};
 

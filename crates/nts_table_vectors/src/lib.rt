@@ -21,3 +21,5 @@ mod relating_tests;
 mod steps;
 #[cfg(test)]
 mod tests;
+#[cfg(test)]
+mod variance;

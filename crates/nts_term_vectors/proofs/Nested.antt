@@ -13,8 +13,3 @@ pub record Nested (ts : List Tree) (value deep expected : NodeId) : Type 0 where
   pub expected_in : IsIn ts expected
   pub expected_kind : kind_of (tree_at ts expected) ≡ Some (of_sort sort.Ty)
   pub values : HasValues (tree_at ts value ∷ []) (tree_at ts deep)
-
--- a type of a store
-pub record IsType (ts : List Tree) (n : NodeId) : Type 0 where
-  pub within : IsIn ts n
-  pub kind : kind_of (tree_at ts n) ≡ Some (of_sort sort.Ty)

@@ -2,15 +2,21 @@
 #![tactic(auto)]
 
 #[cfg(test)]
-mod alias_tests;
-#[cfg(test)]
 mod fold_tests;
 #[cfg(test)]
-mod labels_tests;
+mod folders;
 #[cfg(test)]
-mod making_tests;
+mod folding;
 #[cfg(test)]
-mod seeing;
+mod making;
+#[cfg(test)]
+mod named;
+#[cfg(test)]
+mod predicate_tests;
+#[cfg(test)]
+mod reading;
+#[cfg(test)]
+mod steps;
 #[cfg(test)]
 mod tests;
 #[cfg(test)]

@@ -1,14 +1,36 @@
-use crate::seeing::{byte, fitting, held, nothing, only, position, unbound, variable};
+//! The store, limits, declarations, types, regions and consts; and certainties.
+use crate::named::Make;
+use crate::named::Make::{Args, Pointer, Region, Type, Unevaluated, Value, Vars};
+use crate::steps::Step::{
+    Argument, Arity, Binds, Count, Ctor, Fits, Flags, Handle, Is, IsConstType, Let, Lists,
+    NoErrors, Part, Shows, Size, SortAt, Variances,
+};
+use crate::steps::{Step, plays};
 use nts_certainty::{Certainty, MaybeCause, MaybeInfo, OpaqueTypesJank};
-use nts_model::{BoundVarIndexKind, Label, ListHead, Sort, TyHead, UintTy, Variance};
-use nts_store::{EvalError, Fault, NodeId, Nodes, binders_of};
+use nts_model::BoundVarIndexKind::{Bound, Canonical};
+use nts_model::Sort::Ty;
+use nts_model::Variance::{Contravariant, Covariant, Invariant};
+use nts_model::{ConstHead, FreeRegion, Label, Leaf, ListHead, Sort, TyHead, UintTy, VariableKind};
+use nts_store::{EvalError, Fault};
 use nts_terms::{
-    AliasDefId, AliasKind, AliasTerm, Binder, BoundRegion, BoundTy, BoundVars, ClauseKind, ConstId,
-    ConstKind, Cx, DefId, FnSig, GenericArg, GenericArgKind, GenericArgs, PlaceholderRegion,
-    Predicate, PredicateKind, Region, RegionKind, Stored, Term, TermKind, TraitId, TraitRef, Ty,
-    TyKind, are_variances,
+    AliasDefId, AliasId, BoundRegion, BoundTy, ConstId, ConstKind, CtorId, Cx, DefId, InferTy,
+    PlaceholderRegion, RegionKind, TraitId, TyKind,
 };
 use std::process::Abort;
+
+const BYTE: Make = Type(TyKind::Uint(UintTy::U8));
+
+const ERROR: Make = Type(TyKind::Error);
+
+const ERASED: Make = Region(RegionKind::ReErased);
+
+const UNKNOWN: Make = Make::Const(ConstKind::Infer(0));
+
+const VEC: CtorId = CtorId { number: 0 };
+
+const ITEM: AliasId = AliasId { number: 0 };
+
+const LENGTH: ConstId = ConstId { number: 0 };
 
 #[test]
 fn limits(rt: HostRuntime) {
@@ -19,13 +41,17 @@ fn limits(rt: HostRuntime) {
 fn see_limits(rt: &impl Abort, cx: &mut Cx) {
     assert!(rt; has_limits(cx, 128, 8, 8, 4));
     assert!(rt; !cx.disable_trait_solver_fast_paths());
+    set_limits(cx);
+    assert!(rt; has_limits(cx, 3, 64, 1, 16));
+    assert!(rt; cx.disable_trait_solver_fast_paths());
+}
+
+fn set_limits(cx: &mut Cx) {
     cx.set_recursion_limit(3);
     cx.set_disable_fast_paths(true);
     cx.set_step_limit(64);
     cx.set_round_limit(1);
     cx.set_depth_division(16);
-    assert!(rt; has_limits(cx, 3, 64, 1, 16));
-    assert!(rt; cx.disable_trait_solver_fast_paths());
 }
 
 /// Whether these are the limits of depth, steps and rounds, and what a depth is divided by.
@@ -37,312 +63,186 @@ fn has_limits(cx: &Cx, depth: usize, steps: usize, rounds: usize, division: usiz
 }
 
 #[test]
-fn constructors(rt: HostRuntime) {
-    let mut cx = Cx::new(rt.alloc());
-    see_constructors(&rt, &mut cx);
-}
-
-fn see_constructors(rt: &impl Abort, cx: &mut Cx) {
-    let vec = cx
-        .declare_ctor(&[Sort::Ty], &[Variance::Covariant])
-        .expect(rt, "memory");
-    let byte = byte(rt, cx);
-    let args = only(rt, cx, byte.into());
-    let none = nothing(rt, cx);
-    held(rt, cx, args);
-    assert_eq!(rt; vec.number, 0);
-    assert!(rt; !cx.fits(DefId::Ctor(vec), none));
-    fitting(rt, cx, DefId::Ctor(vec), args);
-    let bytes = cx.mk_ty(TyKind::Ctor(vec, args)).expect(rt, "memory");
-    match bytes.kind(cx) {
-        TyKind::Ctor(ctor, its_args) => {
-            assert!(rt; ctor == vec);
-            see_the_argument(rt, cx, its_args, byte);
-        }
-        _ => assert!(rt; false),
-    }
-}
-
-/// This type is the only argument.
-fn see_the_argument(rt: &impl Abort, cx: &Cx, args: GenericArgs, only: Ty) {
-    held(rt, cx, args);
-    assert_eq!(rt; args.len(cx), 1);
-    match args.get(cx, 0).kind(cx) {
-        GenericArgKind::Type(ty) => {
-            held(rt, cx, only);
-            assert!(rt; cx.same(ty, only));
-        }
-        _ => assert!(rt; false),
-    }
-}
-
-#[test]
-fn binders(rt: HostRuntime) {
-    let mut cx = Cx::new(rt.alloc());
-    see_binders(&rt, &mut cx);
-}
-
-fn see_binders(rt: &impl Abort, cx: &mut Cx) {
-    let vars = cx.mk_bound_vars(&[Sort::Region]).expect(rt, "memory");
-    assert_eq!(rt; vars.len(cx), 1);
-    assert!(rt; matches!(vars.get(cx, 0), Sort::Region));
-    let bound = BoundRegion { var: 0 };
-    let region = cx
-        .mk_region(RegionKind::ReBound(BoundVarIndexKind::Bound(0), bound))
-        .expect(rt, "memory");
-    assert!(rt; cx.has_escaping_bound_vars(region));
-    assert!(rt; !cx.has_canonical_bound(region));
-    assert!(rt;
-        matches!(
-            region.kind(cx),
-            RegionKind::ReBound(_, BoundRegion { var: 0 })
-        )
-    );
-    see_a_pointer(rt, cx, vars, region);
-}
-
-/// A pointer to a function of these variables closes the region that is the first of them.
-fn see_a_pointer(rt: &impl Abort, cx: &mut Cx, vars: BoundVars, region: Region) {
-    let args = only(rt, cx, region.into());
-    held(rt, cx, vars);
-    let sig = FnSig {
-        inputs_and_output: args,
-    };
-    let pointer = cx
-        .mk_ty(TyKind::FnPtr(Binder { vars, value: sig }))
-        .expect(rt, "memory");
-    assert!(rt; !cx.has_escaping_bound_vars(pointer));
-    assert!(rt; matches!(pointer.kind(cx), TyKind::FnPtr(_)));
-}
-
-#[test]
-fn consts(rt: HostRuntime) {
-    let mut cx = Cx::new(rt.alloc());
-    see_consts(&rt, &mut cx);
-}
-
-fn see_consts(rt: &impl Abort, cx: &mut Cx) {
-    let size = cx.mk_ty(TyKind::Uint(UintTy::Usize)).expect(rt, "memory");
-    let three = cx
-        .mk_const(ConstKind::Value { ty: size, bits: 3 })
-        .expect(rt, "memory");
-    match three.kind(cx) {
-        ConstKind::Value { ty, bits } => {
-            held(rt, cx, size);
-            assert!(rt; cx.same(ty, size));
-            assert!(rt; bits == 3);
-        }
-        _ => assert!(rt; false),
-    }
-    let term = Term::from(three);
-    held(rt, cx, term);
-    assert!(rt; matches!(term.kind(cx), TermKind::Const(_)));
-    let unknown = cx.mk_const(ConstKind::Infer(0)).expect(rt, "memory");
-    assert!(rt; cx.has_non_region_infer(unknown));
-}
-
-#[test]
-fn predicates(rt: HostRuntime) {
-    let mut cx = Cx::new(rt.alloc());
-    see_predicates(&rt, &mut cx);
-}
-
-fn see_predicates(rt: &impl Abort, cx: &mut Cx) {
-    let clone = cx.declare_trait(&[Sort::Ty]).expect(rt, "memory");
-    let vars = unbound(rt, cx);
-    let ty = position(rt, cx, 0);
-    let args = only(rt, cx, ty.into());
-    held(rt, cx, vars);
-    fitting(rt, cx, DefId::Trait(clone), args);
-    let value = PredicateKind::Clause(ClauseKind::Trait(TraitRef {
-        def_id: clone,
-        args,
-    }));
-    let predicate = cx.mk_predicate(Binder { vars, value }).expect(rt, "memory");
-    assert!(rt; cx.has_canonical_bound(predicate));
-    match predicate.kind(cx).value {
-        PredicateKind::Clause(ClauseKind::Trait(it)) => assert!(rt; it.def_id == clone),
-        _ => assert!(rt; false),
-    }
-    see_an_environment(rt, cx, predicate);
-}
-
-/// An environment of one predicate has it.
-fn see_an_environment(rt: &impl Abort, cx: &mut Cx, predicate: Predicate) {
-    held(rt, cx, predicate);
-    let env = cx.mk_env(&[predicate]).expect(rt, "memory");
-    assert_eq!(rt; env.len(cx), 1);
-    held(rt, cx, predicate);
-    assert!(rt; cx.same(env.get(cx, 0), predicate));
-}
-
-#[test]
-fn aliases(rt: HostRuntime) {
-    let mut cx = Cx::new(rt.alloc());
-    see_aliases(&rt, &mut cx);
-}
-
-fn see_aliases(rt: &impl Abort, cx: &mut Cx) {
-    let item = cx
-        .declare_alias(&[Sort::Region], AliasKind::Projection)
-        .expect(rt, "memory");
-    let bound = BoundRegion { var: 1 };
-    let placeholder = PlaceholderRegion { universe: 2, bound };
-    let region = cx
-        .mk_region(RegionKind::RePlaceholder(placeholder))
-        .expect(rt, "memory");
-    let args = only(rt, cx, region.into());
-    fitting(rt, cx, DefId::Alias(AliasDefId::Ty(item)), args);
-    let alias = AliasTerm {
-        def_id: AliasDefId::Ty(item),
-        args,
-    };
-    let ty = cx.mk_ty(TyKind::Alias(alias)).expect(rt, "memory");
-    assert!(rt; matches!(ty.kind(cx), TyKind::Alias(_)));
-    fitting(rt, cx, DefId::Alias(AliasDefId::Ty(item)), args);
-}
-
-#[test]
-fn declared_consts(rt: HostRuntime) {
-    let mut cx = Cx::new(rt.alloc());
-    see_declared_consts(&rt, &mut cx);
-}
-
-fn see_declared_consts(rt: &impl Abort, cx: &mut Cx) {
-    let list = cx
-        .declare_ctor(&[Sort::Ty], &[Variance::Covariant])
-        .expect(rt, "memory");
-    let first = position(rt, cx, 0);
-    let args = only(rt, cx, first.into());
-    fitting(rt, cx, DefId::Ctor(list), args);
-    let ty = cx.mk_ty(TyKind::Ctor(list, args)).expect(rt, "memory");
-    held(rt, cx, ty);
-    assert!(rt; !cx.is_const_type(&[Sort::Const], ty).expect(rt, "memory"));
-    assert!(rt; !cx.is_const_type(&[], ty).expect(rt, "memory"));
-    assert!(rt; cx.is_const_type(&[Sort::Ty], ty).expect(rt, "memory"));
-    let length = cx.declare_const(&[Sort::Ty], ty).expect(rt, "memory");
-    assert!(rt; cx.declarations.const_type(length) == Some(ty));
-    see_unevaluated(rt, cx, length, args);
-}
-
-/// A const of one argument that is to be evaluated takes these, and not none.
-fn see_unevaluated(rt: &impl Abort, cx: &mut Cx, length: ConstId, args: GenericArgs) {
-    let none = nothing(rt, cx);
-    assert!(rt; !cx.fits(DefId::Alias(AliasDefId::Const(length)), none));
-    fitting(rt, cx, DefId::Alias(AliasDefId::Const(length)), args);
-    let def_id = AliasDefId::Const(length);
-    let ct = cx
-        .mk_const(ConstKind::Unevaluated(AliasTerm { def_id, args }))
-        .expect(rt, "memory");
-    match ct.kind(cx) {
-        ConstKind::Unevaluated(it) => assert!(rt; it.def_id == def_id),
-        _ => assert!(rt; false),
-    }
-}
-
-#[test]
-fn consts_do_not_vary(rt: HostRuntime) {
-    let (kept, equal, turned) = (
-        Variance::Covariant,
-        Variance::Invariant,
-        Variance::Contravariant,
-    );
-    assert!(rt; are_variances(&[], &[]));
-    assert!(rt; are_variances(&[Sort::Ty, Sort::Region], &[kept, turned]));
-    assert!(rt; are_variances(&[Sort::Ty, Sort::Const], &[kept, equal]));
-    assert!(rt; !are_variances(&[Sort::Ty, Sort::Const], &[equal, kept]));
-    assert!(rt; !are_variances(&[Sort::Const], &[turned]));
-    assert!(rt; !are_variances(&[Sort::Ty], &[kept, kept]));
-    assert!(rt; !are_variances(&[Sort::Ty, Sort::Region], &[kept]));
-}
-
-#[test]
-fn types_that_no_const_has(rt: HostRuntime) {
-    let mut cx = Cx::new(rt.alloc());
-    see_types_of_consts(&rt, &mut cx);
-}
-
-fn see_types_of_consts(rt: &impl Abort, cx: &mut Cx) {
-    let parameter = cx.mk_ty(TyKind::Param(0)).expect(rt, "memory");
-    assert!(rt;
-        !cx.is_const_type(&[Sort::Ty], parameter)
-            .expect(rt, "memory")
-    );
-    let variable = variable(rt, cx, 0);
-    assert!(rt; !cx.is_const_type(&[Sort::Ty], variable).expect(rt, "memory"));
-    let bound = cx
-        .mk_ty(TyKind::Bound(BoundVarIndexKind::Bound(0), BoundTy { var: 0 }))
-        .expect(rt, "memory");
-    assert!(rt; !cx.is_const_type(&[Sort::Ty], bound).expect(rt, "memory"));
-    let byte = byte(rt, cx);
-    assert!(rt; cx.is_const_type(&[], byte).expect(rt, "memory"));
-}
-
-#[test]
 fn nodes(rt: HostRuntime) {
-    let mut nodes = Nodes::new(rt.alloc());
-    see_nodes(&rt, &mut nodes);
+    const STEPS: &[Step] = &[
+        Let("error", ERROR),
+        Let("args", Args(&["error", "error"])),
+        Size(2),
+        Count("args", 2),
+        Part("args", 1, "error"),
+        Lists("args", Label::List(ListHead::Args)),
+        Flags("args", false, false, false),
+        Binds("args", 0),
+        Handle("error"),
+        Let("byte", BYTE),
+        Let("good", Args(&["byte", "byte"])),
+        Let("bad", Args(&["byte", "error"])),
+        NoErrors("good", true),
+        NoErrors("bad", false),
+        Let("word", Type(TyKind::Uint(UintTy::U32))),
+        Let("same word", Type(TyKind::Uint(UintTy::U32))),
+        Is("word", "same word", true),
+        Is("word", "byte", false),
+        Let("region", ERASED),
+        Let("same region", ERASED),
+        Is("region", "same region", true),
+        Let("unknown", UNKNOWN),
+        Let("same unknown", UNKNOWN),
+        Is("unknown", "same unknown", true),
+        Size(8),
+    ];
+    plays(&rt, rt.alloc(), STEPS);
 }
 
-fn see_nodes(rt: &impl Abort, nodes: &mut Nodes) {
-    let error = nodes
-        .make(Label::Ty(TyHead::Error), &[])
-        .expect(rt, "memory");
-    let args = nodes
-        .make(Label::List(ListHead::Args), &[error, error])
-        .expect(rt, "memory");
-    assert_eq!(rt; nodes.len(), 2);
-    assert_eq!(rt; nodes.child_count(args), 2);
-    assert!(rt; nodes.same(nodes.child(args, 1), error));
-    assert!(rt; nodes.label(args) == Label::List(ListHead::Args));
-    assert!(rt; !nodes.flags(args).has_infer);
-    assert!(rt; nodes.contains(args));
-    assert_eq!(rt; binders_of(nodes.label(args)), 0);
-    see_a_handle(rt, nodes, error);
-}
-
-/// A node of a type is one as a handle, a term and an argument.
-fn see_a_handle(rt: &impl Abort, nodes: &Nodes, error: NodeId) {
-    assert!(rt; nodes.contains(error));
-    let ty = Ty::from_node(error);
-    assert!(rt; Stored::node(ty) == error);
-    assert!(rt; Ty::may_have(nodes.label(error)));
-    let term = Term::from(ty);
-    assert!(rt; GenericArg::from(term).node == error);
+/// A pointer to a function of some variables closes the region that is the first of them.
+#[test]
+fn binders_and_consts(rt: HostRuntime) {
+    const FIRST: BoundRegion = BoundRegion { var: 0 };
+    const STEPS: &[Step] = &[
+        Let("vars", Vars(&[Sort::Region])),
+        Count("vars", 1),
+        SortAt("vars", 0, Sort::Region),
+        Let("region", Region(RegionKind::ReBound(Bound(0), FIRST))),
+        Flags("region", true, false, false),
+        Shows("region", Label::Bound(Sort::Region, Bound(0), 0)),
+        Argument("region", Sort::Region),
+        Let("args", Args(&["region"])),
+        Let("pointer", Pointer("vars", "args")),
+        Flags("pointer", false, false, false),
+        Shows("pointer", Label::Ty(TyHead::FnPtr)),
+        Binds("pointer", 1),
+        Let("size", Type(TyKind::Uint(UintTy::Usize))),
+        Let("three", Value("size", 3)),
+        Shows("three", Label::Const(ConstHead::Value(3))),
+        Step::Term("three", Sort::Const),
+        Step::Term("size", Ty),
+        Let("unknown", UNKNOWN),
+        Flags("unknown", false, false, true),
+        Shows(
+            "unknown",
+            Label::Leaf(Leaf::Variable(VariableKind::Const, 0)),
+        ),
+    ];
+    plays(&rt, rt.alloc(), STEPS);
 }
 
 #[test]
 fn declarations(rt: HostRuntime) {
-    let mut cx = Cx::new(rt.alloc());
-    see_declarations(&rt, &mut cx);
-}
-
-fn see_declarations(rt: &impl Abort, cx: &mut Cx) {
-    cx.declare_trait(&[]).expect(rt, "memory");
-    let second = cx
-        .declare_trait(&[Sort::Ty, Sort::Const])
-        .expect(rt, "memory");
-    match cx.declarations.sorts(DefId::Trait(second)) {
-        Some(sorts) => assert_eq!(rt; sorts.len(), 2),
-        None => assert!(rt; false),
-    }
-    let undeclared = TraitId { number: 2 };
-    assert!(rt; cx.declarations.sorts(DefId::Trait(undeclared)).is_none());
+    const PLACEHOLDER: PlaceholderRegion = PlaceholderRegion {
+        universe: 2,
+        bound: BoundRegion { var: 1 },
+    };
+    const STEPS: &[Step] = &[
+        Step::Trait(TraitId { number: 0 }, &[]),
+        Step::Trait(TraitId { number: 1 }, &[Ty, Sort::Const]),
+        Arity(DefId::Trait(TraitId { number: 1 }), Some(2)),
+        Arity(DefId::Trait(TraitId { number: 2 }), None),
+        Ctor(VEC),
+        Let("byte", BYTE),
+        Let("args", Args(&["byte"])),
+        Let("none", Args(&[])),
+        Fits(DefId::Ctor(VEC), "none", false),
+        Fits(DefId::Ctor(VEC), "args", true),
+        Let("bytes", Make::Ctor(VEC, "args")),
+        Shows("bytes", Label::Ty(TyHead::Ctor(0))),
+        Count("args", 1),
+        Part("args", 0, "byte"),
+        Argument("byte", Ty),
+        Step::Alias(ITEM, &[Sort::Region]),
+        Let("region", Region(RegionKind::RePlaceholder(PLACEHOLDER))),
+        Shows(
+            "region",
+            Label::Leaf(Leaf::Region(FreeRegion::Placeholder(2, 1))),
+        ),
+        Let("place", Args(&["region"])),
+        Fits(DefId::Alias(AliasDefId::Ty(ITEM)), "place", true),
+        Let("alias", Make::Alias(ITEM, "place")),
+        Shows("alias", Label::Ty(TyHead::Alias(0))),
+    ];
+    plays(&rt, rt.alloc(), STEPS);
 }
 
 #[test]
+fn types_of_consts(rt: HostRuntime) {
+    const STEPS: &[Step] = &[
+        Let("parameter", Type(TyKind::Param(0))),
+        IsConstType(&[Ty], "parameter", false),
+        Let("variable", Type(TyKind::Infer(InferTy::TyVar(0)))),
+        IsConstType(&[Ty], "variable", false),
+        Let("bound", Type(TyKind::Bound(Bound(0), BoundTy { var: 0 }))),
+        IsConstType(&[Ty], "bound", false),
+        Let("byte", BYTE),
+        IsConstType(&[], "byte", true),
+        Ctor(VEC),
+        Let("first", Type(TyKind::Bound(Canonical, BoundTy { var: 0 }))),
+        Let("args", Args(&["first"])),
+        Let("list", Make::Ctor(VEC, "args")),
+        IsConstType(&[Sort::Const], "list", false),
+        IsConstType(&[], "list", false),
+        IsConstType(&[Ty], "list", true),
+        Step::Const(LENGTH, &[Ty], "list"),
+        Let("none", Args(&[])),
+        Fits(DefId::Alias(AliasDefId::Const(LENGTH)), "none", false),
+        Fits(DefId::Alias(AliasDefId::Const(LENGTH)), "args", true),
+        Let("length", Unevaluated(LENGTH, "args")),
+        Shows("length", Label::Const(ConstHead::Unevaluated(0))),
+    ];
+    plays(&rt, rt.alloc(), STEPS);
+}
+
+#[test]
+fn consts_do_not_vary(rt: HostRuntime) {
+    const STEPS: &[Step] = &[
+        Variances(&[], &[], true),
+        Variances(&[Ty, Sort::Region], &[Covariant, Contravariant], true),
+        Variances(&[Ty, Sort::Const], &[Covariant, Invariant], true),
+        Variances(&[Ty, Sort::Const], &[Invariant, Covariant], false),
+        Variances(&[Sort::Const], &[Contravariant], false),
+        Variances(&[Ty], &[Covariant, Covariant], false),
+        Variances(&[Ty, Sort::Region], &[Covariant], false),
+    ];
+    plays(&rt, rt.alloc(), STEPS);
+}
+
+const OVERFLOW: Certainty = Certainty::Maybe(MaybeInfo {
+    cause: MaybeCause::Overflow {
+        suggest_increasing_limit: true,
+        keep_constraints: false,
+    },
+    opaque_types_jank: OpaqueTypesJank::AllGood,
+});
+
+const KEPT: Certainty = Certainty::Maybe(MaybeInfo {
+    cause: MaybeCause::Overflow {
+        suggest_increasing_limit: true,
+        keep_constraints: true,
+    },
+    opaque_types_jank: OpaqueTypesJank::AllGood,
+});
+
+/// A certainty, what it and an overflow are together, and what one of them is.
+const JOINED: &[(Certainty, Certainty, Certainty)] = &[
+    (Certainty::Yes, OVERFLOW, Certainty::Yes),
+    (Certainty::AMBIGUOUS, OVERFLOW, KEPT),
+];
+
+#[test]
 fn certainties(rt: HostRuntime) {
-    let overflow = Certainty::overflow(true);
-    assert!(rt; Certainty::Yes.and(overflow) == overflow);
-    assert!(rt; Certainty::Yes.or(overflow) == Certainty::Yes);
-    assert!(rt; Certainty::AMBIGUOUS.and(overflow) == overflow);
-    let kept = Certainty::Maybe(MaybeInfo {
-        cause: MaybeCause::Overflow {
-            suggest_increasing_limit: true,
-            keep_constraints: true,
-        },
-        opaque_types_jank: OpaqueTypesJank::AllGood,
-    });
-    assert!(rt; Certainty::AMBIGUOUS.or(overflow) == kept);
+    assert!(rt; Certainty::overflow(true) == OVERFLOW);
+    assert!(rt; are_joined(JOINED));
     assert!(rt; EvalError::from(Fault::Full) == EvalError::Full);
+}
+
+fn are_joined(cases: &[(Certainty, Certainty, Certainty)]) -> bool {
+    for (certainty, both, either) in cases {
+        if !joins(*certainty, *both, *either) {
+            return false;
+        }
+    }
+    true
+}
+
+fn joins(certainty: Certainty, both: Certainty, either: Certainty) -> bool {
+    let overflow = Certainty::overflow(true);
+    certainty.and(overflow) == both && certainty.or(overflow) == either
 }

@@ -18,9 +18,9 @@ use Rattle.nts_terms.specs.Rest.{Grows}
 use Rattle.nts_store.proofs.Growing.{Extends-trans}
 use Rattle.nts_terms.proofs.Moved.{KeepsRest-trans}
 use Rattle.nts_table.specs.Tables.{Table}
-use Rattle.nts_delegate.specs.declared.delegate.CandidateGoal.{CandidateGoal}
+use Rattle.nts_candidates.specs.declared.data.CandidateGoal.{CandidateGoal}
 use Rattle.nts_delegate.specs.Candidates.{AreNested}
-use Rattle.nts_delegate.specs.Offered.{premise_of, source_of}
+use Rattle.nts_candidates.specs.Offered.{premise_of, source_of}
 use Rattle.nts_response.specs.Forms.{premise_at}
 use Rattle.nts_meaning.specs.Evaluation.{IsPosed, AreValues, asked_terms, AsksOnly, goals_at}
 use Rattle.nts_trying.specs.Instances.{IsGoalInstance}

@@ -20,8 +20,8 @@ use Rattle.nts_unify.specs.Entries.{Entries}
 use Rattle.nts_unify.specs.Recording.{Records}
 use Rattle.nts_unify.specs.Reading.{content_of}
 use Rattle.nts_unify.specs.Lawful.{content_of-constrained}
-use Rattle.nts_delegate.specs.declared.delegate.RegionConstraint.{RegionConstraint}
-use Rattle.nts_delegate.specs.Offered.{constraint_of}
+use Rattle.nts_candidates.specs.declared.data.RegionConstraint.{RegionConstraint}
+use Rattle.nts_candidates.specs.Offered.{constraint_of}
 use Rattle.nts_meaning.specs.Running.{constraint_between}
 use Rattle.nts_meaning.proofs.Running.{constraint-kept}
 

@@ -20,8 +20,8 @@ use Rattle.nts_meaning.specs.Meant.{offers_of, AreOffered}
 use Rattle.nts_terms.specs.declared.handles.Goal.{Goal}
 use Rattle.nts_terms.specs.declared.modes.TypingMode.{TypingMode}
 use Rattle.nts_terms.specs.Modes.{mode_of}
-use Rattle.nts_delegate.specs.declared.delegate.CandidateData.{CandidateData}
-use Rattle.nts_delegate.specs.Offered.{candidates_of}
+use Rattle.nts_candidates.specs.declared.data.CandidateData.{CandidateData}
+use Rattle.nts_candidates.specs.Offered.{candidates_of}
 use Rattle.nts_theory.specs.Telling.{Verdict}
 
 -- values leave what a type is built by

@@ -14,14 +14,14 @@ use Rattle.nts_certainty.specs.Certainties.{either}
 use Rattle.nts_terms.specs.declared.handles.GenericArg.{GenericArg}
 use Rattle.nts_unify.specs.Reading.{content_of}
 use Rattle.nts_table.specs.Tables.{Table}
-use Rattle.nts_delegate.specs.Offered.{hidden_of}
+use Rattle.nts_candidates.specs.Offered.{hidden_of}
 use Rattle.nts_canonical.specs.Forms.{trees_of, kind_of_var}
 use Rattle.nts_canonical.specs.declared.types.Canonical.{Canonical}
 use Rattle.nts_response.specs.declared.types.Response.{Response}
 use Rattle.nts_response.specs.Forms.{response_at, recorded_at, premise_at, HoldsResponse}
-use Rattle.nts_merging.specs.declared.merging.MergeCandidateInfo.{MergeCandidateInfo}
-use Rattle.nts_merging.specs.declared.merging.MergeCandidateInfo.TheVariants as info
-use Rattle.nts_merging.specs.Merging.{AppliesAlways, Merges, doubt_of}
+use Rattle.nts_search.specs.declared.merging.MergeCandidateInfo.{MergeCandidateInfo}
+use Rattle.nts_search.specs.declared.merging.MergeCandidateInfo.TheVariants as info
+use Rattle.nts_search.specs.Merging.{AppliesAlways, Merges, doubt_of}
 use Rattle.nts_theory.specs.Telling.{without_constraints, IsResponseOf}
 use Rattle.nts_meaning.specs.Answering.{told_in, is_yes, verdict_at}
 use Rattle.nts_trying.specs.Found.{IsMerged, IsTaken, StandsForThem}

@@ -36,8 +36,8 @@ use Rattle.nts_response.specs.Forms.{response_at}
 use Rattle.nts_table.specs.Tables.{Table, IsTable}
 use Rattle.nts_unify.specs.Lawful.{content_of-extended}
 use Rattle.nts_delegate.specs.Candidates.{IsAskedIn}
-use Rattle.nts_delegate.specs.declared.delegate.CandidateData.{CandidateData}
-use Rattle.nts_delegate.specs.Offered.{candidates_of}
+use Rattle.nts_candidates.specs.declared.data.CandidateData.{CandidateData}
+use Rattle.nts_candidates.specs.Offered.{candidates_of}
 use Rattle.nts_delegate.specs.Relevant.{LeavesOut}
 use Rattle.nts_trying.proofs.LeftOut.{all_outcomes}
 use Rattle.nts_terms.specs.Handles.{HoldsGoal}

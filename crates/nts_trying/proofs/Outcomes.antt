@@ -18,9 +18,9 @@ use Rattle.nts_terms.specs.Handles.{HoldsGoal}
 use Rattle.nts_unify.specs.Reading.{content_of}
 use Rattle.nts_unify.specs.Lawful.{content_of-extended}
 use Rattle.nts_table.specs.Tables.{Table, IsTable}
-use Rattle.nts_delegate.specs.declared.delegate.CandidateData.{CandidateData}
+use Rattle.nts_candidates.specs.declared.data.CandidateData.{CandidateData}
 use Rattle.nts_delegate.specs.Candidates.{IsCandidate}
-use Rattle.nts_delegate.specs.Offered.{candidate_of, candidates_of}
+use Rattle.nts_candidates.specs.Offered.{candidate_of, candidates_of}
 use Rattle.nts_canonical.specs.declared.types.Canonical.{Canonical}
 use Rattle.nts_canonical.specs.Forms.{trees_of}
 use Rattle.nts_canonical.specs.Building.{IsArgOf}

@@ -21,7 +21,7 @@ use Rattle.nts_terms.specs.Handles.{HoldsGoal}
 use Rattle.nts_unify.specs.Reading.{content_of}
 use Rattle.nts_unify.specs.Lawful.{content_of-extended}
 use Rattle.nts_table.specs.Tables.{Table, IsTable}
-use Rattle.nts_delegate.specs.Offered.{candidate_of}
+use Rattle.nts_candidates.specs.Offered.{candidate_of}
 use Rattle.nts_canonical.specs.declared.types.Canonical.{Canonical}
 use Rattle.nts_canonical.specs.declared.types.CanonicalInput.{CanonicalInput}
 use Rattle.nts_canonical.specs.Forms.{form_of, trees_of}
@@ -36,7 +36,7 @@ use Rattle.nts_theory.specs.Telling.{IsResponseOf, Verdict, SaysOf, IsFound}
 use Rattle.nts_model.specs.Derivations.Handlers.{Handler}
 use Rattle.nts_terms.specs.declared.modes.TypingMode.{TypingMode}
 use Rattle.nts_terms.specs.Modes.{mode_of}
-use Rattle.nts_delegate.specs.declared.delegate.CandidateData.{CandidateData}
+use Rattle.nts_candidates.specs.declared.data.CandidateData.{CandidateData}
 use Rattle.nts_meaning.specs.Telling.{Replies}
 use Rattle.nts_theory.specs.Telling.{IsPlainResponse}
 use Rattle.nts_theory.specs.Telling.Replies.{replies}

@@ -1,7 +1,7 @@
 -- A candidate that is run: what its parts left, put together.
 use Rattle.std.proofs.Common.{◌≡◌, ⊎_elim, inl, inr, List, [], ◌∷◌, map, refl, ap, ◌∙◌, subst}
 use Rattle.std.specs.Prelude.{Result, Ok}
-use Rattle.nts_delegate.specs.Offered.{source_of}
+use Rattle.nts_candidates.specs.Offered.{source_of}
 use Rattle.nts_model.specs.Lists.{Among}
 use Rattle.nts_model.specs.Derivations.Sequents.{Source}
 use Rattle.nts_model.specs.declared.labels.Sort.{Sort}
@@ -27,10 +27,10 @@ use Rattle.nts_terms.specs.declared.modes.TypingMode.{TypingMode}
 use Rattle.nts_unify.specs.Reading.{content_of}
 use Rattle.nts_unify.specs.Lawful.{content_of-extended}
 use Rattle.nts_table.specs.Tables.{Table, IsTable}
-use Rattle.nts_delegate.specs.declared.delegate.CandidateGoal.{CandidateGoal}
-use Rattle.nts_delegate.specs.declared.delegate.CandidateData.{CandidateData}
+use Rattle.nts_candidates.specs.declared.data.CandidateGoal.{CandidateGoal}
+use Rattle.nts_candidates.specs.declared.data.CandidateData.{CandidateData}
 use Rattle.nts_delegate.specs.Candidates.{AreNested}
-use Rattle.nts_delegate.specs.Offered.{constraint_of, premise_of, candidate_of}
+use Rattle.nts_candidates.specs.Offered.{constraint_of, premise_of, candidate_of}
 use Rattle.nts_response.specs.Forms.{premise_at}
 use Rattle.nts_trying.specs.Choices.{EquatesCandidate}
 use Rattle.nts_theory.specs.Telling.{IsBegun, goals_with}

@@ -15,7 +15,7 @@ use Rattle.nts_certainty.specs.declared.sources.GoalSource.TheVariants as source
 use Rattle.nts_search.specs.declared.kinds.CurrentGoalKind.{CurrentGoalKind}
 use Rattle.nts_search.specs.declared.kinds.CurrentGoalKind.TheVariants as kinds
 use Rattle.nts_search.specs.Kinds.{goal_kind_of}
-use Rattle.nts_delegate.specs.Offered.{path_kind_of, source_of}
+use Rattle.nts_candidates.specs.Offered.{path_kind_of, source_of}
 use Rattle.nts_theory.specs.Telling.{CanAsk, IsInductive}
 use Rattle.nts_theory.specs.Telling.RefusesOne.{cuts_one}
 use Rattle.nts_search.specs.Searching.{IsStack}

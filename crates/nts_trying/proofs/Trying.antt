@@ -25,12 +25,12 @@ use Rattle.nts_table.proofs.TermTables.{proper_content}
 use Rattle.nts_table.specs.Tables.{Table, IsTable}
 use Rattle.nts_table.specs.Fresh.{variable_kind, with_fresh, fresh_row}
 use Rattle.nts_table.specs.Making.{new_variable}
-use Rattle.nts_delegate.specs.declared.delegate.Equation.{Equation}
-use Rattle.nts_delegate.specs.declared.delegate.EquationKind.{EquationKind}
-use Rattle.nts_delegate.specs.declared.delegate.EquationKind.TheVariants as kind_data
+use Rattle.nts_candidates.specs.declared.data.Equation.{Equation}
+use Rattle.nts_candidates.specs.declared.data.EquationKind.{EquationKind}
+use Rattle.nts_candidates.specs.declared.data.EquationKind.TheVariants as kind_data
 use Rattle.nts_delegate.specs.Candidates.{KnowsGoal, IsOverIn, IsEquation, AreEquations}
 use Rattle.nts_delegate.proofs.Over.{leaf_known, over_knows}
-use Rattle.nts_delegate.specs.Offered.{equation_as, equation_of}
+use Rattle.nts_candidates.specs.Offered.{equation_as, equation_of}
 use Rattle.nts_trying.specs.Instances.{instance_at}
 use Rattle.nts_meaning.specs.Evaluation.{IsPosed}
 use Rattle.nts_trying.specs.Choices.{EquatesCandidate}

@@ -9,8 +9,8 @@ use Rattle.nts_store.specs.declared.nodes.NodeId.{NodeId}
 use Rattle.nts_store.specs.Growth.{tree_at}
 use Rattle.nts_terms.specs.declared.handles.Goal.{Goal}
 use Rattle.nts_table.specs.Tables.{Table}
-use Rattle.nts_delegate.specs.declared.delegate.CandidateGoal.{CandidateGoal}
-use Rattle.nts_delegate.specs.Offered.{premise_of}
+use Rattle.nts_candidates.specs.declared.data.CandidateGoal.{CandidateGoal}
+use Rattle.nts_candidates.specs.Offered.{premise_of}
 use Rattle.nts_meaning.specs.Evaluation.{asked_terms, goals_at}
 use Rattle.nts_theory.specs.Telling.{goals_with}
 use Rattle.nts_trying.specs.Stepping.{ArePosed, terms_of}

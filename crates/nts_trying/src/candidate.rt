@@ -16,7 +16,7 @@ ghost use Rattle.nts_model.specs.Tables.Passing.{BringsLabelsOf, BringsNoLabels,
 ghost use Rattle.nts_model.specs.Refutation.Forcing.{Adds, AddsBy, AddsAll};
 ghost use Rattle.nts_model.specs.Terms.Substitutions.{filled};
 ghost use Rattle.nts_model.specs.Derivations.Handlers.{constraint_by};
-ghost use Rattle.nts_delegate.specs.Offered.{equation_of, constraint_of, candidate_of};
+ghost use Rattle.nts_candidates.specs.Offered.{equation_of, constraint_of, candidate_of};
 ghost use Rattle.nts_meaning.specs.Running.{Stays, HoldsOutlives, constraint_between, EquationHolds, ConstraintHolds, EquatesEach, Constrains};
 ghost use Rattle.nts_meaning.specs.Evaluation.{Goes, Runs, IsPosed, AreValues, asked_terms, AsksOnly};
 ghost use Rattle.nts_table.specs.Tables.{IsTermIn};
@@ -29,7 +29,8 @@ use nts_certainty::GoalSource;
 use nts_delegate::{CandidateData, CandidateGoal, Equation, RegionConstraint};
 use nts_equating::relate_nodes;
 use nts_model::{Relation, Sort};
-use nts_store::{EvalError, Fault, NodeId, instantiate_canonical};
+use nts_replacing::instantiate_canonical;
+use nts_store::{EvalError, Fault, NodeId};
 use nts_table::InferCtxt;
 use nts_terms::{Cx, Goal, ParamEnv, Predicate, Region, Span, Ty, VisibleForLeakCheck};
 

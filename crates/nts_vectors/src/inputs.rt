@@ -15,10 +15,9 @@ use nts_canonical::{
 use nts_canonicalizer::canonicalize_goal;
 use nts_fixtures::Fixture;
 use nts_model::Sort;
-use nts_resolve::eager_resolve_vars;
 use nts_solver_relating::RelateExt;
 use nts_store::{EvalError, Fault};
-use nts_table::InferCtxt;
+use nts_table::{InferCtxt, eager_resolve_vars};
 use nts_terms::{
     AliasDefId, AliasId, AliasTerm, ClauseKind, Cx, DefId, GenericArg, Goal, ParamEnv, Predicate,
     PredicateKind, Span, TraitId, TraitRef, Ty, TypingMode,

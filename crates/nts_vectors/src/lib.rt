@@ -8,6 +8,8 @@ mod inputs;
 #[cfg(test)]
 mod merging_tests;
 #[cfg(test)]
+mod search;
+#[cfg(test)]
 mod sharing_tests;
 #[cfg(test)]
 mod steps;

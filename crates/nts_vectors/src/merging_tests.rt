@@ -5,9 +5,9 @@ ghost use Rattle.nts_terms.specs.Rest.{Grows};
 
 use nts_canonical::CanonicalVarKind;
 use nts_certainty::Certainty;
-use nts_merging::{bail_with_ambiguity, flounder, try_merge_candidates};
 use nts_model::UintTy;
 use nts_response::{CanonicalResponse, response_no_constraints_raw};
+use nts_search::{bail_with_ambiguity, flounder, try_merge_candidates};
 use nts_store::EvalError;
 use nts_terms::{Cx, GenericArg, TyKind};
 use std::process::Abort;

@@ -2,3 +2,9 @@ pub mod Stores
 pub mod Meant
 pub mod Places
 pub mod Rules
+pub mod Growths
+pub mod Printed
+pub mod Writing
+mod Answered
+pub mod Lines
+pub mod Telling

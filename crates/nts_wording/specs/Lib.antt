@@ -1,2 +1,7 @@
-pub mod Statuses
+pub mod Answers
+pub mod Found
+pub mod Growing
 pub mod Meaning
+pub mod Pieces
+pub mod Printing
+pub mod Statuses

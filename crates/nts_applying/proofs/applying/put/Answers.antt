@@ -13,7 +13,7 @@ use Rattle.nts_unify.specs.Reading.{content_of}
 use Rattle.nts_unify.specs.Lawful.{content_of-extended}
 use Rattle.nts_unify.specs.Recording.{is_visible}
 use Rattle.nts_table.specs.TableLaws.{IsTable-extended}
-use Rattle.nts_delegate.specs.Offered.{hidden_of}
+use Rattle.nts_candidates.specs.Offered.{hidden_of}
 use Rattle.nts_canonical.specs.Forms.{IsHidden}
 use Rattle.nts_response.specs.Applied.{StepKeeps}
 use Rattle.nts_response.specs.Recorded.{sides_of, AddsAllSeen}

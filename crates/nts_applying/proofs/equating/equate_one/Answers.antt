@@ -4,7 +4,7 @@ use Rattle.nts_unify.specs.Reading.{content_of}
 use Rattle.nts_store.proofs.Growing.{IsIn-extended}
 use Rattle.nts_unify.specs.Lawful.{content_of-extended}
 use Rattle.nts_table.specs.TableLaws.{IsTable-extended}
-use Rattle.nts_delegate.proofs.Results.{OnOk-map}
+use Rattle.nts_candidates.proofs.Results.{OnOk-map}
 use Rattle.nts_applying.proofs.Stepping.{nodes_grown, nodes_related, later_grown}
 use Rattle.nts_applying.proofs.equating.equate_one.Goals as goal
 

@@ -7,7 +7,7 @@ use Rattle.nts_model.proofs.Tables.AliasLabels.{region_kind}
 use Rattle.nts_store.specs.Growth.{tree_at}
 use Rattle.nts_unify.specs.Reading.{content_of}
 use Rattle.nts_unify.specs.Recording.{is_visible}
-use Rattle.nts_delegate.proofs.Results.{OnOk-map}
+use Rattle.nts_candidates.proofs.Results.{OnOk-map}
 use Rattle.nts_table.proofs.TermTables.{proper_content}
 use Rattle.nts_response.specs.Recorded.{IsLeftSide, AddsSeen, seen_by_leak_check}
 use Rattle.nts_applying.proofs.RecordLemmas.{recorded_in, recorded_seen, seen_in, recorded_joins, equated_in, equated_joins}

@@ -5,7 +5,7 @@ use Rattle.nts_model.proofs.Tables.SubUnified.{JoinsSubRoots-refl}
 use Rattle.nts_store.specs.Kept.{AllIn-kept}
 use Rattle.nts_terms.specs.declared.modes.VisibleForLeakCheck.{VisibleForLeakCheck}
 use Rattle.nts_terms.specs.declared.modes.VisibleForLeakCheck.TheVariants.{Yes}
-use Rattle.nts_delegate.specs.declared.delegate.RegionConstraint.{RegionConstraint}
+use Rattle.nts_candidates.specs.declared.data.RegionConstraint.{RegionConstraint}
 use Rattle.nts_unify.specs.Reading.{content_of}
 use Rattle.nts_unify.specs.Recording.{is_visible}
 use Rattle.nts_applying.proofs.Stepping.{step_none, step_then, joins_next}

@@ -7,7 +7,7 @@ use Rattle.nts_unify.specs.Reading.{content_of}
 use Rattle.nts_unify.specs.Lawful.{content_of-extended}
 use Rattle.nts_unify.specs.Recording.{is_visible}
 use Rattle.nts_table.specs.TableLaws.{IsTable-extended}
-use Rattle.nts_delegate.proofs.Results.{OnOk-map}
+use Rattle.nts_candidates.proofs.Results.{OnOk-map}
 use Rattle.nts_response.specs.Forms.{recorded_at}
 use Rattle.nts_response.specs.Recorded.{AddsSeen, seen_by_leak_check, seen_if}
 use Rattle.nts_applying.proofs.Stepping.{nodes_grown, nodes_recorded}

@@ -5,7 +5,7 @@ use Rattle.nts_store.specs.Growth.{tree_at}
 use Rattle.nts_model.specs.Tables.Passing.{AllLabels}
 use Rattle.nts_meaning.specs.Evaluation.{is_internal}
 use Rattle.nts_asking.proofs.Admitting.{no_label}
-use Rattle.nts_delegate.proofs.Testing.{if_then}
+use Rattle.nts_candidates.proofs.Results.{if_then}
 use Rattle.nts_asking.proofs.admission.is_asked.Goals as goal
 
 pub returns : goal.returns

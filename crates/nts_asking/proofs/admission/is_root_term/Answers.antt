@@ -5,7 +5,7 @@ use Rattle.nts_store.specs.Growth.{tree_at}
 use Rattle.nts_unify.specs.Reading.{content_of}
 use Rattle.nts_meaning.specs.Evaluation.{IsRootTerm}
 use Rattle.nts_asking.proofs.Admitting.{root_term, root_escapes}
-use Rattle.nts_delegate.proofs.Testing.{if_then}
+use Rattle.nts_candidates.proofs.Results.{if_then}
 use Rattle.nts_asking.proofs.admission.is_root_term.Goals as goal
 
 pub returns-then-is_some : goal.returns-then-is_some

@@ -2,7 +2,7 @@ use Rattle.std.proofs.Common.{subst}
 use Rattle.nts_store.proofs.Growing.{Extends-trans}
 use Rattle.nts_table.specs.TableLaws.{IsTable-extended}
 use Rattle.nts_wording.specs.Meaning.{AreVariablesFrom, IsGoalOf}
-use Rattle.nts_printing.proofs.Telling.{values-extended}
+use Rattle.nts_wording.proofs.Telling.{values-extended}
 use Rattle.nts_declaring.proofs.posing.pose.Goals as goal
 
 pub returns-clause-posed : goal.returns-clause-posed

@@ -3,7 +3,8 @@ use Rattle.std.specs.Prelude.{IsTrue}
 use Rattle.nts_store.specs.Growth.{tree_at}
 use Rattle.nts_model.specs.Tables.Passing.{AllLabels}
 use Rattle.nts_delegate.specs.Clauses.{MayHave, IsClauseTerm}
-use Rattle.nts_delegate.proofs.Testing.{term_fits, term_escapes, if_then}
+use Rattle.nts_candidates.proofs.Results.{if_then}
+use Rattle.nts_delegate.proofs.Testing.{term_fits, term_escapes}
 use Rattle.nts_delegate.proofs.clause_fits.is_clause_term.Goals as goal
 
 pub returns-then-is_some : goal.returns-then-is_some

@@ -13,8 +13,8 @@ use Rattle.nts_terms.proofs.Moved.{KeepsRest-trans, KeepsRest-refl}
 use Rattle.nts_unify.specs.Reading.{content_of}
 use Rattle.nts_unify.specs.Lawful.{content_of-extended}
 use Rattle.nts_table.specs.TableLaws.{IsTable-extended}
-use Rattle.nts_delegate.specs.Offered.{certainty_of, candidate_of, premise_of, path_kind_of, candidates_of}
-use Rattle.nts_delegate.proofs.Results.{IfOk-map, OnOk-map}
+use Rattle.nts_candidates.specs.Offered.{certainty_of, candidate_of, premise_of, path_kind_of, candidates_of}
+use Rattle.nts_candidates.proofs.Results.{IfOk-map, OnOk-map}
 use Rattle.nts_canonical.specs.Building.{kinds_of}
 use Rattle.nts_canonical.specs.Forms.{trees_of, form_of}
 use Rattle.nts_response.specs.Forms.{response_at}

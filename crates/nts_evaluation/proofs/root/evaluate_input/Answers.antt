@@ -8,7 +8,7 @@ use Rattle.nts_terms.specs.Modes.{mode_of}
 use Rattle.nts_terms.specs.Signatures.{variances_in}
 use Rattle.nts_canonical.specs.Forms.{form_of}
 use Rattle.nts_response.specs.Forms.{response_at}
-use Rattle.nts_delegate.specs.Offered.{path_kind_of}
+use Rattle.nts_candidates.specs.Offered.{path_kind_of}
 use Rattle.nts_meaning.proofs.Evaluating.{Since-now}
 use Rattle.nts_meaning.proofs.Searching.{nothing_stands}
 use Rattle.nts_meaning.proofs.Rounds.{empty_stack, tell_begun, nothing_left, never_cut}

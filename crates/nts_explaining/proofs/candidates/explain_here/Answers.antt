@@ -3,8 +3,8 @@ use Rattle.nts_store.specs.Growth.{tree_at}
 use Rattle.nts_store.proofs.Growing.{Extends-trans}
 use Rattle.nts_unify.specs.Lawful.{content_of-extended}
 use Rattle.nts_terms.specs.Modes.{mode_of}
-use Rattle.nts_delegate.specs.Offered.{candidates_of}
-use Rattle.nts_delegate.proofs.Results.{IfOk-map}
+use Rattle.nts_candidates.specs.Offered.{candidates_of}
+use Rattle.nts_candidates.proofs.Results.{IfOk-map}
 use Rattle.nts_meaning.specs.Meant.{offers_of}
 use Rattle.nts_meaning.proofs.Evaluating.{Goes-trans, Goes-extends, IsPosed-later, offers-kept, goes-back}
 use Rattle.nts_explaining.specs.Explaining.GivesReasons.{of_candidates}

@@ -2,9 +2,9 @@ use Rattle.std.proofs.Common.{◌≡◌, take}
 use Rattle.std.specs.Prelude.{All}
 use Rattle.nts_unify.specs.Reading.{content_of}
 use Rattle.nts_terms.specs.Rest.{Grows}
-use Rattle.nts_delegate.specs.Offered.{candidates_of}
+use Rattle.nts_candidates.specs.Offered.{candidates_of}
 use Rattle.nts_explaining.specs.Explaining.{ExplainsEach}
-use Rattle.nts_reason.specs.Held.{HoldsReason}
+use Rattle.nts_candidates.specs.HeldReasons.{HoldsReason}
 use Rattle.nts_explaining.proofs.candidates.reasons_of.Given as goal
 
 -- the first candidates have these reasons, and the table is as before

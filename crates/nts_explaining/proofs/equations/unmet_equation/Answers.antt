@@ -3,7 +3,7 @@ use Rattle.std.proofs.lemmas.List.{length-map}
 use Rattle.nts_unify.specs.Reading.{content_of}
 use Rattle.nts_store.proofs.Growing.{Extends-refl}
 use Rattle.nts_terms.proofs.Moved.{KeepsRest-refl}
-use Rattle.nts_delegate.specs.Offered.{candidate_of, equation_of}
+use Rattle.nts_candidates.specs.Offered.{candidate_of, equation_of}
 use Rattle.nts_trying.proofs.Adding.{grown_more}
 use Rattle.nts_meaning.proofs.Evaluating.{goes-back, IsPosed-later, IsCandidate-extended}
 use Rattle.nts_explaining.specs.Explaining.{MeetsFirst}

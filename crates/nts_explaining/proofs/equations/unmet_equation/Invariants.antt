@@ -1,7 +1,7 @@
 use Rattle.std.proofs.Common.{◌≡◌, ◌⊎◌, ◌≤◌, ◌-◌}
 use Rattle.nts_unify.specs.Reading.{content_of}
 use Rattle.nts_terms.specs.Rest.{Grows}
-use Rattle.nts_delegate.specs.Offered.{candidate_of}
+use Rattle.nts_candidates.specs.Offered.{candidate_of}
 use Rattle.nts_explaining.specs.Explaining.{MeetsFirst}
 use Rattle.nts_explaining.proofs.equations.unmet_equation.Given as goal
 

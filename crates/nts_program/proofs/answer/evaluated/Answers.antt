@@ -3,7 +3,7 @@ use Rattle.nts_store.proofs.Growing.{Extends-refl}
 use Rattle.nts_delegate.specs.ClausesKept.{AreClausesReady-kept}
 use Rattle.nts_program.proofs.Asking.{values-run}
 use Rattle.nts_program.proofs.Justifying.{earlier}
-use Rattle.nts_printing.proofs.Telling.{values-extended}
+use Rattle.nts_wording.proofs.Telling.{values-extended}
 use Rattle.nts_program.proofs.answer.evaluated.Goals as goal
 
 pub evaluate_root_goal-requires-clause-table : goal.evaluate_root_goal-requires-clause-table

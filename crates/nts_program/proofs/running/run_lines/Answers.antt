@@ -1,4 +1,4 @@
-use Rattle.nts_printing.proofs.Growths.{Begins-refl, Begins-trans}
+use Rattle.nts_wording.proofs.Growths.{Begins-refl, Begins-trans}
 use Rattle.nts_program.proofs.Runs.{run_begins, run_more, run_done, run_refused, refused_by, some_left, none_left}
 use Rattle.nts_program.proofs.running.run_lines.Goals as goal
 

@@ -1,5 +1,5 @@
 use Rattle.nts_delegate.specs.Clauses.{AreClausesReady}
-use Rattle.nts_printing.specs.Growing.{Begins}
+use Rattle.nts_wording.specs.Growing.{Begins}
 use Rattle.nts_program.proofs.Runs.{HasRun}
 use Rattle.nts_program.proofs.running.run_lines.Given as goal
 

@@ -1,6 +1,6 @@
 use Rattle.std.proofs.Common.{[], None, refl}
 use Rattle.nts_program.proofs.Obeyed.{never}
-use Rattle.nts_printing.proofs.Growths.{Appends-none}
+use Rattle.nts_wording.proofs.Growths.{Appends-none}
 use Rattle.nts_reasons.proofs.Telling.{told_where, terms-refl}
 use Rattle.nts_reasons.proofs.running.handle_line.Goals as goal
 

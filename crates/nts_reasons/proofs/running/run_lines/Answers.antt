@@ -1,4 +1,4 @@
-use Rattle.nts_printing.proofs.Growths.{Begins-refl, Begins-trans}
+use Rattle.nts_wording.proofs.Growths.{Begins-refl, Begins-trans}
 use Rattle.nts_program.proofs.Runs.{refused_by, some_left, none_left}
 use Rattle.nts_reasons.proofs.Runs.{run_begins, run_more, run_done, run_refused}
 use Rattle.nts_reasons.proofs.running.run_lines.Goals as goal

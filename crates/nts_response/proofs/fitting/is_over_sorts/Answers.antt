@@ -2,7 +2,7 @@ use Rattle.std.proofs.Common.{◌≡◌, ◌↔◌, Bool, true, false, is_some, 
 use Rattle.std.specs.Prelude.{IsTrue}
 use Rattle.nts_store.specs.Growth.{tree_at}
 use Rattle.nts_model.specs.Tables.Passing.{AllLabels}
-use Rattle.nts_delegate.proofs.Testing.{if_then}
+use Rattle.nts_candidates.proofs.Results.{if_then}
 use Rattle.nts_response.specs.OverSorts.{MayStay}
 use Rattle.nts_response.specs.Applicable.{IsOverSorts}
 use Rattle.nts_response.proofs.FitLemmas.{over_sorts, not_over_sorts}

@@ -2,7 +2,7 @@ use Rattle.std.proofs.Common.{◌≡◌, Err, arith, rules, ap, ◌<◌, get_or,
 use Rattle.nts_store.specs.declared.fault.EvalError.TheVariants as EvalError
 use Rattle.std.proofs.lemmas.List.{take_all}
 use Rattle.nts_meaning.proofs.Running.{Equates-step}
-use Rattle.nts_delegate.specs.declared.delegate.Equation.{Equation}
+use Rattle.nts_candidates.specs.declared.data.Equation.{Equation}
 use Rattle.nts_delegate.specs.Candidates.{IsEquation}
 use Rattle.nts_meaning.proofs.Evaluating.{Runs-trans, AreValues-later, IsEquation-extended, equation_at, IsPosed-later}
 use Rattle.nts_trying.proofs.Trying.{equated_first, equated_more, none_meets}

@@ -2,7 +2,7 @@ use Rattle.std.proofs.Common.{map}
 use Rattle.nts_store.specs.Growth.{tree_at}
 use Rattle.nts_table.specs.TableLaws.{IsTable-extended}
 use Rattle.nts_meaning.proofs.Running.{equation_stays}
-use Rattle.nts_delegate.proofs.Results.{OnOk-map}
+use Rattle.nts_candidates.proofs.Results.{OnOk-map}
 use Rattle.nts_trying.proofs.Instances.{held_values, instance_term}
 use Rattle.nts_meaning.proofs.Evaluating.{Runs-trans, Runs-extends, can_fill}
 use Rattle.nts_unify.specs.Lawful.{content_of-extended}

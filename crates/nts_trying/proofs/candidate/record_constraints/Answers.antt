@@ -3,7 +3,7 @@ use Rattle.std.proofs.lemmas.List.{take_all}
 use Rattle.nts_meaning.proofs.Running.{Constrains-step}
 use Rattle.nts_trying.proofs.Constraining.{adds_more}
 use Rattle.nts_delegate.specs.Candidates.{IsRegionConstraint}
-use Rattle.nts_delegate.specs.declared.delegate.RegionConstraint.{RegionConstraint}
+use Rattle.nts_candidates.specs.declared.data.RegionConstraint.{RegionConstraint}
 use Rattle.nts_meaning.proofs.Evaluating.{Runs-refl, Runs-trans, AreValues-later, IsRegionConstraint-extended, constraint_at, IsPosed-later}
 use Rattle.nts_trying.proofs.candidate.record_constraints.Goals as goal
 use Rattle.nts_model.proofs.Tables.Bringing.{only-refl, only-trans}

@@ -3,7 +3,7 @@ use Rattle.nts_model.specs.Tables.Passing.{BringsOnly}
 use Rattle.nts_model.specs.Refutation.Forcing.{AddsAll}
 use Rattle.nts_store.specs.Growth.{tree_at}
 use Rattle.nts_unify.specs.Reading.{content_of}
-use Rattle.nts_delegate.specs.Offered.{constraint_of}
+use Rattle.nts_candidates.specs.Offered.{constraint_of}
 use Rattle.nts_meaning.specs.Running.{Constrains}
 use Rattle.nts_meaning.specs.Evaluation.{Runs, asked_terms}
 use Rattle.nts_trying.proofs.candidate.record_constraints.Given as goal

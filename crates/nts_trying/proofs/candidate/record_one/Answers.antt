@@ -3,13 +3,13 @@ use Rattle.nts_store.specs.Growth.{tree_at}
 use Rattle.nts_terms.proofs.Moved.{KeepsRest-refl}
 use Rattle.nts_table.specs.TableLaws.{IsTable-extended}
 use Rattle.nts_meaning.proofs.Running.{constraint_stays, equality_stays}
-use Rattle.nts_delegate.proofs.Results.{OnOk-map}
+use Rattle.nts_candidates.proofs.Results.{OnOk-map}
 use Rattle.nts_trying.proofs.Instances.{held_values, instance_term}
 use Rattle.nts_meaning.proofs.Evaluating.{Runs-trans, Runs-extends, can_fill}
 use Rattle.nts_model.specs.Terms.Substitutions.{filled}
 use Rattle.nts_model.specs.Derivations.Handlers.{constraint_by}
 use Rattle.nts_unify.specs.Lawful.{content_of-extended}
-use Rattle.nts_delegate.specs.Offered.{constraint_of}
+use Rattle.nts_candidates.specs.Offered.{constraint_of}
 use Rattle.nts_model.specs.Tables.Recording.{left_kind}
 use Rattle.nts_decisions.proofs.RelatedRegions.{regions_are_related}
 use Rattle.nts_trying.proofs.Constraining.{added_equal, never_refused}

@@ -1,7 +1,7 @@
 use Rattle.std.proofs.Common.{true, false}
 use Rattle.nts_model.specs.declared.labels.Relation.TheVariants as relations
 use Rattle.nts_unify.specs.declared.contents.Constraint.{Constraint}
-use Rattle.nts_delegate.proofs.Results.{OnOk-map}
+use Rattle.nts_candidates.proofs.Results.{OnOk-map}
 use Rattle.nts_meaning.proofs.Running.{Stays-map, recorded_stays, unseen, is_region_outlives}
 use Rattle.nts_meaning.proofs.Evaluating.{recorded_goes}
 use Rattle.nts_trying.proofs.Constraining.{added_entry}

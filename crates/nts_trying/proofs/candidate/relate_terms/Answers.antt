@@ -1,7 +1,7 @@
 use Rattle.std.proofs.Common.{rules}
 use Rattle.nts_meaning.proofs.Evaluating.{related_goes, Knows-goes}
 use Rattle.nts_meaning.proofs.Running.{alike_stays}
-use Rattle.nts_delegate.proofs.Results.{OnOk-map}
+use Rattle.nts_candidates.proofs.Results.{OnOk-map}
 use Rattle.nts_trying.proofs.candidate.relate_terms.Goals as goal
 
 pub returns-clause-runs : goal.returns-clause-runs

@@ -1,4 +1,4 @@
-use Rattle.std.proofs.Common.{inl, arith, sym, ap, ◌∷◌, [], length, length-append, MutBor}
+use Rattle.std.proofs.Common.{arith, sym, ap, ◌∷◌, [], length, length-append, MutBor}
 use Rattle.nts_terms.specs.declared.cx.Cx.{Cx}
 use Rattle.nts_meaning.proofs.Evaluating.{rolled_back}
 use Rattle.nts_contexts.specs.declared.state.EvalState.{EvalState}
@@ -78,12 +78,8 @@ returns-clause-full g c none q =
     let s = c.in_ok-state.ensures in
     let e = c.begin_probe.ensures in
     record {
-      answer = c.f-answer.result;
-      run = record {
-        before = _;
-        after = _;
-        begun = probe_begun c.requires.ready s.sound s.opened e.store e.handler s.copy;
-        called = c.f-answer.ensures;
-        left = inl (rw c.note.ensures.same at q);
-      };
+      before = _;
+      after = _;
+      begun = probe_begun c.requires.ready s.sound s.opened e.store e.handler s.copy;
+      called = rw (rw c.note.ensures.same at q) at c.f-answer.ensures;
     }

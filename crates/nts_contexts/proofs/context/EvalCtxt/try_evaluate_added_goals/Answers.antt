@@ -3,7 +3,7 @@ use Rattle.std.proofs.lemmas.Result.{IfOk-from_err}
 use Rattle.nts_contexts.specs.declared.state.EvalState.{EvalState}
 use Rattle.nts_contexts.proofs.Frames.{keeps_refl}
 use Rattle.nts_model.specs.Derivations.Rules.{other_goal}
-use Rattle.nts_delegate.proofs.Results.{OnOk-map}
+use Rattle.nts_candidates.proofs.Results.{OnOk-map}
 use Rattle.nts_meaning.specs.Searching.{assumed_in}
 use Rattle.nts_meaning.proofs.Searching.{nothing_assumed}
 use Rattle.nts_unify.specs.Reading.{content_of}

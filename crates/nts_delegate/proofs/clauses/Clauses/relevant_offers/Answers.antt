@@ -4,13 +4,13 @@ use Rattle.nts_store.specs.Growth.{tree_at}
 use Rattle.nts_delegate.specs.ClauseHandlers.{clause_tree, offers_by, offers_of_clauses, clauses_in_store}
 use Rattle.nts_delegate.specs.Clauses.{AreClauses, clauses_in, IsIndexed}
 use Rattle.nts_delegate.specs.ClausesLawful.{offers_read}
-use Rattle.nts_delegate.specs.Offered.{candidates_of}
+use Rattle.nts_candidates.specs.Offered.{candidates_of}
 use Rattle.nts_delegate.specs.Offers.{trait_of}
 use Rattle.nts_delegate.specs.Relevant.{LeavesOut}
 use Rattle.nts_delegate.specs.Relevant.LeavesOut.{none}
 use Rattle.nts_delegate.proofs.Ready.{at_place, no_place}
 use Rattle.nts_delegate.proofs.Relevance.{same_offered}
-use Rattle.nts_delegate.proofs.Results.{IfOk-map}
+use Rattle.nts_candidates.proofs.Results.{IfOk-map}
 use Rattle.nts_delegate.proofs.clauses.Clauses.relevant_offers.Goals as goal
 
 pub returns-in_default-clause-offered : goal.returns-in_default-clause-offered

@@ -1,4 +1,4 @@
-use Rattle.nts_delegate.proofs.Results.{IfOk-map}
+use Rattle.nts_candidates.proofs.Results.{IfOk-map}
 use Rattle.nts_terms.specs.Modes.{mode_of}
 use Rattle.nts_delegate.specs.ClausesLawful.{AreOffers-read}
 use Rattle.nts_delegate.proofs.clauses.ClausesGoalHandler.candidates.Goals as goal

@@ -1,5 +1,5 @@
 use Rattle.nts_delegate.proofs.Relevance.{same_offered}
-use Rattle.nts_delegate.proofs.Results.{IfOk-map}
+use Rattle.nts_candidates.proofs.Results.{IfOk-map}
 use Rattle.nts_delegate.proofs.delegate.GoalHandler.relevant_candidates.Goals as goal
 
 pub returns-clause-offered : goal.returns-clause-offered

@@ -2,7 +2,7 @@ use Rattle.std.proofs.Common.{refl, sym, ◌++◌, ◌∷◌, [], subst}
 use Rattle.nts_delegate.specs.declared.head_index.HeadIndex.{HeadIndex}
 use Rattle.nts_delegate.specs.Places.{IsIndexOf}
 use Rattle.nts_delegate.proofs.Indexing.{noted_built, noted_blanket}
-use Rattle.nts_delegate.proofs.Results.{OnOk-map}
+use Rattle.nts_candidates.proofs.Results.{OnOk-map}
 use Rattle.nts_delegate.proofs.head_index.HeadIndex.note.Goals as goal
 
 pub returns-in-Some-clause-noted : goal.returns-in-Some-clause-noted

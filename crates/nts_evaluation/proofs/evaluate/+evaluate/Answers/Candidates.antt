@@ -10,8 +10,8 @@ use Rattle.nts_unify.specs.Reading.{content_of}
 use Rattle.nts_unify.specs.Lawful.{content_of-extended}
 use Rattle.nts_table.specs.TableLaws.{IsTable-extended}
 use Rattle.nts_delegate.specs.Candidates.{IsCandidate}
-use Rattle.nts_delegate.specs.Offered.{certainty_of, candidate_of, premise_of, candidates_of}
-use Rattle.nts_delegate.proofs.Results.{IfOk-map}
+use Rattle.nts_candidates.specs.Offered.{certainty_of, candidate_of, premise_of, candidates_of}
+use Rattle.nts_candidates.proofs.Results.{IfOk-map}
 use Rattle.nts_canonical.specs.Forms.{trees_of}
 use Rattle.nts_meaning.specs.Meant.{Since, rules_of}
 use Rattle.nts_evaluation.proofs.Leaking.{checked}

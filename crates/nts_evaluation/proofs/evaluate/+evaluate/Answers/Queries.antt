@@ -7,8 +7,8 @@ use Rattle.nts_terms.specs.Modes.{mode_of}
 use Rattle.nts_terms.proofs.Moved.{KeepsRest-trans}
 use Rattle.nts_unify.specs.Reading.{content_of}
 use Rattle.nts_table.specs.TableLaws.{IsTable-extended}
-use Rattle.nts_delegate.specs.Offered.{path_kind_of}
-use Rattle.nts_delegate.proofs.Results.{IfOk-map, OnOk-map}
+use Rattle.nts_candidates.specs.Offered.{path_kind_of}
+use Rattle.nts_candidates.proofs.Results.{IfOk-map, OnOk-map}
 use Rattle.nts_canonical.specs.Building.{kinds_of}
 use Rattle.nts_canonical.specs.Forms.{form_of}
 use Rattle.nts_response.specs.Forms.{response_at}

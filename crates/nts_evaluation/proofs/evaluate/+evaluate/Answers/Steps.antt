@@ -7,7 +7,7 @@ use Rattle.nts_store.proofs.Growing.{Extends-refl}
 use Rattle.nts_terms.specs.declared.handles.Goal.{Goal}
 use Rattle.nts_terms.proofs.Moved.{KeepsRest-refl}
 use Rattle.nts_unify.specs.Lawful.{content_of-extended}
-use Rattle.nts_delegate.proofs.Results.{IfOk-map, OnOk-map}
+use Rattle.nts_candidates.proofs.Results.{IfOk-map, OnOk-map}
 use Rattle.nts_meaning.specs.Meant.{IsNestedSince}
 use Rattle.nts_trying.specs.Stepping.{AreLeft, AreSettled, bound_of, none_left}
 use Rattle.nts_theory.specs.Telling.Reaches.{asks_nothing}

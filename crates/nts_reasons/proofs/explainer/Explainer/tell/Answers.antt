@@ -1,4 +1,4 @@
-use Rattle.nts_printing.proofs.Growths.{Begins-trans}
+use Rattle.nts_wording.proofs.Growths.{Begins-trans}
 use Rattle.nts_reasons.proofs.Telling.{told, told_yes}
 use Rattle.nts_reasons.proofs.explainer.Explainer.tell.Goals as goal
 

@@ -1,0 +1,2 @@
+pub mod Stalled
+pub mod Stalling

@@ -1,0 +1,3 @@
+pub mod Foreign
+pub mod HeldReasons
+pub mod Offered

@@ -1,3 +1,0 @@
-pub mod Holding
-pub mod Noting
-pub mod Worded

@@ -1,4 +1,0 @@
-pub mod Held
-pub mod ImplLines
-pub mod Origins
-pub mod Reasons
