@@ -1,131 +1,201 @@
-//! Goals asked of the library.
-ghost use Rattle.std.specs.Prelude.{OnOk};
-ghost use Rattle.nts_table.specs.Tables.{IsTable};
-ghost use Rattle.nts_terms.specs.Handles.{HoldsGoal};
-ghost use Rattle.nts_terms.specs.Rest.{Grows};
-
-use crate::goals::{goal_about, goal_between, uint};
-use crate::rules::rule_of_one;
-use nts_certainty::{Certainty, HasChanged};
+//! Goals asked of the library: what is answered, and what the table has afterwards.
+use crate::asking::Asked::{
+    self, Answers, Constructs, MayHold, NotAdmitted, Refuses, Resolves, Variables,
+};
+use crate::asking::Wanted::{Assumed, EachRegion, Plain};
+use crate::asking::DOUBT;
+use crate::steps::Given::{Let, Universe};
+use crate::steps::{By, Given, Of, Part, Rule, plays};
+use nts_certainty::{
+    Certainty, HasChanged, MaybeCause, MaybeInfo, OpaqueTypesJank,
+};
 use nts_delegate::{Clauses, GoalHandler};
-use nts_evaluation::{GoalEvaluation, GoalStalledOn, evaluate_root_goal, goal_is_admitted};
-use nts_model::{BoundVarIndexKind, Sort, UintTy};
-use nts_store::EvalError;
-use nts_table::{InferCtxt, eager_resolve_vars};
-use nts_terms::{BoundTy, Cx, Goal, PlaceholderType, Span, TraitId, TyKind, TypingMode};
-use std::test::Fail;
+use nts_fixtures::{BYTE, Make, Type, WORD};
+use nts_model::{BoundVarIndexKind, Sort, VariableKind};
+use nts_terms::{BoundRegion, RegionKind, TraitId, TypingMode};
 
-/// How sure it is that a goal holds, and whether its variables changed, or nothing where it has no solution; asked through the bound.
-#[tactic(auto, using(nts_asking::proofs::Asking::asking))]
-pub(crate) fn evaluated<H: GoalHandler>(
-    table: &mut InferCtxt,
-    cx: &mut Cx,
-    handler: &H,
-    goal: Goal,
-) -> Result<Option<(Certainty, HasChanged)>, Fail>
-    requires table { IsTable cx.old.nodes table.old }
-    requires ready { H.ready cx.old.nodes handler.now }
-    requires holds { HoldsGoal cx.old.nodes goal }
-    ensures table { OnOk result (IsTable cx.new.nodes table.new) }
-    ensures grows { Grows cx.old cx.new }
-{
-    if !goal_is_admitted(table, cx, goal)? {
-        return Err(Fail::new("the goal may not be asked"));
-    }
-    match evaluate_root_goal(table, cx, handler, goal, Span(0), None) {
-        Ok(evaluation) => Ok(Some((evaluation.certainty, evaluation.has_changed))),
-        Err(EvalError::NoSolution) => Ok(None),
-        Err(error) => Err(Fail::new(error)),
-    }
-}
+const ANY: Make = Make::Type(Type::Position(0));
+const VAR: Make = Make::Var(VariableKind::Ty);
+const YES: Certainty = Certainty::Yes;
+
+/// Two types.
+const TWO: &[Sort] = &[Sort::Ty, Sort::Ty];
+/// One type.
+const ONE: &[Sort] = &[Sort::Ty];
+
+/// A trait that holds between each type and itself.
+const SAME: &[Rule] = &[Rule(ONE, Of(0, &["any", "any"]), None)];
 
 #[test]
-#[tactic(auto, using(nts_asking::proofs::Asking::asking))]
-fn two_variables_become_one(rt: HostRuntime) -> Result<(), Fail> {
-    let mut cx = Cx::new(rt.alloc());
-    let mut table = InferCtxt::new(rt.alloc(), TypingMode::Coherence);
-    let mut handler = Clauses::new(rt.alloc());
-    let same = cx.declare_trait(&[Sort::Ty, Sort::Ty])?;
-    let x = table.next_ty_infer(&mut cx)?;
-    let y = table.next_ty_infer(&mut cx)?;
-    rule_of_one(&mut cx, &mut handler, same)?;
-    let goal = goal_between(&mut cx, same, x.into(), y.into())?;
-    let first = evaluated(&mut table, &mut cx, &handler, goal)?;
-    assert!(rt; matches!(first, Some((Certainty::Yes, HasChanged::Yes))));
-    let goal = goal_between(&mut cx, same, x.into(), y.into())?;
-    let again = evaluated(&mut table, &mut cx, &handler, goal)?;
-    assert!(rt; matches!(again, Some((Certainty::Yes, HasChanged::No))));
-    Ok(())
+fn two_variables_become_one(rt: HostRuntime) {
+    const GIVEN: &[Given] = &[Given::Trait(TWO), Let("any", ANY), Let("x", VAR), Let("y", VAR)];
+    const ASKED: &[Asked] = &[
+        Answers(Plain(Of(0, &["x", "y"])), YES, HasChanged::Yes),
+        Answers(Plain(Of(0, &["x", "y"])), YES, HasChanged::No),
+    ];
+    const PARTS: &[Part] = &[Part(By::Clauses, SAME, ASKED)];
+    plays(&rt, rt.alloc(), TypingMode::Coherence, GIVEN, PARTS);
 }
 
 /// The query itself holds, but the variable cannot name what it would be.
 #[test]
-#[tactic(auto, using(nts_asking::proofs::Asking::asking))]
-fn a_placeholder_that_the_variable_cannot_name(rt: HostRuntime) -> Result<(), Fail> {
-    let mut cx = Cx::new(rt.alloc());
-    let mut table = InferCtxt::new(rt.alloc(), TypingMode::Coherence);
-    let mut handler = Clauses::new(rt.alloc());
-    let same = cx.declare_trait(&[Sort::Ty, Sort::Ty])?;
-    let x = table.next_ty_infer(&mut cx)?;
-    let universe = table.create_next_universe()?;
-    let bound = BoundTy { var: 0 };
-    let p = cx.mk_ty(TyKind::Placeholder(PlaceholderType { universe, bound }))?;
-    rule_of_one(&mut cx, &mut handler, same)?;
-    let goal = goal_between(&mut cx, same, x.into(), p.into())?;
-    let refused = evaluated(&mut table, &mut cx, &handler, goal)?;
-    assert!(rt; refused.is_none());
-    assert!(rt; table.variable_count() == 1);
-    Ok(())
+fn a_placeholder_that_the_variable_cannot_name(rt: HostRuntime) {
+    const GIVEN: &[Given] = &[
+        Given::Trait(TWO),
+        Let("any", ANY),
+        Let("x", VAR),
+        Universe,
+        Let("p", Make::Type(Type::Placeholder(1, 0))),
+    ];
+    const ASKED: &[Asked] = &[
+        MayHold(Plain(Of(0, &["x", "p"])), 128, false, false),
+        Refuses(Plain(Of(0, &["x", "p"]))),
+        Variables(1),
+    ];
+    const PARTS: &[Part] = &[Part(By::Clauses, SAME, ASKED)];
+    plays(&rt, rt.alloc(), TypingMode::Coherence, GIVEN, PARTS);
+}
+
+/// An open variable is its root, and a position of a rule is in no goal.
+#[test]
+fn what_is_asked_is_of_the_table(rt: HostRuntime) {
+    const GIVEN: &[Given] = &[Given::Trait(ONE), Let("any", ANY), Let("x", VAR)];
+    const ASKED: &[Asked] = &[Resolves("x", "x"), NotAdmitted(Plain(Of(0, &["any"])))];
+    const PARTS: &[Part] = &[Part(By::Clauses, &[], ASKED)];
+    plays(&rt, rt.alloc(), TypingMode::PostAnalysis, GIVEN, PARTS);
+}
+
+/// Whether a type holds for two types isn't known, but whatever it holds for is constructed: the value is left, and the doubt.
+#[test]
+fn what_holds_of_each_solution_is_left(rt: HostRuntime) {
+    const GIVEN: &[Given] = &[
+        Given::Trait(ONE),
+        Given::Trait(ONE),
+        Let("byte", BYTE),
+        Let("word", WORD),
+        Let("any", ANY),
+        Let("over", Make::Wrap("any")),
+        Let("x", VAR),
+    ];
+    const RULES: &[Rule] = &[
+        Rule(&[], Of(1, &["byte"]), None),
+        Rule(&[], Of(1, &["word"]), None),
+        Rule(ONE, Of(0, &["over"]), Some(Of(1, &["any"]))),
+    ];
+    const ASKED: &[Asked] = &[
+        Answers(Plain(Of(0, &["x"])), DOUBT, HasChanged::Yes),
+        Constructs("x"),
+        Answers(Plain(Of(0, &["x"])), DOUBT, HasChanged::No),
+    ];
+    const PARTS: &[Part] = &[Part(By::Clauses, RULES, ASKED)];
+    plays(&rt, rt.alloc(), TypingMode::Coherence, GIVEN, PARTS);
+}
+
+/// What is assumed of a parameter holds by an assembly, and not by the clauses alone, which take no notice of it.
+#[test]
+fn what_is_assumed_holds(rt: HostRuntime) {
+    const GIVEN: &[Given] = &[Given::Trait(ONE), Let("t", Make::Type(Type::Param(0)))];
+    const IGNORED: &[Asked] = &[Refuses(Assumed(Of(0, &["t"])))];
+    const ASKED: &[Asked] = &[
+        Answers(Assumed(Of(0, &["t"])), YES, HasChanged::No),
+        Refuses(Plain(Of(0, &["t"]))),
+    ];
+    const PARTS: &[Part] = &[
+        Part(By::Clauses, &[], IGNORED),
+        Part(By::Assembly, &[], ASKED),
+    ];
+    plays(&rt, rt.alloc(), TypingMode::PostAnalysis, GIVEN, PARTS);
+}
+
+/// That a trait holds for each region does not follow from `impl T('static)`, where leaks are looked for. Without that it may:
+/// the equality of the two regions is left to who asked. A region that the caller leaves open may be `'static`.
+#[test]
+fn not_each_region_is_static(rt: HostRuntime) {
+    const BOUND: RegionKind =
+        RegionKind::ReBound(BoundVarIndexKind::Bound(0), BoundRegion { var: 0 });
+    const GIVEN: &[Given] = &[
+        Given::Trait(&[Sort::Region]),
+        Let("static", Make::Region(RegionKind::ReStatic)),
+        Let("bound", Make::Region(BOUND)),
+        Let("open", Make::Var(VariableKind::Region)),
+    ];
+    const RULES: &[Rule] = &[Rule(&[], Of(0, &["static"]), None)];
+    const PLAIN: &[Asked] = &[MayHold(EachRegion(Of(0, &["bound"])), 128, true, true)];
+    const CHECKED: &[Asked] = &[
+        MayHold(EachRegion(Of(0, &["bound"])), 128, false, false),
+        MayHold(Plain(Of(0, &["open"])), 128, true, true),
+    ];
+    const PARTS: &[Part] = &[
+        Part(By::Clauses, RULES, PLAIN),
+        Part(By::LeakChecked, RULES, CHECKED),
+    ];
+    plays(&rt, rt.alloc(), TypingMode::Coherence, GIVEN, PARTS);
+}
+
+/// A fact may hold. Without one no candidate is offered, so no depth helps. A doubt is no refusal: two facts stand for a variable.
+#[test]
+fn what_may_hold(rt: HostRuntime) {
+    const GIVEN: &[Given] = &[
+        Given::Trait(ONE),
+        Let("byte", BYTE),
+        Let("word", WORD),
+        Let("x", VAR),
+    ];
+    const FACTS: &[Rule] = &[
+        Rule(&[], Of(0, &["byte"]), None),
+        Rule(&[], Of(0, &["word"]), None),
+    ];
+    const ASKED: &[Asked] = &[
+        MayHold(Plain(Of(0, &["word"])), 128, true, true),
+        MayHold(Plain(Of(0, &["x"])), 0, true, true),
+        Variables(1),
+    ];
+    const NOTHING: &[Asked] = &[MayHold(Plain(Of(0, &["word"])), 128, false, false)];
+    const PARTS: &[Part] = &[
+        Part(By::Clauses, FACTS, ASKED),
+        Part(By::Clauses, &[], NOTHING),
+    ];
+    plays(&rt, rt.alloc(), TypingMode::Coherence, GIVEN, PARTS);
+}
+
+/// A candidate that is in doubt for an opaque type is no refusal, but the second call takes it for one.
+#[test]
+fn what_may_be_an_error_for_an_opaque_type(rt: HostRuntime) {
+    const GIVEN: &[Given] = &[Given::Trait(ONE), Let("byte", BYTE)];
+    const JANK: MaybeInfo = MaybeInfo {
+        cause: MaybeCause::Ambiguity,
+        opaque_types_jank: OpaqueTypesJank::ErrorIfRigidSelfTy,
+    };
+    const ASKED: &[Asked] = &[MayHold(Plain(Of(0, &["byte"])), 128, true, false)];
+    const PARTS: &[Part] = &[Part(By::Marker(Certainty::Maybe(JANK)), &[], ASKED)];
+    plays(&rt, rt.alloc(), TypingMode::PostAnalysis, GIVEN, PARTS);
+}
+
+const BYTES: &[Given] = &[Given::Trait(ONE), Let("byte", BYTE)];
+
+/// A goal that asks for itself by an inductive step is a cycle. In coherence that is in doubt: what is refused there has no proof,
+/// and of a cycle that isn't known.
+#[test]
+fn an_inductive_cycle_may_hold_in_coherence(rt: HostRuntime) {
+    const ASKED: &[Asked] = &[MayHold(Plain(Of(0, &["byte"])), 128, true, true)];
+    const PARTS: &[Part] = &[Part(By::Circular, &[], ASKED)];
+    plays(&rt, rt.alloc(), TypingMode::Coherence, BYTES, PARTS);
+}
+
+/// Elsewhere it has no solution.
+#[test]
+fn an_inductive_cycle_does_not_hold_elsewhere(rt: HostRuntime) {
+    const ASKED: &[Asked] = &[MayHold(Plain(Of(0, &["byte"])), 128, false, false)];
+    const PARTS: &[Part] = &[Part(By::Circular, &[], ASKED)];
+    plays(&rt, rt.alloc(), TypingMode::PostAnalysis, BYTES, PARTS);
 }
 
 #[test]
-#[tactic(auto, using(nts_asking::proofs::Asking::asking))]
-fn an_open_variable_is_its_root(rt: HostRuntime) -> Result<(), Fail> {
-    let mut cx = Cx::new(rt.alloc());
-    let mut table = InferCtxt::new(rt.alloc(), TypingMode::PostAnalysis);
-    let variable = table.next_ty_infer(&mut cx)?;
-    let resolved = eager_resolve_vars(&table, &mut cx, variable)?;
-    assert!(rt; cx.same(resolved, variable));
-    Ok(())
-}
-
-#[test]
-fn a_position_is_not_admitted(rt: HostRuntime) -> Result<(), Fail> {
-    let mut cx = Cx::new(rt.alloc());
-    let table = InferCtxt::new(rt.alloc(), TypingMode::PostAnalysis);
-    let clone = cx.declare_trait(&[Sort::Ty])?;
-    let position = cx.mk_ty(TyKind::Bound(BoundVarIndexKind::Canonical, BoundTy { var: 0 }))?;
-    let goal = goal_about(&mut cx, clone, position.into())?;
-    assert!(rt; !goal_is_admitted(&table, &mut cx, goal)?);
-    Ok(())
-}
-
-#[test]
-fn coinductive_traits(rt: HostRuntime) -> Result<(), Fail> {
+fn coinductive_traits(rt: HostRuntime) {
     let mut handler = Clauses::new(rt.alloc());
     let send = TraitId { number: 3 };
     assert!(rt; !handler.trait_is_coinductive(send));
-    handler.set_coinductive(send)?;
+    handler.set_coinductive(send).expect(&rt, "memory");
     assert!(rt; handler.trait_is_coinductive(send));
     assert!(rt; !handler.trait_is_coinductive(TraitId { number: 2 }));
-    Ok(())
-}
-
-#[test]
-fn an_evaluation_is_shown(rt: HostRuntime) -> Result<(), Fail> {
-    let mut cx = Cx::new(rt.alloc());
-    let clone = cx.declare_trait(&[Sort::Ty])?;
-    let word = uint(&mut cx, UintTy::U32)?;
-    let goal = goal_about(&mut cx, clone, word.into())?;
-    let vars = vec![in rt.alloc(); word.into()]?;
-    let stalled_on = GoalStalledOn::new(0, vars, Vec::new(rt.alloc()), Certainty::AMBIGUOUS);
-    let evaluation = GoalEvaluation {
-        goal,
-        certainty: Certainty::AMBIGUOUS,
-        has_changed: HasChanged::No,
-        stalled_on,
-    };
-    let text = format!(in rt.alloc(); "{evaluation:?}")?;
-    assert!(rt; !text.is_empty());
-    Ok(())
 }

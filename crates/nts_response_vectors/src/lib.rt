@@ -1,10 +1,12 @@
-//! Tests of responses, through the names that users of the library see.
+//! Tests of responses and of conditions on hidden types, through the names that users of the library see.
 #![tactic(auto)]
 
 #[cfg(test)]
 mod applying_tests;
 #[cfg(test)]
 mod fixture;
+#[cfg(test)]
+mod reruns;
 #[cfg(test)]
 mod same_tests;
 #[cfg(test)]

@@ -192,7 +192,7 @@ directed_kind h variance.Contravariant a b = refl
 goal_kind : (p : Pair) → kind_of (goal_of p) ≡ Some bound_predicate
 goal_kind p = directed_kind (goal_head p) p.variance p.left p.right
 
-are_goals_of : (us ws : List Tree) (c : Content) (env : ParamEnv) (ps : List Relating) (gs : List Goal) → Extends us ws → ArePairs us c ps → AreGoals (pairs_at us ps) → AreMadeFor us ws env ps gs → AreGoalsOfPairs ws c env ps gs
+pub are_goals_of : (us ws : List Tree) (c : Content) (env : ParamEnv) (ps : List Relating) (gs : List Goal) → Extends us ws → ArePairs us c ps → AreGoals (pairs_at us ps) → AreMadeFor us ws env ps gs → AreGoalsOfPairs ws c env ps gs
 are_goals_of us ws c env [] [] ext known goals made = tt
 are_goals_of us ws c env [] (g ∷ gs) ext known goals made = absurd made
 are_goals_of us ws c env (p ∷ ps) [] ext known goals made = absurd made

@@ -6,6 +6,6 @@ mod nodes;
 mod related;
 mod values;
 
-pub use nodes::relate_by;
+pub use nodes::{goals_of, relate_by};
 pub use related::Relate;
 pub use values::RelateExt;

@@ -72,8 +72,9 @@ fn relate_sides(
     relate_terms(alloc, nodes, declarations, table, variance, left, right)
 }
 
-/// The goals of pairs in an environment, in their order.
-fn goals_of(
+/// The goals of pairs in an environment, in their order: an alias and what it is to be equal to, or two types of which one is to be
+/// a subtype of the other. It is `Memory` where a growth was refused.
+pub fn goals_of(
     alloc: Global,
     nodes: &mut Nodes,
     env: ParamEnv,

@@ -1,0 +1,3 @@
+pub mod Loose
+pub mod Walked
+pub mod Known

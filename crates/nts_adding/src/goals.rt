@@ -1,0 +1,59 @@
+//! What stands for a goal that is added.
+ghost use Rattle.std.specs.Prelude.{◌≢◌, ◌↔◌, IfOk, Err, IsTrue, All};
+ghost use Rattle.nts_model.specs.Derivations.Rules.{KeepsAliases, statement_of};
+ghost use Rattle.nts_store.specs.Growth.{tree_at};
+ghost use Rattle.nts_terms.specs.Handles.{HoldsPredicate};
+ghost use Rattle.nts_meaning.specs.Evaluation.{Runs, IsPosed};
+ghost use Rattle.nts_adding.specs.Replacing.{StandFor};
+
+use crate::putting::put_variables;
+use nts_solver_relating::goals_of;
+use nts_store::EvalError;
+use nts_table::InferCtxt;
+use nts_terms::{ClauseKind, Cx, Goal, Predicate, PredicateKind};
+
+/// Whether the aliases of a predicate stand as they are.
+fn keeps_aliases(cx: &Cx, predicate: Predicate) -> bool
+    requires { HoldsPredicate cx.now.nodes predicate }
+    ensures { IsTrue result ↔ KeepsAliases (statement_of (tree_at cx.now.nodes predicate.node)) }
+{
+    match predicate.kind(cx).value {
+        PredicateKind::Clause(ClauseKind::WellFormed(_)) => true,
+        PredicateKind::Clause(ClauseKind::UnstableFeature(_)) => true,
+        PredicateKind::AliasRelate(_, _, _) => true,
+        PredicateKind::NormalizesTo { .. } => true,
+        _ => false,
+    }
+}
+
+/// What stands for a goal that is added: the goal with a new variable in the place of each outermost alias from which no bound
+/// variable escapes, and before it, for each of these aliases, in order, the goal that it is equal to its variable. Goals that say of
+/// a term that it is well formed, that relate or normalize an alias, or that ask for an unstable feature, stand as they are.
+///
+/// Where these goals hold under a later table, so does the goal that they stand for. It is `Memory` where a growth was refused; then
+/// variables may be left in the table, and nothing else.
+pub fn replace_aliases(
+    table: &mut InferCtxt,
+    cx: &mut Cx,
+    goal: Goal,
+) -> Result<(Vec<Goal>, Goal), EvalError>
+    requires posed { IsPosed cx.old.nodes table.old goal }
+    ensures runs { Runs cx.old cx.new table.old table.new }
+    ensures stand { IfOk result (λ r. StandFor cx.old.nodes cx.new.nodes table.old.entries
+        table.new.entries goal r.0.items r.1) }
+    ensures posed { IfOk result (λ r. All (IsPosed cx.new.nodes table.new) r.0.items) }
+    ensures last { IfOk result (λ r. IsPosed cx.new.nodes table.new r.1) }
+    ensures no { result ≢ Err EvalError.NoSolution }
+    ensures full { result ≢ Err EvalError.Full }
+{
+    if keeps_aliases(cx, goal.predicate) {
+        return Ok((Vec::new(cx.alloc), goal));
+    }
+    let (predicate, pairs) = put_variables(table, cx, goal.predicate)?;
+    let goals = goals_of(cx.alloc, &mut cx.nodes, goal.param_env, &pairs)?;
+    let left = Goal {
+        param_env: goal.param_env,
+        predicate,
+    };
+    Ok((goals, left))
+}

@@ -1,0 +1,8 @@
+//! Goals that are added: in each, an alias from which no bound variable escapes gives place to a variable, and a goal of its own
+//! relates the two.
+#![tactic(auto)]
+
+mod goals;
+mod putting;
+
+pub use goals::replace_aliases;

@@ -1,0 +1,355 @@
+//! Goals that are asked, and what is answered.
+ghost use Rattle.std.specs.Prelude.{IfOk, IfSome, IsTrue, All};
+ghost use Rattle.nts_table.specs.Tables.{IsTable};
+ghost use Rattle.nts_terms.specs.Handles.{HoldsArg, HoldsGoal};
+ghost use Rattle.nts_terms.specs.Rest.{Grows};
+
+use crate::steps::{Of, predicate_of};
+use nts_asking::GoalStalledOn;
+use nts_certainty::{Certainty, HasChanged};
+use nts_delegate::{Clauses, GoalHandler};
+use nts_evaluation::{GoalEvaluation, evaluate_root_goal, goal_is_admitted};
+use nts_fixtures::{Name, Names};
+use nts_may_hold::{root_goal_may_hold_opaque_types_jank, root_goal_may_hold_with_depth};
+use nts_model::Sort;
+use nts_store::EvalError;
+use nts_table::{InferCtxt, eager_resolve_vars};
+use nts_terms::{Cx, GenericArgKind, Goal, Span, TyKind};
+use std::process::Abort;
+
+/// A goal.
+#[derive(Clone, Copy)]
+pub enum Wanted {
+    /// That a trait holds, in an empty environment.
+    Plain(Of),
+    /// The same for each region, which the goal binds.
+    EachRegion(Of),
+    /// That a trait holds, where just that is assumed.
+    Assumed(Of),
+}
+
+/// What is asked, and what is answered.
+pub enum Asked {
+    /// A goal is answered so, and its variables changed or not. Something is kept of it exactly if it is in doubt, and nothing
+    /// changed.
+    Answers(Wanted, Certainty, HasChanged),
+    /// A goal has no solution.
+    Refuses(Wanted),
+    /// Whether a goal may hold at this depth, and whether it is in no doubt for an opaque type.
+    MayHold(Wanted, usize, bool, bool),
+    /// A goal is in doubt, and waits for one variable. What is kept of it is handed in when it is asked again.
+    Stalls(Wanted),
+    /// A goal is skipped: what was kept of it is answered once more.
+    Skips(Wanted),
+    /// A goal is not skipped, and has no solution.
+    AsksAgain(Wanted),
+    /// A goal may not be asked.
+    NotAdmitted(Wanted),
+    /// Two variables of types come into one sub-unification class.
+    Joins(usize, usize),
+    /// The first term, with values and roots in place of its variables, is the second one.
+    Resolves(Name, Name),
+    /// The term's value is a constructor over arguments.
+    Constructs(Name),
+    /// The table has so many variables.
+    Variables(usize),
+}
+
+/// A doubt that nothing else is known of.
+pub const DOUBT: Certainty = Certainty::AMBIGUOUS;
+
+/// Asks one after the other.
+#[tactic(auto, using(nts_asking::proofs::Asking::asking))]
+pub fn ask_all<H: GoalHandler>(
+    rt: &impl Abort,
+    table: &mut InferCtxt,
+    cx: &mut Cx,
+    names: &Names,
+    kept: &mut Option<GoalStalledOn>,
+    handler: &H,
+    asked: &[Asked],
+)
+    requires table { IsTable cx.old.nodes table.old }
+    requires ready { H.ready cx.old.nodes handler.now }
+    ensures table { IsTable cx.new.nodes table.new }
+{
+    for n in 0..asked.len() {
+        let found = ask(table, cx, names, kept, handler, &asked[n]);
+        assert!(rt; matches!(found, Ok(true)), "step {n}");
+    }
+}
+
+#[tactic(auto, using(nts_asking::proofs::Asking::asking))]
+fn ask<H: GoalHandler>(
+    table: &mut InferCtxt,
+    cx: &mut Cx,
+    names: &Names,
+    kept: &mut Option<GoalStalledOn>,
+    handler: &H,
+    asked: &Asked,
+) -> Result<bool, EvalError>
+    requires table { IsTable cx.old.nodes table.old }
+    requires ready { H.ready cx.old.nodes handler.now }
+    ensures table { IsTable cx.new.nodes table.new }
+    ensures ready { H.ready cx.new.nodes handler.now }
+{
+    match asked {
+        Asked::Answers(wanted, certainty, changed) => {
+            let goal = goal_of(cx, names, *wanted)?;
+            answers(table, cx, handler, goal, Some((*certainty, *changed)))
+        }
+        Asked::Refuses(wanted) => {
+            let goal = goal_of(cx, names, *wanted)?;
+            answers(table, cx, handler, goal, None)
+        }
+        Asked::MayHold(wanted, depth, deep, good) => {
+            let goal = goal_of(cx, names, *wanted)?;
+            may_hold(table, cx, handler, goal, *depth, (*deep, *good))
+        }
+        Asked::Stalls(wanted) => {
+            let goal = goal_of(cx, names, *wanted)?;
+            stalls(table, cx, handler, goal, kept)
+        }
+        Asked::Skips(wanted) => {
+            let goal = goal_of(cx, names, *wanted)?;
+            again(table, cx, goal, kept, Some((DOUBT, HasChanged::No)))
+        }
+        Asked::AsksAgain(wanted) => {
+            let goal = goal_of(cx, names, *wanted)?;
+            again(table, cx, goal, kept, None)
+        }
+        Asked::NotAdmitted(wanted) => {
+            let goal = goal_of(cx, names, *wanted)?;
+            Ok(!goal_is_admitted(table, cx, goal)?)
+        }
+        Asked::Joins(a, b) => joins(table, *a, *b),
+        Asked::Resolves(x, y) => resolves(table, cx, names, x, y),
+        Asked::Constructs(x) => constructs(table, cx, names, x),
+        Asked::Variables(count) => Ok(table.variable_count() == *count),
+    }
+}
+
+fn goal_of(cx: &mut Cx, names: &Names, wanted: Wanted) -> Result<Goal, EvalError>
+    ensures holds { IfOk result (λ g. HoldsGoal cx.new.nodes g) }
+    ensures grows { Grows cx.old cx.new }
+{
+    let predicate = match wanted {
+        Wanted::Plain(of) | Wanted::Assumed(of) => predicate_of(cx, names, &[], of)?,
+        Wanted::EachRegion(of) => predicate_of(cx, names, &[Sort::Region], of)?,
+    };
+    let param_env = match wanted {
+        Wanted::Assumed(_) => cx.mk_env(&[predicate])?,
+        _ => cx.mk_env(&[])?,
+    };
+    if !cx.holds(predicate) {
+        return Err(EvalError::NoSolution);
+    }
+    Ok(Goal {
+        param_env,
+        predicate,
+    })
+}
+
+/// What a goal is answered, with what was kept of it, or nothing where it has no solution.
+#[tactic(auto, using(nts_asking::proofs::Asking::asking))]
+fn evaluated<H: GoalHandler>(
+    table: &mut InferCtxt,
+    cx: &mut Cx,
+    handler: &H,
+    goal: Goal,
+    kept: Option<GoalStalledOn>,
+) -> Result<Option<GoalEvaluation>, EvalError>
+    requires table { IsTable cx.old.nodes table.old }
+    requires ready { H.ready cx.old.nodes handler.now }
+    requires holds { HoldsGoal cx.old.nodes goal }
+    ensures table { IsTable cx.new.nodes table.new }
+    ensures grows { Grows cx.old cx.new }
+{
+    if !goal_is_admitted(table, cx, goal)? || !is_of_store(cx, &kept) {
+        return Err(EvalError::NoSolution);
+    }
+    match evaluate_root_goal(table, cx, handler, goal, Span(0), kept) {
+        Ok(evaluation) => Ok(Some(evaluation)),
+        Err(EvalError::NoSolution) => Ok(None),
+        Err(error) => Err(error),
+    }
+}
+
+/// Whether what was kept is of this store.
+fn is_of_store(cx: &Cx, kept: &Option<GoalStalledOn>) -> bool
+    ensures { IsTrue result → IfSome kept.now (λ s. All (λ a. HoldsArg cx.now.nodes a)
+        s.stalled_vars.items) }
+{
+    match kept {
+        None => true,
+        Some(kept) => kept.is_of_store(cx),
+    }
+}
+
+/// Whether a goal is answered so.
+#[tactic(auto, using(nts_asking::proofs::Asking::asking))]
+fn answers<H: GoalHandler>(
+    table: &mut InferCtxt,
+    cx: &mut Cx,
+    handler: &H,
+    goal: Goal,
+    wanted: Option<(Certainty, HasChanged)>,
+) -> Result<bool, EvalError>
+    requires table { IsTable cx.old.nodes table.old }
+    requires ready { H.ready cx.old.nodes handler.now }
+    requires holds { HoldsGoal cx.old.nodes goal }
+    ensures table { IsTable cx.new.nodes table.new }
+    ensures grows { Grows cx.old cx.new }
+{
+    let found = evaluated(table, cx, handler, goal, None)?;
+    Ok(is_answer(&found, wanted))
+}
+
+/// Whether a goal is in doubt, and waits for one variable. What is kept of it takes the place of what was kept.
+#[tactic(auto, using(nts_asking::proofs::Asking::asking))]
+fn stalls<H: GoalHandler>(
+    table: &mut InferCtxt,
+    cx: &mut Cx,
+    handler: &H,
+    goal: Goal,
+    kept: &mut Option<GoalStalledOn>,
+) -> Result<bool, EvalError>
+    requires table { IsTable cx.old.nodes table.old }
+    requires ready { H.ready cx.old.nodes handler.now }
+    requires holds { HoldsGoal cx.old.nodes goal }
+    ensures table { IsTable cx.new.nodes table.new }
+    ensures grows { Grows cx.old cx.new }
+{
+    let found = evaluated(table, cx, handler, goal, None)?;
+    let is_in_doubt = is_answer(&found, Some((DOUBT, HasChanged::No)));
+    *kept = kept_of(found);
+    Ok(is_in_doubt && waits_for_one(kept))
+}
+
+/// Whether a goal that is asked again, without rules, with what was kept of it, is answered so.
+#[tactic(auto, using(nts_asking::proofs::Asking::asking))]
+fn again(
+    table: &mut InferCtxt,
+    cx: &mut Cx,
+    goal: Goal,
+    kept: &mut Option<GoalStalledOn>,
+    wanted: Option<(Certainty, HasChanged)>,
+) -> Result<bool, EvalError>
+    requires table { IsTable cx.old.nodes table.old }
+    requires holds { HoldsGoal cx.old.nodes goal }
+    ensures table { IsTable cx.new.nodes table.new }
+    ensures grows { Grows cx.old cx.new }
+{
+    let handler = Clauses::new(cx.alloc);
+    let found = evaluated(table, cx, &handler, goal, kept.take())?;
+    let is_wanted = is_answer(&found, wanted);
+    *kept = kept_of(found);
+    Ok(is_wanted)
+}
+
+/// Whether an answer is this one. Of a doubt something is kept, unless something changed.
+fn is_answer(found: &Option<GoalEvaluation>, wanted: Option<(Certainty, HasChanged)>) -> bool {
+    match (found, wanted) {
+        (None, None) => true,
+        (Some(found), Some((certainty, changed))) => {
+            let stalls = certainty != Certainty::Yes && changed == HasChanged::No;
+            found.certainty == certainty
+                && found.has_changed == changed
+                && found.stalled_on.is_some() == stalls
+        }
+        _ => false,
+    }
+}
+
+fn kept_of(found: Option<GoalEvaluation>) -> Option<GoalStalledOn> {
+    match found {
+        Some(found) => found.stalled_on,
+        None => None,
+    }
+}
+
+/// Whether what is kept waits for one variable, which is its own sub root, and is in plain doubt.
+fn waits_for_one(kept: &Option<GoalStalledOn>) -> bool {
+    match kept {
+        None => false,
+        Some(kept) => {
+            kept.num_opaques == 0
+                && kept.stalled_vars.len() == 1
+                && kept.sub_roots.len() == 1
+                && Certainty::Maybe(kept.stalled_certainty) == DOUBT
+        }
+    }
+}
+
+/// Whether the two calls answer this: the first at that depth.
+#[tactic(auto, using(nts_asking::proofs::Asking::asking))]
+fn may_hold<H: GoalHandler>(
+    table: &mut InferCtxt,
+    cx: &mut Cx,
+    handler: &H,
+    goal: Goal,
+    depth: usize,
+    wanted: (bool, bool),
+) -> Result<bool, EvalError>
+    requires table { IsTable cx.old.nodes table.old }
+    requires ready { H.ready cx.old.nodes handler.now }
+    requires holds { HoldsGoal cx.old.nodes goal }
+    ensures table { IsTable cx.new.nodes table.new }
+    ensures grows { Grows cx.old cx.new }
+{
+    if !goal_is_admitted(table, cx, goal)? {
+        return Err(EvalError::NoSolution);
+    }
+    let deep = root_goal_may_hold_with_depth(table, cx, handler, depth, goal)?;
+    if !goal_is_admitted(table, cx, goal)? {
+        return Err(EvalError::NoSolution);
+    }
+    let good = root_goal_may_hold_opaque_types_jank(table, cx, handler, goal)?;
+    Ok((deep, good) == wanted)
+}
+
+fn joins(table: &mut InferCtxt, a: usize, b: usize) -> Result<bool, EvalError> {
+    if a >= table.variable_count() || b >= table.variable_count() {
+        return Ok(false);
+    }
+    table.sub_unify_ty_vids_raw(a, b)?;
+    Ok(true)
+}
+
+fn resolves(
+    table: &InferCtxt,
+    cx: &mut Cx,
+    names: &Names,
+    x: &str,
+    y: &str,
+) -> Result<bool, EvalError>
+    requires { IsTable cx.old.nodes table.now }
+    ensures table { IsTable cx.new.nodes table.now }
+    ensures grows { Grows cx.old cx.new }
+{
+    let (x, y) = (names.term(x)?, names.term(y)?);
+    if !cx.holds(x) || !table.knows(cx, x)? {
+        return Err(EvalError::NoSolution);
+    }
+    Ok(eager_resolve_vars(table, cx, x)? == y)
+}
+
+fn constructs(
+    table: &InferCtxt,
+    cx: &mut Cx,
+    names: &Names,
+    x: &str,
+) -> Result<bool, EvalError>
+    requires { IsTable cx.old.nodes table.now }
+    ensures table { IsTable cx.new.nodes table.now }
+    ensures grows { Grows cx.old cx.new }
+{
+    let x = names.term(x)?;
+    if !cx.holds(x) || !table.knows(cx, x)? {
+        return Err(EvalError::NoSolution);
+    }
+    match eager_resolve_vars(table, cx, x)?.kind(cx) {
+        GenericArgKind::Type(ty) => Ok(matches!(ty.kind(cx), TyKind::Ctor(_, _))),
+        _ => Ok(false),
+    }
+}

@@ -1,0 +1,191 @@
+//! Tests as lists of steps: what there is, which rules hold, and what is asked of them.
+ghost use Rattle.std.specs.Prelude.{IfOk};
+ghost use Rattle.nts_delegate.specs.Clauses.{AreClausesReady};
+ghost use Rattle.nts_table.specs.Tables.{IsTable};
+ghost use Rattle.nts_terms.specs.Handles.{HoldsPredicate};
+ghost use Rattle.nts_terms.specs.Rest.{Grows};
+
+use crate::asking::{Asked, ask_all};
+use nts_asking::GoalStalledOn;
+use nts_certainty::Certainty;
+use nts_delegate::{Assembly, Clause, Clauses};
+use nts_fixtures::{Fixture, Make, Name, Names};
+use nts_leak_check::LeakChecked;
+use nts_marker::{Circular, Marker};
+use nts_model::Sort;
+use nts_store::EvalError;
+use nts_table::InferCtxt;
+use nts_terms::{
+    Binder, ClauseKind, Cx, DefId, Predicate, PredicateKind, TraitId, TraitRef, TypingMode,
+};
+use std::alloc::Global;
+use std::process::Abort;
+
+/// What there is before rules are told.
+pub enum Given {
+    /// A term of this name.
+    Let(Name, Make),
+    /// A trait over parameters of these sorts. The first one has the number 0.
+    Trait(&'static [Sort]),
+    /// One more universe.
+    Universe,
+    /// Goals are asked without short cuts.
+    NoFastPaths,
+}
+
+/// The trait of this number, and the names of its arguments.
+#[derive(Clone, Copy)]
+pub struct Of(pub usize, pub &'static [Name]);
+
+/// That a trait holds, for all that positions of these sorts stand for, if another one does.
+pub struct Rule(pub &'static [Sort], pub Of, pub Option<Of>);
+
+/// By which handler goals are asked.
+pub enum By {
+    /// A list of clauses.
+    Clauses,
+    /// The same, and the environment.
+    Assembly,
+    /// The same, with a leak check.
+    LeakChecked,
+    /// The trait of the number 0 is so sure.
+    Marker(Certainty),
+    /// The trait of the number 0 holds where it holds.
+    Circular,
+}
+
+/// A part of a test: a handler, its rules, and what is asked.
+pub struct Part(
+    pub By,
+    pub &'static [Rule],
+    pub &'static [Asked],
+);
+
+/// Plays the parts one after the other, in a new table.
+pub fn plays(rt: &impl Abort, alloc: Global, mode: TypingMode, given: &[Given], parts: &[Part]) {
+    let mut fixture = Fixture::new(alloc).expect(rt, "memory");
+    fixture.table = InferCtxt::new(alloc, mode);
+    let mut names = Names::new(alloc);
+    for n in 0..given.len() {
+        let set = give(&mut fixture, &mut names, &given[n]);
+        assert!(rt; set.is_ok(), "what is given, {n}");
+    }
+    let mut kept = None;
+    for n in 0..parts.len() {
+        play(rt, &mut fixture, &names, &mut kept, &parts[n]);
+    }
+}
+
+fn give(fixture: &mut Fixture, names: &mut Names, given: &Given) -> Result<(), EvalError>
+    requires { IsTable fixture.old.cx.nodes fixture.old.table }
+    ensures { IsTable fixture.new.cx.nodes fixture.new.table }
+{
+    match given {
+        Given::Let(name, make) => fixture.name(names, *name, *make)?,
+        Given::Trait(sorts) => {
+            fixture.cx.declare_trait(sorts)?;
+        }
+        Given::Universe => {
+            fixture.universe()?;
+        }
+        Given::NoFastPaths => fixture.cx.set_disable_fast_paths(true),
+    }
+    Ok(())
+}
+
+#[tactic(auto, using(nts_asking::proofs::Asking::asking))]
+fn play(
+    rt: &impl Abort,
+    fixture: &mut Fixture,
+    names: &Names,
+    kept: &mut Option<GoalStalledOn>,
+    part: &Part,
+)
+    requires { IsTable fixture.old.cx.nodes fixture.old.table }
+    ensures { IsTable fixture.new.cx.nodes fixture.new.table }
+{
+    let Part(by, rules, asked) = part;
+    let (cx, table) = (&mut fixture.cx, &mut fixture.table);
+    let mut clauses = Clauses::new(cx.alloc);
+    for n in 0..rules.len() {
+        let told = tell(cx, names, &mut clauses, &rules[n]);
+        assert!(rt; told.is_ok(), "rule {n}");
+    }
+    let id = TraitId { number: 0 };
+    match by {
+        By::Clauses => ask_all(rt, table, cx, names, kept, &clauses, asked),
+        By::Assembly => {
+            let assembly = Assembly::new(clauses);
+            ask_all(rt, table, cx, names, kept, &assembly, asked)
+        }
+        By::LeakChecked => {
+            let checked = LeakChecked { rules: clauses };
+            ask_all(rt, table, cx, names, kept, &checked, asked)
+        }
+        By::Marker(certainty) => {
+            let marker = Marker {
+                id,
+                certainty: *certainty,
+            };
+            ask_all(rt, table, cx, names, kept, &marker, asked)
+        }
+        By::Circular => ask_all(rt, table, cx, names, kept, &Circular { id }, asked),
+    }
+}
+
+#[tactic(auto, using(nts_asking::proofs::Asking::asking))]
+fn tell(
+    cx: &mut Cx,
+    names: &Names,
+    clauses: &mut Clauses,
+    rule: &Rule,
+) -> Result<(), EvalError>
+    requires { AreClausesReady cx.old.nodes clauses.old }
+    ensures ready { AreClausesReady cx.new.nodes clauses.new }
+    ensures grows { Grows cx.old cx.new }
+{
+    let Rule(fresh, Of(id, head), condition) = rule;
+    let head = names.terms(head)?;
+    if !head.iter().all(|arg| cx.holds(*arg)) {
+        return Err(EvalError::NoSolution);
+    }
+    let mut body = Vec::new(cx.alloc);
+    if let Some(condition) = condition {
+        body.push(predicate_of(cx, names, &[], *condition)?)?;
+    }
+    let clause = Clause {
+        fresh: fresh.to_vec(cx.alloc)?,
+        trait_id: TraitId { number: *id },
+        head: cx.mk_args(&head)?,
+        body,
+    };
+    if !Clauses::clause_fits(cx, &clause)? {
+        return Err(EvalError::NoSolution);
+    }
+    Ok(clauses.add_clause(cx, clause)?)
+}
+
+/// That a trait holds, under a binder of variables of these sorts.
+pub fn predicate_of(
+    cx: &mut Cx,
+    names: &Names,
+    bound: &[Sort],
+    of: Of,
+) -> Result<Predicate, EvalError>
+    ensures holds { IfOk result (HoldsPredicate cx.new.nodes) }
+    ensures grows { Grows cx.old cx.new }
+{
+    let Of(number, args) = of;
+    let args = names.terms(args)?;
+    if !args.iter().all(|arg| cx.holds(*arg)) {
+        return Err(EvalError::NoSolution);
+    }
+    let def_id = TraitId { number };
+    let args = cx.mk_args(&args)?;
+    let vars = cx.mk_bound_vars(bound)?;
+    if !cx.holds(args) || !cx.fits(DefId::Trait(def_id), args) {
+        return Err(EvalError::NoSolution);
+    }
+    let value = PredicateKind::Clause(ClauseKind::Trait(TraitRef { def_id, args }));
+    Ok(cx.mk_predicate(Binder { vars, value })?)
+}

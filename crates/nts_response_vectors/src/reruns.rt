@@ -1,0 +1,4 @@
+//! Conditions on hidden types, and what they decide.
+mod conditions;
+mod decision_tests;
+mod joining_tests;
