@@ -1,3 +1,4 @@
 pub mod Loose
 pub mod Walked
 pub mod Known
+pub mod Added

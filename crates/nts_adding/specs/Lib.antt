@@ -1,3 +1,4 @@
 pub mod Putting
 pub mod Walking
 pub mod Replacing
+pub mod Adding

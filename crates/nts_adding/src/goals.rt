@@ -1,16 +1,21 @@
 //! What stands for a goal that is added.
-ghost use Rattle.std.specs.Prelude.{◌≢◌, ◌↔◌, IfOk, Err, IsTrue, All};
+ghost use Rattle.std.specs.Prelude.{◌≡◌, ◌≢◌, ◌↔◌, IfOk, OnOk, Err, IsTrue, All, map};
 ghost use Rattle.nts_model.specs.Derivations.Rules.{KeepsAliases, statement_of};
 ghost use Rattle.nts_store.specs.Growth.{tree_at};
 ghost use Rattle.nts_terms.specs.Handles.{HoldsPredicate};
+ghost use Rattle.nts_table.specs.Tables.{IsTable};
 ghost use Rattle.nts_meaning.specs.Evaluation.{Runs, IsPosed};
 ghost use Rattle.nts_adding.specs.Replacing.{StandFor};
+ghost use Rattle.nts_adding.specs.Adding.{AddsBehind, AddsEach, ArePosedIn};
 
 use crate::putting::put_variables;
+use nts_certainty::GoalSource;
+use nts_search::{CurrentGoalKind, step_kind_for_source};
 use nts_solver_relating::goals_of;
 use nts_store::EvalError;
 use nts_table::InferCtxt;
 use nts_terms::{ClauseKind, Cx, Goal, Predicate, PredicateKind};
+use std::alloc::{AllocError, Global};
 
 /// Whether the aliases of a predicate stand as they are.
 fn keeps_aliases(cx: &Cx, predicate: Predicate) -> bool
@@ -56,4 +61,69 @@ pub fn replace_aliases(
         predicate,
     };
     Ok((goals, left))
+}
+
+/// Goals, each with that source.
+fn with_source(
+    alloc: Global,
+    source: GoalSource,
+    goals: &[Goal],
+) -> Result<Vec<(GoalSource, Goal)>, AllocError>
+    ensures { IfOk result (λ v. v.items ≡ map (λ g. (source, g)) goals.now) }
+{
+    let mut added = Vec::with_capacity(alloc, goals.len())?;
+    for goal in goals {
+        added.push((source, *goal))?;
+    }
+    Ok(added)
+}
+
+/// Puts what stands for a goal behind what was added before.
+fn add_one(
+    table: &mut InferCtxt,
+    cx: &mut Cx,
+    added: &mut Vec<(GoalSource, Goal)>,
+    kind: CurrentGoalKind,
+    source: GoalSource,
+    goal: Goal,
+) -> Result<(), EvalError>
+    requires posed { IsPosed cx.old.nodes table.old goal }
+    ensures runs { Runs cx.old cx.new table.old table.new }
+    ensures adds { OnOk result (AddsBehind cx.old.nodes cx.new.nodes table.old table.new kind source
+        goal added.old.items added.new.items) }
+    ensures no { result ≢ Err EvalError.NoSolution }
+    ensures full { result ≢ Err EvalError.Full }
+{
+    let (relations, last) = replace_aliases(table, cx, goal)?;
+    let step = GoalSource::NormalizeGoal(step_kind_for_source(kind, source));
+    let mut first = with_source(cx.alloc, step, &relations)?;
+    added.append(&mut first)?;
+    added.push((source, last))?;
+    Ok(())
+}
+
+/// What is added where goals are to hold that a goal of that kind asks for from that source: what stands for each of them, in
+/// order, the goals of its aliases with a source of their own, which says by what step they are asked. It is `Memory` where a growth
+/// was refused; then variables may be left in the table, and nothing else.
+pub fn goals_to_add(
+    table: &mut InferCtxt,
+    cx: &mut Cx,
+    kind: CurrentGoalKind,
+    source: GoalSource,
+    goals: &[Goal],
+) -> Result<Vec<(GoalSource, Goal)>, EvalError>
+    requires table { IsTable cx.old.nodes table.old }
+    requires posed { All (IsPosed cx.old.nodes table.old) goals.now }
+    ensures runs { Runs cx.old cx.new table.old table.new }
+    ensures adds { IfOk result (λ v. AddsEach cx.old.nodes cx.new.nodes table.old.entries
+        table.new.entries kind source goals.now v.items) }
+    ensures posed { IfOk result (λ v. ArePosedIn cx.new.nodes table.new v.items) }
+    ensures no { result ≢ Err EvalError.NoSolution }
+    ensures full { result ≢ Err EvalError.Full }
+{
+    let mut added = Vec::new(cx.alloc);
+    for goal in goals {
+        add_one(table, cx, &mut added, kind, source, *goal)?;
+    }
+    Ok(added)
 }

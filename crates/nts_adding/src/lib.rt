@@ -5,4 +5,4 @@
 mod goals;
 mod putting;
 
-pub use goals::replace_aliases;
+pub use goals::{goals_to_add, replace_aliases};

@@ -1,41 +1,39 @@
 -- What relating in a context does to its store, its table and its goals.
-use Rattle.std.proofs.Common.{◌≡◌, ℕ, List, [], ◌∷◌, ◌++◌, map, Option, None, sym, ap, ◌∙◌, subst}
+use Rattle.std.proofs.Common.{◌≡◌, ◌==◌, ℕ, true, length, List, [], ◌++◌, refl, sym, ap, ◌∙◌, subst}
+use Rattle.std.proofs.lemmas.Bool.{eqb-true}
 use Rattle.std.specs.Prelude.{All, IfOk, IfErr, Result, Ok, Err, OnOk, OnErr}
-use Rattle.std.proofs.lemmas.List.{append-nil}
-use Rattle.std.proofs.lemmas.List.Elements.{All-nil, All-cons}
+use Rattle.std.proofs.lemmas.List.{append-nil, nil_from_length}
+use Rattle.std.proofs.lemmas.List.Elements.{All-append}
 use Rattle.nts_model.specs.declared.labels.Variance.{Variance}
 use Rattle.nts_model.specs.Terms.Trees.{Tree, IsClosed}
 use Rattle.nts_model.specs.Tables.Contents.{Content}
-use Rattle.nts_model.specs.Tables.Resolving.{Knows}
 use Rattle.nts_model.proofs.Tables.Slots.{Knows-kept}
-use Rattle.nts_store.specs.declared.fault.Fault.{Fault}
 use Rattle.nts_store.specs.declared.fault.EvalError.{EvalError}
 use Rattle.nts_store.specs.declared.nodes.NodeId.{NodeId}
-use Rattle.nts_store.specs.Growth.{tree_at, Extends}
+use Rattle.nts_store.specs.Growth.{tree_at}
 use Rattle.nts_terms.specs.declared.cx.Cx.{Cx}
 use Rattle.nts_terms.specs.declared.handles.Goal.{Goal}
 use Rattle.nts_terms.specs.declared.handles.ParamEnv.{ParamEnv}
-use Rattle.nts_terms.specs.Handles.{HoldsEnv}
-use Rattle.nts_terms.specs.Signatures.{variances_in}
 use Rattle.nts_terms.proofs.Moved.{Holds-extended}
+use Rattle.nts_certainty.specs.declared.sources.GoalSource.{GoalSource}
 use Rattle.nts_certainty.specs.declared.sources.GoalSource.TheVariants as source
+use Rattle.nts_search.specs.declared.kinds.CurrentGoalKind.{CurrentGoalKind}
+use Rattle.nts_search.specs.declared.kinds.CurrentGoalKind.TheVariants as kind
+use Rattle.nts_adding.specs.Adding.{AddsEach, ArePosedIn}
+use Rattle.nts_adding.proofs.Known.{goals_posed}
 use Rattle.nts_unify.specs.Entries.{Entries}
 use Rattle.nts_unify.specs.Reading.{content_of}
 use Rattle.nts_unify.specs.Changing.{HasClosedSides}
 use Rattle.nts_unify.proofs.Keeping.{sides-added}
 use Rattle.nts_table.specs.Tables.{Table, IsTable}
 use Rattle.nts_variance.specs.Walking.{IsTableGrown}
-use Rattle.nts_variance.specs.declared.along.Relating.{Relating as Pair}
-use Rattle.nts_solver_relating.specs.Sides.{IsRelatedBy, SolverRelatingKeeps, AreMadeEqual, AreGoalsOfPairs}
-use Rattle.nts_meaning.specs.Evaluation.{Runs, IsPosed}
+use Rattle.nts_solver_relating.specs.Sides.{IsRelatedBy, SolverRelatingKeeps, AreMadeEqual}
+use Rattle.nts_meaning.specs.Evaluation.{Goes, Runs, IsPosed}
 use Rattle.nts_trying.specs.Stepping.{ArePosed}
 use Rattle.nts_meaning.proofs.Evaluating.{goes, runs-back}
 use Rattle.nts_trying.proofs.Stepping.{posed_later}
 use Rattle.nts_contexts.specs.declared.state.EvalState.{EvalState}
-use Rattle.nts_contexts.specs.declared.context.EvalCtxt.{EvalCtxt}
-use Rattle.nts_contexts.specs.Contexts.{IsContextReady, KeepsContext}
-use Rattle.nts_contexts.specs.Related.{IsEnvOf, AddsRelated, AreEquatedIn}
-use Rattle.nts_contexts.proofs.Frames.{posed_more}
+use Rattle.nts_contexts.specs.Related.{IsEnvOf, AddsTo, RelatesAdding, LeavesNothing, AddsRelated, AreEquatedIn}
 
 -- what was recorded since is between closed terms
 closed_grown : {c d : Content} → IsTableGrown c d → HasClosedSides c → HasClosedSides d
@@ -63,53 +61,66 @@ where_added P (Ok a) (Err e) h f = tt
 where_added P (Err e) (Ok z) h f = (let q : ◌≡◌ {A = Result (Unit {0}) EvalError} (Ok z) (Err e) = f in cc)
 where_added P (Err e) (Err x) h f = tt
 
--- the same entries before and after
-related_moved : (declared : ℕ → List Variance) (ts us : List Tree) (e i f j : Entries) (env : ParamEnv) (w : Variance) (x y : Tree) (gs : List Goal) → e ≡ i → j ≡ f → IsRelatedBy declared ts us e f env w x y gs → IsRelatedBy declared ts us i j env w x y gs
-related_moved declared ts us e i f j env w x y gs p q h =
-    subst (λ z. IsRelatedBy declared ts us i z env w x y gs) (sym q) (subst (λ z. IsRelatedBy declared ts us z f env w x y gs) p h)
-
-made_moved : (ts us : List Tree) (e i f j : Entries) (x y : Tree) (gs : List Goal) → e ≡ i → j ≡ f → AreMadeEqual (content_of ts e) (content_of us f) x y gs → AreMadeEqual (content_of ts i) (content_of us j) x y gs
-made_moved ts us e i f j x y gs p q h =
-    subst (λ z. AreMadeEqual (content_of ts i) (content_of us z) x y gs) (sym q) (subst (λ z. AreMadeEqual (content_of ts z) (content_of us f) x y gs) p h)
-
 where_pushed : {A : Type 0} (P Q : A → Type 0) (S R : Type 0) (r : Result A EvalError) (p : Result (Unit {0}) EvalError) → OnOk p S → IfOk r P → IfOk r (λ gs. OnOk p (Q gs)) → IfErr r (λ e. p ≡ Err e) → ((gs : A) → S → P gs → Q gs → R) → OnOk p R
 where_pushed P Q S R (Ok g) (Ok z) s h k f to = to g s h k
 where_pushed P Q S R (Ok g) (Err e) s h k f to = tt
 where_pushed P Q S R (Err e) (Ok z) s h k f to = (let q : ◌≡◌ {A = Result (Unit {0}) EvalError} (Ok z) (Err e) = f in cc)
 where_pushed P Q S R (Err e) (Err x) s h k f to = tt
 
-pub adds_related : {A : Type 0} (a b : Cx) (t s u v : Table) (m n : EvalState) (env : ParamEnv) (w : Variance) (x y : NodeId) (items : A → List Goal) (r : Result A EvalError) (p : Result (Unit {0}) EvalError) → s.entries ≡ t.entries → OnOk p (v.entries ≡ u.entries)
-    → IfOk r (λ gs. IsRelatedBy (variances_in a.declarations) a.nodes b.nodes s.entries u.entries env w (tree_at a.nodes x) (tree_at a.nodes y) (items gs))
-    → IfOk r (λ gs. OnOk p (n.nested_goals.items ≡ m.nested_goals.items ++ map (λ g. (source.TypeRelating, g)) (items gs))) → IfErr r (λ e. p ≡ Err e) → OnOk p (AddsRelated a b t v m n env w x y)
+-- what stands for goals, with the entries that it is said of
+adds_moved : (ts us : List Tree) (e i f j : Entries) (k : CurrentGoalKind) (w : GoalSource) (gs : List Goal) (xs : List (GoalSource × Goal)) → e ≡ i → j ≡ f → AddsEach ts us e f k w gs xs → AddsEach ts us i j k w gs xs
+adds_moved ts us e i f j k w gs xs p q h = subst (λ z. AddsEach ts us i z k w gs xs) (sym q) (subst (λ z. AddsEach ts us z f k w gs xs) p h)
+
+pub no_goals : (gs : List Goal) → (length gs == 0) ≡ true → gs ≡ []
+no_goals gs e = nil_from_length gs (eqb-true (length gs) 0 e)
+
+-- nothing stands for no goals
+pub adds_none : (ts : List Tree) (e : Entries) (w : GoalSource) (gs : List Goal) → gs ≡ [] → AddsEach ts ts e e kind.Misc w gs []
+adds_none ts e w gs q = subst (λ z. AddsEach ts ts e e kind.Misc w z []) (sym q) (refl, refl, refl)
+
+-- what was found out in a snapshot, and pushed, and committed
+pub adds_to : {A : Type 0} (a b : Cx) (t s u v : Table) (w : GoalSource) (gs : List Goal) (old new : List (GoalSource × Goal)) (items : A → List (GoalSource × Goal)) (r : Result A EvalError) (p : Result (Unit {0}) EvalError) → s.entries ≡ t.entries → OnOk p (v.entries ≡ u.entries)
+    → IfOk r (λ z. AddsEach a.nodes b.nodes s.entries u.entries kind.Misc w gs (items z)) → IfOk r (λ z. OnOk p (new ≡ old ++ items z)) → IfErr r (λ e. p ≡ Err e) → OnOk p (AddsTo a b t v w gs old new)
+adds_to a b t s u v w gs old new items r p es ev h add f =
+    where_pushed (λ z. AddsEach a.nodes b.nodes s.entries u.entries kind.Misc w gs (items z)) (λ z. new ≡ old ++ items z) (v.entries ≡ u.entries) (AddsTo a b t v w gs old new) r p ev h add f
+    (λ z q i j. record { added = items z; adds = adds_moved a.nodes b.nodes s.entries t.entries u.entries v.entries kind.Misc w gs (items z) es q i; behind = j })
+
+pub adds_related : {A : Type 0} (a b : Cx) (t s u v : Table) (m n : EvalState) (env : ParamEnv) (w : Variance) (x y : NodeId) (items : A → List (GoalSource × Goal)) (r : Result A EvalError) (p : Result (Unit {0}) EvalError) → s.entries ≡ t.entries → OnOk p (v.entries ≡ u.entries)
+    → IfOk r (λ z. RelatesAdding a b s.entries u.entries env w x y (items z)) → IfOk r (λ z. OnOk p (n.nested_goals.items ≡ m.nested_goals.items ++ items z)) → IfErr r (λ e. p ≡ Err e) → OnOk p (AddsRelated a b t v m n env w x y)
 adds_related a b t s u v m n env w x y items r p es ev h add f =
-    where_pushed (λ gs. IsRelatedBy (variances_in a.declarations) a.nodes b.nodes s.entries u.entries env w (tree_at a.nodes x) (tree_at a.nodes y) (items gs))
-    (λ gs. n.nested_goals.items ≡ m.nested_goals.items ++ map (λ g. (source.TypeRelating, g)) (items gs)) (v.entries ≡ u.entries) (AddsRelated a b t v m n env w x y) r p ev h add f
-    (λ gs q i j. record {
-      goals = items gs;
-      related = related_moved (variances_in a.declarations) a.nodes b.nodes s.entries t.entries u.entries v.entries env w (tree_at a.nodes x) (tree_at a.nodes y) (items gs) es q i;
-      added = j;
+    where_pushed (λ z. RelatesAdding a b s.entries u.entries env w x y (items z)) (λ z. n.nested_goals.items ≡ m.nested_goals.items ++ items z) (v.entries ≡ u.entries) (AddsRelated a b t v m n env w x y) r p ev h add f
+    (λ z q i j. record {
+      added = items z;
+      related = subst (λ e. RelatesAdding a b t.entries e env w x y (items z)) (sym q) (subst (λ e. RelatesAdding a b e u.entries env w x y (items z)) es i);
+      behind = j;
     })
 
-pub adds_nothing : {A : Type 0} (a b : Cx) (t s u v : Table) (m n : EvalState) (x y : NodeId) (items : A → List Goal) (r : Result A EvalError) (p : Result (Unit {0}) EvalError) → s.entries ≡ t.entries → OnOk p (v.entries ≡ u.entries)
-    → IfOk r (λ gs. AreMadeEqual (content_of a.nodes s.entries) (content_of b.nodes u.entries) (tree_at a.nodes x) (tree_at a.nodes y) (items gs))
-    → IfOk r (λ gs. OnOk p (n.nested_goals.items ≡ m.nested_goals.items ++ map (λ g. (source.TypeRelating, g)) (items gs))) → IfErr r (λ e. p ≡ Err e) → OnOk p (AreEquatedIn a b t v m n x y)
-adds_nothing a b t s u v m n x y items (Ok g) (Ok z) es ev h add f =
-    let same : n.nested_goals.items ≡ m.nested_goals.items ++ [] = add ∙ ap (λ xs. m.nested_goals.items ++ map (λ (z : Goal). (source.TypeRelating, z)) xs) h.none in
-    let one = made_moved a.nodes b.nodes s.entries t.entries u.entries v.entries (tree_at a.nodes x) (tree_at a.nodes y) (items g) es ev h in
-    record { goals = same ∙ append-nil m.nested_goals.items; related = one.related; labels = one.labels }
-adds_nothing a b t s u v m n x y items (Ok g) (Err e) es ev h add f = tt
-adds_nothing a b t s u v m n x y items (Err e) (Ok z) es ev h add f = (let q : ◌≡◌ {A = Result (Unit {0}) EvalError} (Ok z) (Err e) = f in cc)
-adds_nothing a b t s u v m n x y items (Err e) (Err x') es ev h add f = tt
+pub adds_nothing : {A : Type 0} (a b : Cx) (t s u v : Table) (m n : EvalState) (x y : NodeId) (items : A → List (GoalSource × Goal)) (r : Result A EvalError) (p : Result (Unit {0}) EvalError) → s.entries ≡ t.entries → OnOk p (v.entries ≡ u.entries)
+    → IfOk r (λ z. LeavesNothing a b s.entries u.entries x y (items z)) → IfOk r (λ z. OnOk p (n.nested_goals.items ≡ m.nested_goals.items ++ items z)) → IfErr r (λ e. p ≡ Err e) → OnOk p (AreEquatedIn a b t v m n x y)
+adds_nothing a b t s u v m n x y items r p es ev h add f =
+    where_pushed (λ z. LeavesNothing a b s.entries u.entries x y (items z)) (λ z. n.nested_goals.items ≡ m.nested_goals.items ++ items z) (v.entries ≡ u.entries) (AreEquatedIn a b t v m n x y) r p ev h add f
+    (λ z q i j.
+    let one : LeavesNothing a b t.entries v.entries x y (items z) = subst (λ e. LeavesNothing a b t.entries e x y (items z)) (sym q) (subst (λ e. LeavesNothing a b e u.entries x y (items z)) es i) in
+    record { goals = j ∙ ap (λ xs. m.nested_goals.items ++ xs) one.none ∙ append-nil m.nested_goals.items; related = one.related; labels = one.labels })
 
--- the goals that are left are goals of the store and the table
-goals_posed : (ts : List Tree) (u : Table) (env : ParamEnv) (ps : List Pair) (gs : List Goal) → IsTable ts u → HoldsEnv ts env → Knows (content_of ts u.entries) (tree_at ts env.node) → AreGoalsOfPairs ts (content_of ts u.entries) env ps gs → All (IsPosed ts u) gs
-goals_posed ts u env [] [] w h k q = All-nil (IsPosed ts u)
-goals_posed ts u env [] (g ∷ gs) w h k q = absurd q
-goals_posed ts u env (p ∷ ps) [] w h k q = absurd q
-goals_posed ts u env (p ∷ ps) (g ∷ gs) w h k q =
-    let z = q.0 in
-    let one : IsPosed ts u g = record { table = w; holds = record { env = rw z.param_env h; predicate = z.holds }; knows = record { env = rw z.param_env k; predicate = z.knows } } in
-    All-cons (IsPosed ts u) g gs one (goals_posed ts u env ps gs w h k q.1)
+-- goals of a table are goals of one of the same entries
+posed_same : (ts : List Tree) (u v : Table) (gs : List (GoalSource × Goal)) → IsTable ts v → v.entries ≡ u.entries → ArePosedIn ts u gs → ArePosedIn ts v gs
+posed_same ts u v gs w e h = λ k d l. let p = h k d l in record { table = w; holds = p.holds; knows = record { env = rw e p.knows.env; predicate = rw e p.knows.predicate } }
+
+-- so the goals are goals of store and table afterwards
+pub posed_pushed : {A : Type 0} {a b : List Tree} {t v : Table} (u : Table) (old new : List (GoalSource × Goal)) (items : A → List (GoalSource × Goal)) (r : Result A EvalError) (p : Result (Unit {0}) EvalError) → Goes a b t v → OnOk p (v.entries ≡ u.entries) → ArePosed a t old
+    → IfOk r (λ z. ArePosedIn b u (items z)) → IfOk r (λ z. OnOk p (new ≡ old ++ items z)) → IfErr r (λ e. p ≡ Err e) → OnErr p (new ≡ old) → ArePosed b v new
+posed_pushed {b = b} {v = v} u old new items (Ok z) (Ok y) g e h k add f q = rw add (All-append (λ x. IsPosed b v x.1) old (items z) (posed_later old g h) (posed_same b u v (items z) g.table e k))
+posed_pushed u old new items (Ok z) (Err y) g e h k add f q = rw q (posed_later old g h)
+posed_pushed u old new items (Err z) (Ok y) g e h k add f q = (let no : ◌≡◌ {A = Result (Unit {0}) EvalError} (Ok y) (Err z) = f in cc)
+posed_pushed u old new items (Err z) (Err y) g e h k add f q = rw q (posed_later old g h)
+
+-- where nothing was left of two values that were made equal, nothing is added
+pub leaves_nothing : (a m b : Cx) (e i f : Entries) (x y : NodeId) (gs : List Goal) (added : List (GoalSource × Goal)) → AreMadeEqual (content_of a.nodes e) (content_of m.nodes i) (tree_at a.nodes x) (tree_at a.nodes y) gs → AddsEach m.nodes b.nodes i f kind.Misc source.TypeRelating gs added → LeavesNothing a b e f x y added
+leaves_nothing a m b e i f x y gs added h k =
+    let none : AddsEach m.nodes b.nodes i f kind.Misc source.TypeRelating [] added = subst (λ z. AddsEach m.nodes b.nodes i f kind.Misc source.TypeRelating z added) h.none k in
+    let same : content_of b.nodes f ≡ content_of m.nodes i = ap (λ z. content_of z f) none.0 ∙ ap (content_of m.nodes) none.1 in
+    record { none = none.2; related = rw same h.related; labels = rw same h.labels }
 
 -- an environment stays one of the store and the table
 pub env_later : {a b : Cx} {t u : Table} {env : ParamEnv} → Runs a b t u → IsEnvOf a t env → IsEnvOf b u env
@@ -122,13 +133,6 @@ env_later {a} {b} {t} {u} {env} k e =
       knows = rw (ext.kept env.node held.within) (Knows-kept (content_of a.nodes t.entries) (content_of b.nodes u.entries) (tree_at a.nodes env.node) (let n = g.continues in record { grows = n.grows; kinds = n.kinds }) e.knows);
     }
 
-pub related_posed : {a b : Cx} {t u : Table} {m n : EvalState} {env : ParamEnv} {v : Variance} {x y : NodeId} → Runs a b t u → IsEnvOf a t env → ArePosed a.nodes t m.nested_goals.items → AddsRelated a b t u m n env v x y → ArePosed b.nodes u n.nested_goals.items
-related_posed {a} {b} {t} {u} {m} {n} {env} {v} {x} {y} k e h r =
-    let g = k.goes in
-    let later = env_later k e in
-    let s = r.related in
-    rw r.added (posed_more m.nested_goals.items source.TypeRelating r.goals (posed_later m.nested_goals.items g h) (goals_posed b.nodes u env s.pairs r.goals g.table later.holds later.knows s.goals))
-
 -- the goals that are answered
 pub answered_posed : {A : Type 0} {a b : Cx} {t u : Table} {env : ParamEnv} (declared : ℕ → List Variance) (v : Variance) (x y : Tree) (items : A → List Goal) (r : Result A EvalError) → Runs a b t u → IsEnvOf a t env
     → IfOk r (λ gs. IsRelatedBy declared a.nodes b.nodes t.entries u.entries env v x y (items gs)) → IfOk r (λ gs. All (IsPosed b.nodes u) (items gs))
@@ -136,8 +140,3 @@ answered_posed {A} {a} {b} {t} {u} {env} declared v x y items (Ok z) k e r =
     let later = env_later k e in
     goals_posed b.nodes u env r.pairs (items z) k.goes.table later.holds later.knows r.goals
 answered_posed declared v x y items (Err z) k e r = tt
-
--- .. after an answer, in which the goals are as before where it is an error
-pub posed_where : {a b : Cx} {t u : Table} (m n : EvalState) (env : ParamEnv) (v : Variance) (x y : NodeId) (p : Result (Unit {0}) EvalError) → Runs a b t u → IsEnvOf a t env → ArePosed a.nodes t m.nested_goals.items → OnOk p (AddsRelated a b t u m n env v x y) → OnErr p (n.nested_goals.items ≡ m.nested_goals.items) → ArePosed b.nodes u n.nested_goals.items
-posed_where m n env v x y (Ok z) k e h r q = related_posed k e h r
-posed_where m n env v x y (Err z) k e h r q = rw q (posed_later m.nested_goals.items k.goes h)

@@ -1,6 +1,6 @@
 -- What the calls of a context promise: one record for each family of calls.
 use Rattle.std.specs.Global.{Vec}
-use Rattle.std.specs.Prelude.{◌≡◌, ◌≢◌, List, None, All, Result, Err, IfOk, IfSome, OnOk, OnErr}
+use Rattle.std.specs.Prelude.{◌≡◌, ◌≢◌, List, None, All, Result, Err, IfOk, IfSome, OnOk, OnErr, IsOkUnless}
 use Rattle.nts_model.specs.declared.labels.Variance.{Variance}
 use Rattle.nts_model.specs.declared.labels.Variance.TheVariants as variance
 use Rattle.nts_model.specs.Terms.Trees.{Tree}
@@ -9,6 +9,7 @@ use Rattle.nts_store.specs.declared.nodes.NodeId.{NodeId}
 use Rattle.nts_store.specs.declared.fault.EvalError.{EvalError}
 use Rattle.nts_store.specs.declared.fault.EvalError.TheVariants as error
 use Rattle.nts_store.specs.Errors.{error_of}
+use Rattle.nts_certainty.specs.declared.sources.GoalSource.{GoalSource}
 use Rattle.nts_terms.specs.declared.handles.Goal.{Goal}
 use Rattle.nts_terms.specs.declared.handles.ParamEnv.{ParamEnv}
 use Rattle.nts_terms.specs.Signatures.{variances_in}
@@ -19,7 +20,7 @@ use Rattle.nts_trying.specs.Stepping.{AreLeft, AreSettled}
 use Rattle.nts_contexts.specs.declared.context.EvalCtxt.{EvalCtxt}
 use Rattle.nts_contexts.specs.Contexts.{KeepsContext, EvaluatedNothing, IsGoalOfContext, content_in}
 use Rattle.nts_contexts.specs.Faults.{fault_after}
-use Rattle.nts_contexts.specs.Related.{AddsRelated, AreEquatedIn}
+use Rattle.nts_contexts.specs.Related.{AddsTo, AddsRelated, AreEquatedIn}
 
 -- the goals that were added to a context were asked, in any order and more than once; and one of them is refused after that
 abbrev pub ReachesAdded : {H : Type 0} → Handler → EvalCtxt H → EvalCtxt H → Type 0
@@ -32,6 +33,17 @@ RefusesOneAdded h a = RefusesAmong h a.table.now.mode a.cx.now.nodes (content_in
 pub record EvaluatesAdded {H : Type 0} {X : Type 0} (R : Rules) (a b : EvalCtxt H) (r : Result X EvalError) : Type 0 where
   pub left : AreLeft a.state.now.nested_goals.items b.state.now.nested_goals.items
   pub proved : Always R a.cx.now (λ s. OnOk r (AreSettled (λ z. IsProvedSince R.handler s a.table.now.mode b.cx.now.nodes b.table.now z.1) a.state.now.nested_goals.items b.state.now.nested_goals.items))
+  pub faulted : IfSome a.state.now.fault (λ f. r ≡ Err (error_of f))
+
+-- goals are added to a context, from that source; or memory is wanted, and table and goals are as before
+pub record AddsIn {H : Type 0} (ready : List Tree → H → Type 0) (a b : EvalCtxt H) (s : GoalSource) (gs : List Goal) (r : Result (Unit {0}) EvalError) : Type 0 where
+  pub keeps : KeepsContext ready a b
+  pub adds : OnOk r (AddsTo a.cx.now b.cx.now a.table.now b.table.now s gs a.state.now.nested_goals.items b.state.now.nested_goals.items)
+  pub goals : OnErr r (b.state.now.nested_goals.items ≡ a.state.now.nested_goals.items)
+  pub err : OnErr r (b.table.now ≡ a.table.now)
+  pub memory : a.state.now.fault ≡ None → IsOkUnless r error.Memory
+  pub nothing : EvaluatedNothing a.state.now b.state.now
+  pub fault : b.state.now.fault ≡ fault_after a.state.now.fault r
   pub faulted : IfSome a.state.now.fault (λ f. r ≡ Err (error_of f))
 
 -- two values are related by a variance in a context, and the goals that this leaves are added; or they are refused

@@ -1,6 +1,7 @@
 -- Values that were related in a context.
-use Rattle.std.specs.Prelude.{◌≡◌, ◌++◌, List, map}
+use Rattle.std.specs.Prelude.{◌≡◌, ◌++◌, List, []}
 use Rattle.nts_model.specs.declared.labels.Variance.{Variance}
+use Rattle.nts_model.specs.Terms.Trees.{Tree}
 use Rattle.nts_model.specs.Tables.Equations.{AreRelated}
 use Rattle.nts_model.specs.Tables.Passing.{BringsLabelsOf}
 use Rattle.nts_model.specs.Tables.Resolving.{Knows}
@@ -11,7 +12,11 @@ use Rattle.nts_terms.specs.declared.handles.Goal.{Goal}
 use Rattle.nts_terms.specs.declared.handles.ParamEnv.{ParamEnv}
 use Rattle.nts_terms.specs.Handles.{HoldsEnv}
 use Rattle.nts_terms.specs.Signatures.{variances_in}
+use Rattle.nts_certainty.specs.declared.sources.GoalSource.{GoalSource}
 use Rattle.nts_certainty.specs.declared.sources.GoalSource.TheVariants as source
+use Rattle.nts_search.specs.declared.kinds.CurrentGoalKind.TheVariants as kind
+use Rattle.nts_adding.specs.Adding.{AddsEach}
+use Rattle.nts_unify.specs.Entries.{Entries}
 use Rattle.nts_unify.specs.Reading.{content_of}
 use Rattle.nts_table.specs.Tables.{Table}
 use Rattle.nts_solver_relating.specs.Sides.{IsRelatedBy}
@@ -22,11 +27,31 @@ pub record IsEnvOf (a : Cx) (t : Table) (env : ParamEnv) : Type 0 where
   pub holds : HoldsEnv a.nodes env
   pub knows : Knows (content_of a.nodes t.entries) (tree_at a.nodes env.node)
 
--- two values were related, and the goals that this leaves stand behind those that were there
-pub record AddsRelated (a b : Cx) (t u : Table) (m n : EvalState) (env : ParamEnv) (v : Variance) (x y : NodeId) : Type 0 where
+-- what stands for goals that are added from that source is behind the goals that were there
+pub record AddsTo (a b : Cx) (t u : Table) (s : GoalSource) (gs : List Goal) (old new : List (GoalSource × Goal)) : Type 0 where
+  pub added : List (GoalSource × Goal)
+  pub adds : AddsEach a.nodes b.nodes t.entries u.entries kind.Misc s gs added
+  pub behind : new ≡ old ++ added
+
+-- two values were related, and this stands for the goals that are left
+pub record RelatesAdding (a b : Cx) (e f : Entries) (env : ParamEnv) (v : Variance) (x y : NodeId) (added : List (GoalSource × Goal)) : Type 0 where
   pub goals : List Goal
-  pub related : IsRelatedBy (variances_in a.declarations) a.nodes b.nodes t.entries u.entries env v (tree_at a.nodes x) (tree_at a.nodes y) goals
-  pub added : n.nested_goals.items ≡ m.nested_goals.items ++ map (λ g. (source.TypeRelating, g)) goals
+  pub store : List Tree
+  pub entries : Entries
+  pub related : IsRelatedBy (variances_in a.declarations) a.nodes store e entries env v (tree_at a.nodes x) (tree_at a.nodes y) goals
+  pub adds : AddsEach store b.nodes entries f kind.Misc source.TypeRelating goals added
+
+-- .. behind the goals that were there
+pub record AddsRelated (a b : Cx) (t u : Table) (m n : EvalState) (env : ParamEnv) (v : Variance) (x y : NodeId) : Type 0 where
+  pub added : List (GoalSource × Goal)
+  pub related : RelatesAdding a b t.entries u.entries env v x y added
+  pub behind : n.nested_goals.items ≡ m.nested_goals.items ++ added
+
+-- two values were made equal, and nothing is left to be added
+pub record LeavesNothing (a b : Cx) (e f : Entries) (x y : NodeId) (added : List (GoalSource × Goal)) : Type 0 where
+  pub none : added ≡ []
+  pub related : AreRelated (content_of a.nodes e) (content_of b.nodes f) (tree_at a.nodes x) (tree_at a.nodes y)
+  pub labels : BringsLabelsOf (content_of a.nodes e) (content_of b.nodes f) (tree_at a.nodes x) (tree_at a.nodes y)
 
 -- two values were made equal, and the goals are those that were there
 pub record AreEquatedIn (a b : Cx) (t u : Table) (m n : EvalState) (x y : NodeId) : Type 0 where

@@ -2,6 +2,7 @@
 //! tried out.
 #![tactic(auto, using(crate::proofs::Frames::keeps_then))]
 
+mod adding;
 mod context;
 mod evaluating;
 mod goals;

@@ -1,7 +1,8 @@
 //! What a context keeps beside the table and the store.
-ghost use Rattle.std.specs.Prelude.{◌≡◌, None, Some, Ok, IfOk, IfErr, IfSome, IsSome, OnOk, OnErr, ◌++◌, ◌∷◌, [], map};
+ghost use Rattle.std.specs.Prelude.{◌≡◌, None, Some, Ok, IfOk, IfErr, IfSome, IsSome, OnOk, OnErr, ◌++◌};
 ghost use Rattle.nts_store.specs.Errors.{error_of};
 ghost use Rattle.nts_contexts.specs.Contexts.{IsCopy};
+ghost use Rattle.nts_contexts.specs.Related.{KeepsState};
 ghost use Rattle.nts_contexts.specs.Faults.{fault_of, fault_in, fault_after, tainted_after};
 
 use nts_certainty::GoalSource;
@@ -136,55 +137,14 @@ impl EvalState {
         })
     }
 
-    /// Adds a goal from that source.
-    pub(crate) fn push(&mut self, source: GoalSource, goal: Goal) -> Result<(), AllocError>
+    /// Puts goals behind those that there are, all or none of them.
+    pub(crate) fn append(&mut self, added: Vec<(GoalSource, Goal)>) -> Result<(), AllocError>
         ensures ok { OnOk result
-            (self.new.nested_goals.items ≡ self.old.nested_goals.items ++ (source, goal) ∷ []) }
+            (self.new.nested_goals.items ≡ self.old.nested_goals.items ++ added.items) }
         ensures err { OnErr result (self.new.nested_goals.items ≡ self.old.nested_goals.items) }
-        ensures taint { self.new.is_tainted ≡ self.old.is_tainted }
-        ensures fault { self.new.fault ≡ self.old.fault }
-        ensures steps { self.new.last_steps ≡ self.old.last_steps }
-        ensures depth { self.new.root_depth ≡ self.old.root_depth }
+        ensures kept { KeepsState self.old self.new }
     {
-        self.nested_goals.push((source, goal))?;
-        Ok(())
-    }
-
-    /// Adds goals from that source, all or none of them.
-    pub(crate) fn push_all(
-        &mut self,
-        alloc: Global,
-        source: GoalSource,
-        goals: &[Goal],
-    ) -> Result<(), AllocError>
-        ensures ok { OnOk result (self.new.nested_goals.items ≡ self.old.nested_goals.items ++ map
-            (λ g. (source, g)) goals.now) }
-        ensures err { OnErr result (self.new.nested_goals.items ≡ self.old.nested_goals.items) }
-        ensures empty { goals.now ≡ [] → result ≡ Ok tt }
-        ensures taint { self.new.is_tainted ≡ self.old.is_tainted }
-        ensures fault { self.new.fault ≡ self.old.fault }
-        ensures steps { self.new.last_steps ≡ self.old.last_steps }
-        ensures depth { self.new.root_depth ≡ self.old.root_depth }
-    {
-        if goals.is_empty() {
-            return Ok(());
-        }
-        let mut added = with_source(alloc, source, goals)?;
+        let mut added = added;
         self.nested_goals.append(&mut added)
     }
-}
-
-/// Goals, each with that source.
-fn with_source(
-    alloc: Global,
-    source: GoalSource,
-    goals: &[Goal],
-) -> Result<Vec<(GoalSource, Goal)>, AllocError>
-    ensures { IfOk result (λ v. v.items ≡ map (λ g. (source, g)) goals.now) }
-{
-    let mut added = Vec::with_capacity(alloc, goals.len())?;
-    for goal in goals {
-        added.push((source, *goal))?;
-    }
-    Ok(added)
 }

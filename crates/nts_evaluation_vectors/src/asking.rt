@@ -1,5 +1,5 @@
 //! Goals that are asked, and what is answered.
-ghost use Rattle.std.specs.Prelude.{IfOk, IfSome, IsTrue, All};
+ghost use Rattle.std.specs.Prelude.{IfOk, OnOk, IfSome, IsTrue, All};
 ghost use Rattle.nts_table.specs.Tables.{IsTable};
 ghost use Rattle.nts_terms.specs.Handles.{HoldsArg, HoldsGoal};
 ghost use Rattle.nts_terms.specs.Rest.{Grows};
@@ -14,7 +14,7 @@ use nts_may_hold::{root_goal_may_hold_opaque_types_jank, root_goal_may_hold_with
 use nts_model::Sort;
 use nts_store::EvalError;
 use nts_table::{InferCtxt, eager_resolve_vars};
-use nts_terms::{Cx, GenericArgKind, Goal, Span, TyKind};
+use nts_terms::{Cx, GenericArg, GenericArgKind, Goal, Span, TyKind};
 use std::process::Abort;
 
 /// A goal.
@@ -28,23 +28,28 @@ pub enum Wanted {
     Assumed(Of),
 }
 
+/// What a goal is answered.
+pub enum Answer {
+    /// This certainty, and its variables changed or not. Something is kept of it exactly if it is in doubt, and nothing changed.
+    Is(Certainty, HasChanged),
+    /// It has no solution.
+    Refused,
+    /// Whether it may hold at this depth, and whether it is in no doubt for an opaque type.
+    MayHold(usize, bool, bool),
+    /// It is in doubt, and waits for one variable. What is kept of it is handed in when it is asked again.
+    Stalls,
+    /// It is skipped: what was kept of it is answered once more.
+    Skipped,
+    /// It is not skipped, and has no solution.
+    AskedAgain,
+    /// It may not be asked.
+    NotAdmitted,
+}
+
 /// What is asked, and what is answered.
 pub enum Asked {
-    /// A goal is answered so, and its variables changed or not. Something is kept of it exactly if it is in doubt, and nothing
-    /// changed.
-    Answers(Wanted, Certainty, HasChanged),
-    /// A goal has no solution.
-    Refuses(Wanted),
-    /// Whether a goal may hold at this depth, and whether it is in no doubt for an opaque type.
-    MayHold(Wanted, usize, bool, bool),
-    /// A goal is in doubt, and waits for one variable. What is kept of it is handed in when it is asked again.
-    Stalls(Wanted),
-    /// A goal is skipped: what was kept of it is answered once more.
-    Skips(Wanted),
-    /// A goal is not skipped, and has no solution.
-    AsksAgain(Wanted),
-    /// A goal may not be asked.
-    NotAdmitted(Wanted),
+    /// A goal is answered so.
+    Goal(Wanted, Answer),
     /// Two variables of types come into one sub-unification class.
     Joins(usize, usize),
     /// The first term, with values and roots in place of its variables, is the second one.
@@ -90,43 +95,58 @@ fn ask<H: GoalHandler>(
 ) -> Result<bool, EvalError>
     requires table { IsTable cx.old.nodes table.old }
     requires ready { H.ready cx.old.nodes handler.now }
-    ensures table { IsTable cx.new.nodes table.new }
-    ensures ready { H.ready cx.new.nodes handler.now }
+    ensures table { OnOk result (IsTable cx.new.nodes table.new) }
+    ensures ready { OnOk result (H.ready cx.new.nodes handler.now) }
 {
     match asked {
-        Asked::Answers(wanted, certainty, changed) => {
+        Asked::Goal(wanted, answer) => {
             let goal = goal_of(cx, names, *wanted)?;
-            answers(table, cx, handler, goal, Some((*certainty, *changed)))
+            ask_goal(table, cx, handler, goal, kept, answer)
         }
-        Asked::Refuses(wanted) => {
-            let goal = goal_of(cx, names, *wanted)?;
-            answers(table, cx, handler, goal, None)
-        }
-        Asked::MayHold(wanted, depth, deep, good) => {
-            let goal = goal_of(cx, names, *wanted)?;
-            may_hold(table, cx, handler, goal, *depth, (*deep, *good))
-        }
-        Asked::Stalls(wanted) => {
-            let goal = goal_of(cx, names, *wanted)?;
-            stalls(table, cx, handler, goal, kept)
-        }
-        Asked::Skips(wanted) => {
-            let goal = goal_of(cx, names, *wanted)?;
-            again(table, cx, goal, kept, Some((DOUBT, HasChanged::No)))
-        }
-        Asked::AsksAgain(wanted) => {
-            let goal = goal_of(cx, names, *wanted)?;
-            again(table, cx, goal, kept, None)
-        }
-        Asked::NotAdmitted(wanted) => {
-            let goal = goal_of(cx, names, *wanted)?;
-            Ok(!goal_is_admitted(table, cx, goal)?)
-        }
-        Asked::Joins(a, b) => joins(table, *a, *b),
+        Asked::Joins(a, b) => joins(table, cx, *a, *b),
         Asked::Resolves(x, y) => resolves(table, cx, names, x, y),
         Asked::Constructs(x) => constructs(table, cx, names, x),
         Asked::Variables(count) => Ok(table.variable_count() == *count),
     }
+}
+
+/// Whether a goal is answered so.
+fn ask_goal<H: GoalHandler>(
+    table: &mut InferCtxt,
+    cx: &mut Cx,
+    handler: &H,
+    goal: Goal,
+    kept: &mut Option<GoalStalledOn>,
+    answer: &Answer,
+) -> Result<bool, EvalError>
+    requires table { IsTable cx.old.nodes table.old }
+    requires ready { H.ready cx.old.nodes handler.now }
+    requires holds { HoldsGoal cx.old.nodes goal }
+    ensures table { OnOk result (IsTable cx.new.nodes table.new) }
+    ensures grows { Grows cx.old cx.new }
+{
+    match answer {
+        Answer::Is(certainty, changed) => {
+            answers(table, cx, handler, goal, Some((*certainty, *changed)))
+        }
+        Answer::Refused => answers(table, cx, handler, goal, None),
+        Answer::MayHold(depth, deep, good) => {
+            may_hold(table, cx, handler, goal, *depth, (*deep, *good))
+        }
+        Answer::Stalls => stalls(table, cx, handler, goal, kept),
+        Answer::Skipped => again(table, cx, goal, kept, Some((DOUBT, HasChanged::No))),
+        Answer::AskedAgain => again(table, cx, goal, kept, None),
+        Answer::NotAdmitted => is_not_admitted(table, cx, goal),
+    }
+}
+
+fn is_not_admitted(table: &InferCtxt, cx: &mut Cx, goal: Goal) -> Result<bool, EvalError>
+    requires table { IsTable cx.old.nodes table.now }
+    requires holds { HoldsGoal cx.old.nodes goal }
+    ensures table { OnOk result (IsTable cx.new.nodes table.now) }
+    ensures grows { Grows cx.old cx.new }
+{
+    Ok(!goal_is_admitted(table, cx, goal)?)
 }
 
 fn goal_of(cx: &mut Cx, names: &Names, wanted: Wanted) -> Result<Goal, EvalError>
@@ -162,7 +182,7 @@ fn evaluated<H: GoalHandler>(
     requires table { IsTable cx.old.nodes table.old }
     requires ready { H.ready cx.old.nodes handler.now }
     requires holds { HoldsGoal cx.old.nodes goal }
-    ensures table { IsTable cx.new.nodes table.new }
+    ensures table { OnOk result (IsTable cx.new.nodes table.new) }
     ensures grows { Grows cx.old cx.new }
 {
     if !goal_is_admitted(table, cx, goal)? || !is_of_store(cx, &kept) {
@@ -198,7 +218,7 @@ fn answers<H: GoalHandler>(
     requires table { IsTable cx.old.nodes table.old }
     requires ready { H.ready cx.old.nodes handler.now }
     requires holds { HoldsGoal cx.old.nodes goal }
-    ensures table { IsTable cx.new.nodes table.new }
+    ensures table { OnOk result (IsTable cx.new.nodes table.new) }
     ensures grows { Grows cx.old cx.new }
 {
     let found = evaluated(table, cx, handler, goal, None)?;
@@ -217,7 +237,7 @@ fn stalls<H: GoalHandler>(
     requires table { IsTable cx.old.nodes table.old }
     requires ready { H.ready cx.old.nodes handler.now }
     requires holds { HoldsGoal cx.old.nodes goal }
-    ensures table { IsTable cx.new.nodes table.new }
+    ensures table { OnOk result (IsTable cx.new.nodes table.new) }
     ensures grows { Grows cx.old cx.new }
 {
     let found = evaluated(table, cx, handler, goal, None)?;
@@ -237,7 +257,7 @@ fn again(
 ) -> Result<bool, EvalError>
     requires table { IsTable cx.old.nodes table.old }
     requires holds { HoldsGoal cx.old.nodes goal }
-    ensures table { IsTable cx.new.nodes table.new }
+    ensures table { OnOk result (IsTable cx.new.nodes table.new) }
     ensures grows { Grows cx.old cx.new }
 {
     let handler = Clauses::new(cx.alloc);
@@ -294,7 +314,7 @@ fn may_hold<H: GoalHandler>(
     requires table { IsTable cx.old.nodes table.old }
     requires ready { H.ready cx.old.nodes handler.now }
     requires holds { HoldsGoal cx.old.nodes goal }
-    ensures table { IsTable cx.new.nodes table.new }
+    ensures table { OnOk result (IsTable cx.new.nodes table.new) }
     ensures grows { Grows cx.old cx.new }
 {
     if !goal_is_admitted(table, cx, goal)? {
@@ -308,12 +328,29 @@ fn may_hold<H: GoalHandler>(
     Ok((deep, good) == wanted)
 }
 
-fn joins(table: &mut InferCtxt, a: usize, b: usize) -> Result<bool, EvalError> {
+fn joins(table: &mut InferCtxt, cx: &Cx, a: usize, b: usize) -> Result<bool, EvalError>
+    requires { IsTable cx.now.nodes table.old }
+    ensures { OnOk result (IsTable cx.now.nodes table.new) }
+{
     if a >= table.variable_count() || b >= table.variable_count() {
         return Ok(false);
     }
     table.sub_unify_ty_vids_raw(a, b)?;
     Ok(true)
+}
+
+/// A term with values and roots in place of its variables.
+fn value_of(table: &InferCtxt, cx: &mut Cx, names: &Names, x: &str) -> Result<GenericArg, EvalError>
+    requires { IsTable cx.old.nodes table.now }
+    ensures table { OnOk result (IsTable cx.new.nodes table.now) }
+    ensures holds { IfOk result (HoldsArg cx.new.nodes) }
+    ensures grows { Grows cx.old cx.new }
+{
+    let x = names.term(x)?;
+    if !cx.holds(x) || !table.knows(cx, x)? {
+        return Err(EvalError::NoSolution);
+    }
+    Ok(eager_resolve_vars(table, cx, x)?)
 }
 
 fn resolves(
@@ -324,32 +361,27 @@ fn resolves(
     y: &str,
 ) -> Result<bool, EvalError>
     requires { IsTable cx.old.nodes table.now }
-    ensures table { IsTable cx.new.nodes table.now }
+    ensures table { OnOk result (IsTable cx.new.nodes table.now) }
     ensures grows { Grows cx.old cx.new }
 {
-    let (x, y) = (names.term(x)?, names.term(y)?);
-    if !cx.holds(x) || !table.knows(cx, x)? {
-        return Err(EvalError::NoSolution);
-    }
-    Ok(eager_resolve_vars(table, cx, x)? == y)
+    let value = value_of(table, cx, names, x)?;
+    Ok(value == names.term(y)?)
 }
 
-fn constructs(
-    table: &InferCtxt,
-    cx: &mut Cx,
-    names: &Names,
-    x: &str,
-) -> Result<bool, EvalError>
+fn constructs(table: &InferCtxt, cx: &mut Cx, names: &Names, x: &str) -> Result<bool, EvalError>
     requires { IsTable cx.old.nodes table.now }
-    ensures table { IsTable cx.new.nodes table.now }
+    ensures table { OnOk result (IsTable cx.new.nodes table.now) }
     ensures grows { Grows cx.old cx.new }
 {
-    let x = names.term(x)?;
-    if !cx.holds(x) || !table.knows(cx, x)? {
-        return Err(EvalError::NoSolution);
-    }
-    match eager_resolve_vars(table, cx, x)?.kind(cx) {
-        GenericArgKind::Type(ty) => Ok(matches!(ty.kind(cx), TyKind::Ctor(_, _))),
-        _ => Ok(false),
+    let value = value_of(table, cx, names, x)?;
+    Ok(is_constructed(cx, value))
+}
+
+fn is_constructed(cx: &Cx, t: GenericArg) -> bool
+    requires { HoldsArg cx.now.nodes t }
+{
+    match t.kind(cx) {
+        GenericArgKind::Type(ty) => matches!(ty.kind(cx), TyKind::Ctor(_, _)),
+        _ => false,
     }
 }

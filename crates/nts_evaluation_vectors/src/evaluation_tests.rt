@@ -1,21 +1,20 @@
 //! Goals asked of the library: what is answered, and what the table has afterwards.
-use crate::asking::Asked::{
-    self, Answers, Constructs, MayHold, NotAdmitted, Refuses, Resolves, Variables,
-};
-use crate::asking::Wanted::{Assumed, EachRegion, Plain};
+use crate::asking::Answer::{Is, MayHold, NotAdmitted, Refused};
+use crate::asking::Asked::{self, Constructs, Goal, Resolves, Variables};
 use crate::asking::DOUBT;
+use crate::asking::Wanted::{Assumed, EachRegion, Plain};
 use crate::steps::Given::{Let, Universe};
 use crate::steps::{By, Given, Of, Part, Rule, plays};
-use nts_certainty::{
-    Certainty, HasChanged, MaybeCause, MaybeInfo, OpaqueTypesJank,
-};
+use nts_certainty::{Certainty, HasChanged, MaybeCause, MaybeInfo, OpaqueTypesJank};
 use nts_delegate::{Clauses, GoalHandler};
 use nts_fixtures::{BYTE, Make, Type, WORD};
 use nts_model::{BoundVarIndexKind, Sort, VariableKind};
 use nts_terms::{BoundRegion, RegionKind, TraitId, TypingMode};
 
 const ANY: Make = Make::Type(Type::Position(0));
+
 const VAR: Make = Make::Var(VariableKind::Ty);
+
 const YES: Certainty = Certainty::Yes;
 
 /// Two types.
@@ -28,10 +27,15 @@ const SAME: &[Rule] = &[Rule(ONE, Of(0, &["any", "any"]), None)];
 
 #[test]
 fn two_variables_become_one(rt: HostRuntime) {
-    const GIVEN: &[Given] = &[Given::Trait(TWO), Let("any", ANY), Let("x", VAR), Let("y", VAR)];
+    const GIVEN: &[Given] = &[
+        Given::Trait(TWO),
+        Let("any", ANY),
+        Let("x", VAR),
+        Let("y", VAR),
+    ];
     const ASKED: &[Asked] = &[
-        Answers(Plain(Of(0, &["x", "y"])), YES, HasChanged::Yes),
-        Answers(Plain(Of(0, &["x", "y"])), YES, HasChanged::No),
+        Goal(Plain(Of(0, &["x", "y"])), Is(YES, HasChanged::Yes)),
+        Goal(Plain(Of(0, &["x", "y"])), Is(YES, HasChanged::No)),
     ];
     const PARTS: &[Part] = &[Part(By::Clauses, SAME, ASKED)];
     plays(&rt, rt.alloc(), TypingMode::Coherence, GIVEN, PARTS);
@@ -48,8 +52,8 @@ fn a_placeholder_that_the_variable_cannot_name(rt: HostRuntime) {
         Let("p", Make::Type(Type::Placeholder(1, 0))),
     ];
     const ASKED: &[Asked] = &[
-        MayHold(Plain(Of(0, &["x", "p"])), 128, false, false),
-        Refuses(Plain(Of(0, &["x", "p"]))),
+        Goal(Plain(Of(0, &["x", "p"])), MayHold(128, false, false)),
+        Goal(Plain(Of(0, &["x", "p"])), Refused),
         Variables(1),
     ];
     const PARTS: &[Part] = &[Part(By::Clauses, SAME, ASKED)];
@@ -60,7 +64,10 @@ fn a_placeholder_that_the_variable_cannot_name(rt: HostRuntime) {
 #[test]
 fn what_is_asked_is_of_the_table(rt: HostRuntime) {
     const GIVEN: &[Given] = &[Given::Trait(ONE), Let("any", ANY), Let("x", VAR)];
-    const ASKED: &[Asked] = &[Resolves("x", "x"), NotAdmitted(Plain(Of(0, &["any"])))];
+    const ASKED: &[Asked] = &[
+        Resolves("x", "x"),
+        Goal(Plain(Of(0, &["any"])), NotAdmitted),
+    ];
     const PARTS: &[Part] = &[Part(By::Clauses, &[], ASKED)];
     plays(&rt, rt.alloc(), TypingMode::PostAnalysis, GIVEN, PARTS);
 }
@@ -83,9 +90,9 @@ fn what_holds_of_each_solution_is_left(rt: HostRuntime) {
         Rule(ONE, Of(0, &["over"]), Some(Of(1, &["any"]))),
     ];
     const ASKED: &[Asked] = &[
-        Answers(Plain(Of(0, &["x"])), DOUBT, HasChanged::Yes),
+        Goal(Plain(Of(0, &["x"])), Is(DOUBT, HasChanged::Yes)),
         Constructs("x"),
-        Answers(Plain(Of(0, &["x"])), DOUBT, HasChanged::No),
+        Goal(Plain(Of(0, &["x"])), Is(DOUBT, HasChanged::No)),
     ];
     const PARTS: &[Part] = &[Part(By::Clauses, RULES, ASKED)];
     plays(&rt, rt.alloc(), TypingMode::Coherence, GIVEN, PARTS);
@@ -95,10 +102,10 @@ fn what_holds_of_each_solution_is_left(rt: HostRuntime) {
 #[test]
 fn what_is_assumed_holds(rt: HostRuntime) {
     const GIVEN: &[Given] = &[Given::Trait(ONE), Let("t", Make::Type(Type::Param(0)))];
-    const IGNORED: &[Asked] = &[Refuses(Assumed(Of(0, &["t"])))];
+    const IGNORED: &[Asked] = &[Goal(Assumed(Of(0, &["t"])), Refused)];
     const ASKED: &[Asked] = &[
-        Answers(Assumed(Of(0, &["t"])), YES, HasChanged::No),
-        Refuses(Plain(Of(0, &["t"]))),
+        Goal(Assumed(Of(0, &["t"])), Is(YES, HasChanged::No)),
+        Goal(Plain(Of(0, &["t"])), Refused),
     ];
     const PARTS: &[Part] = &[
         Part(By::Clauses, &[], IGNORED),
@@ -111,8 +118,10 @@ fn what_is_assumed_holds(rt: HostRuntime) {
 /// the equality of the two regions is left to who asked. A region that the caller leaves open may be `'static`.
 #[test]
 fn not_each_region_is_static(rt: HostRuntime) {
-    const BOUND: RegionKind =
-        RegionKind::ReBound(BoundVarIndexKind::Bound(0), BoundRegion { var: 0 });
+    const BOUND: RegionKind = RegionKind::ReBound(
+        BoundVarIndexKind::Bound(0),
+        BoundRegion { var: 0 },
+    );
     const GIVEN: &[Given] = &[
         Given::Trait(&[Sort::Region]),
         Let("static", Make::Region(RegionKind::ReStatic)),
@@ -120,10 +129,10 @@ fn not_each_region_is_static(rt: HostRuntime) {
         Let("open", Make::Var(VariableKind::Region)),
     ];
     const RULES: &[Rule] = &[Rule(&[], Of(0, &["static"]), None)];
-    const PLAIN: &[Asked] = &[MayHold(EachRegion(Of(0, &["bound"])), 128, true, true)];
+    const PLAIN: &[Asked] = &[Goal(EachRegion(Of(0, &["bound"])), MayHold(128, true, true))];
     const CHECKED: &[Asked] = &[
-        MayHold(EachRegion(Of(0, &["bound"])), 128, false, false),
-        MayHold(Plain(Of(0, &["open"])), 128, true, true),
+        Goal(EachRegion(Of(0, &["bound"])), MayHold(128, false, false)),
+        Goal(Plain(Of(0, &["open"])), MayHold(128, true, true)),
     ];
     const PARTS: &[Part] = &[
         Part(By::Clauses, RULES, PLAIN),
@@ -146,11 +155,11 @@ fn what_may_hold(rt: HostRuntime) {
         Rule(&[], Of(0, &["word"]), None),
     ];
     const ASKED: &[Asked] = &[
-        MayHold(Plain(Of(0, &["word"])), 128, true, true),
-        MayHold(Plain(Of(0, &["x"])), 0, true, true),
+        Goal(Plain(Of(0, &["word"])), MayHold(128, true, true)),
+        Goal(Plain(Of(0, &["x"])), MayHold(0, true, true)),
         Variables(1),
     ];
-    const NOTHING: &[Asked] = &[MayHold(Plain(Of(0, &["word"])), 128, false, false)];
+    const NOTHING: &[Asked] = &[Goal(Plain(Of(0, &["word"])), MayHold(128, false, false))];
     const PARTS: &[Part] = &[
         Part(By::Clauses, FACTS, ASKED),
         Part(By::Clauses, &[], NOTHING),
@@ -166,7 +175,7 @@ fn what_may_be_an_error_for_an_opaque_type(rt: HostRuntime) {
         cause: MaybeCause::Ambiguity,
         opaque_types_jank: OpaqueTypesJank::ErrorIfRigidSelfTy,
     };
-    const ASKED: &[Asked] = &[MayHold(Plain(Of(0, &["byte"])), 128, true, false)];
+    const ASKED: &[Asked] = &[Goal(Plain(Of(0, &["byte"])), MayHold(128, true, false))];
     const PARTS: &[Part] = &[Part(By::Marker(Certainty::Maybe(JANK)), &[], ASKED)];
     plays(&rt, rt.alloc(), TypingMode::PostAnalysis, GIVEN, PARTS);
 }
@@ -177,7 +186,7 @@ const BYTES: &[Given] = &[Given::Trait(ONE), Let("byte", BYTE)];
 /// and of a cycle that isn't known.
 #[test]
 fn an_inductive_cycle_may_hold_in_coherence(rt: HostRuntime) {
-    const ASKED: &[Asked] = &[MayHold(Plain(Of(0, &["byte"])), 128, true, true)];
+    const ASKED: &[Asked] = &[Goal(Plain(Of(0, &["byte"])), MayHold(128, true, true))];
     const PARTS: &[Part] = &[Part(By::Circular, &[], ASKED)];
     plays(&rt, rt.alloc(), TypingMode::Coherence, BYTES, PARTS);
 }
@@ -185,7 +194,7 @@ fn an_inductive_cycle_may_hold_in_coherence(rt: HostRuntime) {
 /// Elsewhere it has no solution.
 #[test]
 fn an_inductive_cycle_does_not_hold_elsewhere(rt: HostRuntime) {
-    const ASKED: &[Asked] = &[MayHold(Plain(Of(0, &["byte"])), 128, false, false)];
+    const ASKED: &[Asked] = &[Goal(Plain(Of(0, &["byte"])), MayHold(128, false, false))];
     const PARTS: &[Part] = &[Part(By::Circular, &[], ASKED)];
     plays(&rt, rt.alloc(), TypingMode::PostAnalysis, BYTES, PARTS);
 }

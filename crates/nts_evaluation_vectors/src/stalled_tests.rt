@@ -1,5 +1,6 @@
 //! Goals that stalled, asked again at the root.
-use crate::asking::Asked::{self, Answers, AsksAgain, Joins, Skips, Stalls};
+use crate::asking::Answer::{AskedAgain, Is, Skipped, Stalls};
+use crate::asking::Asked::{self, Goal, Joins};
 use crate::asking::Wanted::Plain;
 use crate::steps::Given::{Let, NoFastPaths};
 use crate::steps::{By, Given, Of, Part, Rule, plays};
@@ -24,12 +25,15 @@ const FACT: Rule = Rule(&[], Of(0, &["byte"]), None);
 const FACTS: &[Rule] = &[FACT, Rule(&[], Of(0, &["word"]), None)];
 
 /// A goal that stalls, and what is kept of it waits for its variable.
-const STALLS: Part = Part(By::Clauses, FACTS, &[Stalls(Plain(Of(0, &["x"])))]);
+const STALLS: Part = Part(By::Clauses, FACTS, &[Goal(Plain(Of(0, &["x"])), Stalls)]);
 
 /// A goal is skipped as often as it is asked: without rules it would be refused, were it asked.
 #[test]
 fn a_goal_is_skipped_while_nothing_changes(rt: HostRuntime) {
-    const AGAIN: &[Asked] = &[Skips(Plain(Of(0, &["x"]))), Skips(Plain(Of(0, &["x"])))];
+    const AGAIN: &[Asked] = &[
+        Goal(Plain(Of(0, &["x"])), Skipped),
+        Goal(Plain(Of(0, &["x"])), Skipped),
+    ];
     const PARTS: &[Part] = &[STALLS, Part(By::Clauses, &[], AGAIN)];
     plays(&rt, rt.alloc(), TypingMode::PostAnalysis, GIVEN, PARTS);
 }
@@ -43,7 +47,7 @@ fn without_short_cuts_it_is_asked(rt: HostRuntime) {
         Let("word", WORD),
         Let("x", VAR),
     ];
-    const AGAIN: &[Asked] = &[AsksAgain(Plain(Of(0, &["x"])))];
+    const AGAIN: &[Asked] = &[Goal(Plain(Of(0, &["x"])), AskedAgain)];
     const PARTS: &[Part] = &[STALLS, Part(By::Clauses, &[], AGAIN)];
     plays(&rt, rt.alloc(), TypingMode::PostAnalysis, SLOWLY, PARTS);
 }
@@ -64,8 +68,8 @@ fn once_its_variable_has_a_value_it_is_asked(rt: HostRuntime) {
         Rule(&[], Of(1, &["byte"]), None),
     ];
     const ASKED: &[Asked] = &[
-        Answers(Plain(Of(1, &["x"])), Certainty::Yes, HasChanged::Yes),
-        AsksAgain(Plain(Of(0, &["x"]))),
+        Goal(Plain(Of(1, &["x"])), Is(Certainty::Yes, HasChanged::Yes)),
+        Goal(Plain(Of(0, &["x"])), AskedAgain),
     ];
     const PARTS: &[Part] = &[STALLS, Part(By::Clauses, RULES, ASKED)];
     plays(&rt, rt.alloc(), TypingMode::PostAnalysis, OTHER, PARTS);
@@ -73,14 +77,14 @@ fn once_its_variable_has_a_value_it_is_asked(rt: HostRuntime) {
 
 #[test]
 fn once_its_sub_root_was_joined_it_is_asked(rt: HostRuntime) {
-    const AGAIN: &[Asked] = &[Joins(0, 1), AsksAgain(Plain(Of(0, &["x"])))];
+    const AGAIN: &[Asked] = &[Joins(0, 1), Goal(Plain(Of(0, &["x"])), AskedAgain)];
     const PARTS: &[Part] = &[STALLS, Part(By::Clauses, &[], AGAIN)];
     plays(&rt, rt.alloc(), TypingMode::PostAnalysis, GIVEN, PARTS);
 }
 
 #[test]
 fn of_a_yes_nothing_is_kept(rt: HostRuntime) {
-    const ASKED: &[Asked] = &[Answers(Plain(Of(0, &["byte"])), Certainty::Yes, HasChanged::No)];
+    const ASKED: &[Asked] = &[Goal(Plain(Of(0, &["byte"])), Is(Certainty::Yes, HasChanged::No))];
     const PARTS: &[Part] = &[Part(By::Clauses, FACTS, ASKED)];
     plays(&rt, rt.alloc(), TypingMode::PostAnalysis, GIVEN, PARTS);
 }

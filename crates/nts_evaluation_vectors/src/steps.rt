@@ -55,24 +55,33 @@ pub enum By {
 }
 
 /// A part of a test: a handler, its rules, and what is asked.
-pub struct Part(
-    pub By,
-    pub &'static [Rule],
-    pub &'static [Asked],
-);
+pub struct Part(pub By, pub &'static [Rule], pub &'static [Asked]);
 
 /// Plays the parts one after the other, in a new table.
 pub fn plays(rt: &impl Abort, alloc: Global, mode: TypingMode, given: &[Given], parts: &[Part]) {
     let mut fixture = Fixture::new(alloc).expect(rt, "memory");
     fixture.table = InferCtxt::new(alloc, mode);
     let mut names = Names::new(alloc);
+    give_all(rt, &mut fixture, &mut names, given);
+    play_all(rt, &mut fixture, &names, parts);
+}
+
+fn give_all(rt: &impl Abort, fixture: &mut Fixture, names: &mut Names, given: &[Given])
+    requires { IsTable fixture.old.cx.nodes fixture.old.table }
+    ensures { IsTable fixture.new.cx.nodes fixture.new.table }
+{
     for n in 0..given.len() {
-        let set = give(&mut fixture, &mut names, &given[n]);
+        let set = give(fixture, names, &given[n]);
         assert!(rt; set.is_ok(), "what is given, {n}");
     }
+}
+
+fn play_all(rt: &impl Abort, fixture: &mut Fixture, names: &Names, parts: &[Part])
+    requires { IsTable fixture.old.cx.nodes fixture.old.table }
+{
     let mut kept = None;
     for n in 0..parts.len() {
-        play(rt, &mut fixture, &names, &mut kept, &parts[n]);
+        play(rt, fixture, names, &mut kept, &parts[n]);
     }
 }
 
@@ -107,10 +116,7 @@ fn play(
     let Part(by, rules, asked) = part;
     let (cx, table) = (&mut fixture.cx, &mut fixture.table);
     let mut clauses = Clauses::new(cx.alloc);
-    for n in 0..rules.len() {
-        let told = tell(cx, names, &mut clauses, &rules[n]);
-        assert!(rt; told.is_ok(), "rule {n}");
-    }
+    tell_all(rt, cx, names, &mut clauses, rules);
     let id = TraitId { number: 0 };
     match by {
         By::Clauses => ask_all(rt, table, cx, names, kept, &clauses, asked),
@@ -134,12 +140,19 @@ fn play(
 }
 
 #[tactic(auto, using(nts_asking::proofs::Asking::asking))]
-fn tell(
-    cx: &mut Cx,
-    names: &Names,
-    clauses: &mut Clauses,
-    rule: &Rule,
-) -> Result<(), EvalError>
+fn tell_all(rt: &impl Abort, cx: &mut Cx, names: &Names, clauses: &mut Clauses, rules: &[Rule])
+    requires { AreClausesReady cx.old.nodes clauses.old }
+    ensures ready { AreClausesReady cx.new.nodes clauses.new }
+    ensures grows { Grows cx.old cx.new }
+{
+    for n in 0..rules.len() {
+        let told = tell(cx, names, clauses, &rules[n]);
+        assert!(rt; told.is_ok(), "rule {n}");
+    }
+}
+
+#[tactic(auto, using(nts_asking::proofs::Asking::asking))]
+fn tell(cx: &mut Cx, names: &Names, clauses: &mut Clauses, rule: &Rule) -> Result<(), EvalError>
     requires { AreClausesReady cx.old.nodes clauses.old }
     ensures ready { AreClausesReady cx.new.nodes clauses.new }
     ensures grows { Grows cx.old cx.new }

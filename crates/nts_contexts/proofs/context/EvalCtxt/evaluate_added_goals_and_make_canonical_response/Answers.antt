@@ -1,4 +1,4 @@
-use Rattle.std.proofs.Common.{◌≡◌, ◌⊎◌, ⊎_elim, inl, inr, true, Bool, List, [], refl, sym, rules, ap, ◌∙◌, subst}
+use Rattle.std.proofs.Common.{◌≡◌, inr, true, Bool, [], refl, sym, rules, ap, ◌∙◌, subst}
 use Rattle.std.specs.Prelude.{Result, Ok, Err, IfOk, OnOk}
 use Rattle.std.proofs.lemmas.Result.{IfOk-from_err}
 use Rattle.nts_store.specs.declared.fault.EvalError.{EvalError}
@@ -6,7 +6,6 @@ use Rattle.nts_store.specs.declared.fault.EvalError.TheVariants as error
 use Rattle.nts_store.proofs.Growing.{Extends-trans}
 use Rattle.nts_unify.specs.Reading.{content_of}
 use Rattle.nts_unify.specs.Lawful.{content_of-extended}
-use Rattle.nts_candidates.proofs.Results.{IfOk-map}
 use Rattle.nts_meaning.proofs.Evaluating.{Goes-extends, Runs-extends}
 use Rattle.nts_trying.proofs.Stepping.{settled_after, left_refl, posed_later}
 use Rattle.nts_contexts.proofs.Frames.{keeps_refl, keeps_then, keeps_ended, none_after}

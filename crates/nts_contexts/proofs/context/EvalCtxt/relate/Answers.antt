@@ -1,6 +1,5 @@
 use Rattle.std.proofs.Common.{refl, rules}
 use Rattle.nts_contexts.proofs.Frames.{keeps_refl, keeps_grown}
-use Rattle.nts_contexts.proofs.Relates.{posed_where}
 use Rattle.nts_contexts.proofs.context.EvalCtxt.relate.Goals as goal
 
 pub returns-in_err-check : goal.returns-in_err-check
@@ -26,7 +25,7 @@ returns g c =
     let h = c.requires.ready in
     let k = r.kept in
     record {
-      keeps = keeps_grown c.relate_and_push-related.new.state _ g.met.H.GoalHandler.ready_kept h refl refl refl refl r.runs c.note.ensures.fault (posed_where c.args.self.now.state.now c.relate_and_push-related.new.state c.args.env c.args.variance _ _ c.relate_and_push-related.result r.runs c.requires.env h.goals r.related r.goals) c.in_ok-check.ensures.ok k.taint k.depth;
+      keeps = keeps_grown c.relate_and_push-related.new.state _ g.met.H.GoalHandler.ready_kept h refl refl refl refl r.runs c.note.ensures.fault r.posed c.in_ok-check.ensures.ok k.taint k.depth;
       heads = rw c.note.ensures.same r.heads;
       related = search rules;
       equal = λ p. search rules;
