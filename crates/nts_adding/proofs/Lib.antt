@@ -2,3 +2,4 @@ pub mod Loose
 pub mod Walked
 pub mod Known
 pub mod Added
+mod AddingExamples

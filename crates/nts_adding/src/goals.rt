@@ -35,8 +35,7 @@ fn keeps_aliases(cx: &Cx, predicate: Predicate) -> bool
 /// variable escapes, and before it, for each of these aliases, in order, the goal that it is equal to its variable. Goals that say of
 /// a term that it is well formed, that relate or normalize an alias, or that ask for an unstable feature, stand as they are.
 ///
-/// Where these goals hold under a later table, so does the goal that they stand for. It is `Memory` where a growth was refused; then
-/// variables may be left in the table, and nothing else.
+/// It is `Memory` where a growth was refused; then variables may be left in the table, and nothing else.
 pub fn replace_aliases(
     table: &mut InferCtxt,
     cx: &mut Cx,

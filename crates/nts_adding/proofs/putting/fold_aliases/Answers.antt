@@ -18,6 +18,6 @@ returns-clause-puts c =
     let f = c.fold_with-folded.ensures in
     let begun : Standing = record { entries = c.args.table.now.entries; puts = [] } in
     let w : Walk Puts StaysHere StaysHere StaysMade begun (tree_at c.args.cx.now.nodes c.args.predicate.node) (tree_at c.fold_with-folded.new.cx.nodes c.in_ok-folded.field-0.node) (standing_of c.fold_with-folded.new.cx.nodes c.fold_with-folded.new.folder) =
-      rw (c.swap.ensures.y_after, c.new-folder.ensures) at c.in_ok-folded.ensures.walk in
+    rw (c.swap.ensures.y_after, c.new-folder.ensures) at c.in_ok-folded.ensures.walk in
     rw c.swap-2.ensures.x_after (puts_variables c.args.cx.now.nodes c.fold_with-folded.new.cx.nodes c.args.table.now c.fold_with-folded.new.folder.table c.args.predicate.node c.in_ok-folded.field-0.node c.fold_with-folded.new.folder.puts.items
     c.requires.table f.grows.extends f.ready.table (f.keeps.saved ∙ ap (λ (z : Table). z.saved) c.swap.ensures.y_after) (f.keeps.mode ∙ ap (λ (z : Table). z.mode) c.swap.ensures.y_after) c.requires.knows f.ready.within (walked w))
