@@ -6,6 +6,7 @@ use crate::nodes::{Node, NodeId};
 use nts_model::Label;
 use std::alloc::{AllocError, Global};
 use std::collections::HashMap;
+use std::mem;
 
 /// The label and the children of a node, by which it is found.
 #[derive(PartialEq, Eq, Hash, Drop)]
@@ -67,6 +68,20 @@ pub(crate) fn copied(alloc: Global, children: &[NodeId]) -> Result<Vec<NodeId>, 
     ensures { IfOk result (λ v. v.items ≡ children.now) }
 {
     let mut list = Vec::with_capacity(alloc, children.len())?;
+    list.extend_from_slice(children)?;
+    Ok(list)
+}
+
+/// The same in the spare list, which is taken away.
+pub(crate) fn listed(
+    alloc: Global,
+    spare: &mut Vec<NodeId>,
+    children: &[NodeId],
+) -> Result<Vec<NodeId>, AllocError>
+    ensures { IfOk result (λ v. v.items ≡ children.now) }
+{
+    let mut list = mem::replace(spare, Vec::new(alloc));
+    list.clear();
     list.extend_from_slice(children)?;
     Ok(list)
 }

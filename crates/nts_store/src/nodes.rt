@@ -7,7 +7,7 @@ ghost use Rattle.nts_store.specs.Formed.{AreFormed};
 ghost use Rattle.nts_store.specs.TypeFlags.{flags_of};
 ghost use Rattle.nts_store.specs.Sorts.{ChildrenFit};
 
-use crate::index::{Index, Shape, copied};
+use crate::index::{Index, Shape, copied, listed};
 use crate::levels_walk::all_listed;
 use crate::type_flags::{TypeFlags, binders_of};
 use nts_model::Label;
@@ -34,6 +34,8 @@ pub(crate) struct Node {
 pub struct Nodes {
     alloc: Global,
     index: Index,
+    /// A list for the children of a term that is looked up, which is used again where the term is there.
+    spare: Vec<NodeId>,
 }
 
 impl Model for Nodes {
@@ -64,6 +66,7 @@ impl Nodes {
         Nodes {
             alloc,
             index: Index::new(alloc),
+            spare: Vec::new(alloc),
         }
     }
 
@@ -96,9 +99,11 @@ impl Nodes {
     {
         let shape = Shape {
             label,
-            children: copied(self.alloc, children)?,
+            children: listed(self.alloc, &mut self.spare, children)?,
         };
         if let Some(number) = self.index.find(&shape) {
+            let Shape { children, .. } = shape;
+            self.spare = children;
             return Ok(NodeId { number });
         }
         let node = Node {
