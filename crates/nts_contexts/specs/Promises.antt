@@ -36,8 +36,7 @@ pub record EvaluatesAdded {H : Type 0} {X : Type 0} (R : Rules) (a b : EvalCtxt 
   pub faulted : IfSome a.state.now.fault (λ f. r ≡ Err (error_of f))
 
 -- goals are added to a context, from that source; or memory is wanted, and table and goals are as before
-pub record AddsIn {H : Type 0} (ready : List Tree → H → Type 0) (a b : EvalCtxt H) (s : GoalSource) (gs : List Goal) (r : Result (Unit {0}) EvalError) : Type 0 where
-  pub keeps : KeepsContext ready a b
+pub record AddsIn {H : Type 0} (a b : EvalCtxt H) (s : GoalSource) (gs : List Goal) (r : Result (Unit {0}) EvalError) : Type 0 where
   pub adds : OnOk r (AddsTo a.cx.now b.cx.now a.table.now b.table.now s gs a.state.now.nested_goals.items b.state.now.nested_goals.items)
   pub goals : OnErr r (b.state.now.nested_goals.items ≡ a.state.now.nested_goals.items)
   pub err : OnErr r (b.table.now ≡ a.table.now)

@@ -1,7 +1,7 @@
 //! Goals that are added to a context.
 ghost use Rattle.std.specs.Prelude.{◌≡◌, ◌∷◌, [], All, Ok, None, Err, IfSome, OnOk, OnErr, IsOkUnless};
 ghost use Rattle.nts_store.specs.Errors.{error_of};
-ghost use Rattle.nts_contexts.specs.Contexts.{IsContextReady, IsGoalOfContext};
+ghost use Rattle.nts_contexts.specs.Contexts.{IsContextReady, KeepsContext, IsGoalOfContext};
 ghost use Rattle.nts_contexts.specs.Promises.{AddsIn};
 
 use crate::adding::add_all;
@@ -19,7 +19,8 @@ impl<H: GoalHandler> EvalCtxt<'_, H> {
     pub fn add_goal(&mut self, source: GoalSource, goal: Goal) -> Result<(), EvalError>
         requires ready { IsContextReady H.ready self.old }
         requires goal { IsGoalOfContext self.old goal }
-        ensures { AddsIn H.ready self.old self.new source (goal ∷ []) result }
+        ensures keeps { KeepsContext H.ready self.old self.new }
+        ensures adds { AddsIn self.old self.new source (goal ∷ []) result }
     {
         self.state.check()?;
         let added = add_all(self.table, self.cx, self.state, source, &[goal]);
@@ -30,7 +31,8 @@ impl<H: GoalHandler> EvalCtxt<'_, H> {
     pub fn add_goals(&mut self, source: GoalSource, goals: &[Goal]) -> Result<(), EvalError>
         requires ready { IsContextReady H.ready self.old }
         requires goals { All (IsGoalOfContext self.old) goals.now }
-        ensures adds { AddsIn H.ready self.old self.new source goals.now result }
+        ensures keeps { KeepsContext H.ready self.old self.new }
+        ensures adds { AddsIn self.old self.new source goals.now result }
         ensures empty { goals.now ≡ [] → self.old.state.now.fault ≡ None → result ≡ Ok tt }
     {
         self.state.check()?;

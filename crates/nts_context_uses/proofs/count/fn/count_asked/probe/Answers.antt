@@ -15,7 +15,7 @@ add_goals-requires c =
     }
 
 pub returns-in_err-try_evaluate_added_goals : goal.returns-in_err-try_evaluate_added_goals
-returns-in_err-try_evaluate_added_goals c = record { keeps = keeps_then (keeps_then c.sub.ensures.keeps c.add_goals.ensures.adds.keeps) c.try_evaluate_added_goals.ensures.keeps }
+returns-in_err-try_evaluate_added_goals c = record { keeps = keeps_then (keeps_then c.sub.ensures.keeps c.add_goals.ensures.keeps) c.try_evaluate_added_goals.ensures.keeps }
 
 pub returns : goal.returns
-returns c = record { keeps = keeps_then (keeps_then c.sub.ensures.keeps c.add_goals.ensures.adds.keeps) c.try_evaluate_added_goals.ensures.keeps }
+returns c = record { keeps = keeps_then (keeps_then c.sub.ensures.keeps c.add_goals.ensures.keeps) c.try_evaluate_added_goals.ensures.keeps }
