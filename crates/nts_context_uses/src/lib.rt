@@ -6,6 +6,10 @@ mod count;
 #[cfg(test)]
 mod errors;
 #[cfg(test)]
+mod free;
+#[cfg(test)]
+mod free_tests;
+#[cfg(test)]
 mod related;
 #[cfg(test)]
 mod rule;

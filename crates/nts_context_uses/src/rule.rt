@@ -16,8 +16,30 @@ use next_trait_solver::ty::{
 };
 use std::alloc::Global;
 
-/// Makes two types one in the table, and answers how sure a rule about them is: its goal is added and evaluated in a probe, since
-/// a root context is left without goals. Where the types cannot be made one, or the goal has no solution, the table is as before.
+/// How sure a goal is, which is found out in a probe, since a root context is left without goals.
+#[tactic(auto, using(nts_contexts::proofs::Handed::handed, nts_contexts::proofs::Frames::keeps_then))]
+fn certainty_of(ecx: &mut EvalCtxt<'_, Clauses>, goal: Goal) -> Result<Certainty, EvalError>
+    requires ready { IsContextReady AreClausesReady ecx.old }
+    requires goal { IsGoalOfContext ecx.old goal }
+    ensures keeps { KeepsContext AreClausesReady ecx.old ecx.new }
+    ensures goals { ecx.new.state.now.nested_goals.items ≡ ecx.old.state.now.nested_goals.items }
+{
+    ecx.probe(
+        |probe: &mut EvalCtxt<'_, Clauses>| -> Result<Certainty, EvalError>
+            requires ready { IsContextReady AreClausesReady probe.old }
+            requires goal { IsGoalOfContext probe.old goal }
+            ensures keeps { KeepsContext AreClausesReady probe.old probe.new }
+        {
+            probe.add_goal(GoalSource::Misc, goal)?;
+            let certainty = probe.try_evaluate_added_goals()?;
+            let response = probe.evaluate_added_goals_and_make_canonical_response(certainty)?;
+            Ok(response.value.certainty)
+        },
+    )
+}
+
+/// Makes two types one in the table, and answers how sure a rule about them is, which asks for a goal. Where the types cannot be made
+/// one, or the goal has no solution, the table is as before.
 #[tactic(auto, using(nts_contexts::proofs::Handed::handed, nts_contexts::proofs::Frames::keeps_then))]
 pub fn use_rule(
     table: &mut InferCtxt,
@@ -53,20 +75,7 @@ pub fn use_rule(
                 (ecx.new.state.now.nested_goals.items ≡ ecx.old.state.now.nested_goals.items) }
         {
             ecx.eq(goal.param_env, lhs, rhs)?;
-            ecx.probe(
-                |probe: &mut EvalCtxt<'_, Clauses>| -> Result<Certainty, EvalError>
-                    requires ready { IsContextReady AreClausesReady probe.old }
-                    requires goal { IsGoalOfContext probe.old goal }
-                    ensures keeps { KeepsContext AreClausesReady probe.old probe.new }
-                {
-                    probe.add_goal(GoalSource::Misc, goal)?;
-                    let certainty = probe.try_evaluate_added_goals()?;
-                    let response = probe.evaluate_added_goals_and_make_canonical_response(
-                        certainty,
-                    )?;
-                    Ok(response.value.certainty)
-                },
-            )
+            certainty_of(ecx, goal)
         },
     )
 }

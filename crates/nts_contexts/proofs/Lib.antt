@@ -4,3 +4,5 @@ pub mod Ended
 pub mod Handed
 pub mod Relates
 mod AnsweredExamples
+pub mod Spared
+mod UnconstrainedExamples

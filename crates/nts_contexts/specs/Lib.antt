@@ -2,3 +2,4 @@ pub mod Faults
 pub mod Contexts
 pub mod Related
 pub mod Promises
+pub mod Unconstrained

@@ -9,6 +9,7 @@ mod goals;
 mod modes;
 mod relating;
 mod state;
+mod unconstrained;
 
 pub use context::EvalCtxt;
 pub use state::EvalState;

@@ -14,6 +14,9 @@ add_goals-requires c =
           (All-cons (IsGoalOfContext c.sub.new.self) c.captures.second [] (goal_later e.keeps c.requires.second) (All-nil (IsGoalOfContext c.sub.new.self)));
     }
 
+pub returns-in_err-add_goals : goal.returns-in_err-add_goals
+returns-in_err-add_goals c = record { keeps = keeps_then c.sub.ensures.keeps c.add_goals.ensures.keeps }
+
 pub returns-in_err-try_evaluate_added_goals : goal.returns-in_err-try_evaluate_added_goals
 returns-in_err-try_evaluate_added_goals c = record { keeps = keeps_then (keeps_then c.sub.ensures.keeps c.add_goals.ensures.keeps) c.try_evaluate_added_goals.ensures.keeps }
 
