@@ -17,6 +17,7 @@ use std::alloc::Global;
 use std::process::Abort;
 
 /// A goal that normalizes the alias of a type.
+#[derive(Drop)]
 pub struct Asked {
     /// Terms that are made in the root universe.
     pub given: &'static [(Name, Make)],
@@ -76,6 +77,7 @@ fn name_all(
 }
 
 /// The environment that says of this type that a trait holds for it.
+#[tactic(auto, using(crate::proofs::Asked::asked))]
 fn environment(
     fixture: &mut Fixture,
     names: &Names,
@@ -94,6 +96,7 @@ fn environment(
     }
     let of = TraitRef { def_id, args };
     let held = fixture.statement(PredicateKind::Clause(ClauseKind::Trait(of)))?;
+    fixture.seen(held)?;
     Ok(fixture.cx.mk_env(&[held])?)
 }
 

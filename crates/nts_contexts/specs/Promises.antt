@@ -1,6 +1,6 @@
 -- What the calls of a context promise: one record for each family of calls.
 use Rattle.std.specs.Global.{Vec}
-use Rattle.std.specs.Prelude.{◌≡◌, ◌≢◌, List, None, All, Result, Err, IfOk, IfSome, OnOk, OnErr, IsOkUnless}
+use Rattle.std.specs.Prelude.{◌≡◌, ◌≢◌, List, None, All, Result, Err, IfOk, IfSome, OnOk, OnErr}
 use Rattle.nts_model.specs.declared.labels.Variance.{Variance}
 use Rattle.nts_model.specs.declared.labels.Variance.TheVariants as variance
 use Rattle.nts_model.specs.Terms.Trees.{Tree}
@@ -35,15 +35,9 @@ pub record EvaluatesAdded {H : Type 0} {X : Type 0} (R : Rules) (a b : EvalCtxt 
   pub proved : Always R a.cx.now (λ s. OnOk r (AreSettled (λ z. IsProvedSince R.handler s a.table.now.mode b.cx.now.nodes b.table.now z.1) a.state.now.nested_goals.items b.state.now.nested_goals.items))
   pub faulted : IfSome a.state.now.fault (λ f. r ≡ Err (error_of f))
 
--- goals are added to a context, from that source; or memory is wanted, and table and goals are as before
-pub record AddsIn {H : Type 0} (a b : EvalCtxt H) (s : GoalSource) (gs : List Goal) (r : Result (Unit {0}) EvalError) : Type 0 where
-  pub adds : OnOk r (AddsTo a.cx.now b.cx.now a.table.now b.table.now s gs a.state.now.nested_goals.items b.state.now.nested_goals.items)
-  pub goals : OnErr r (b.state.now.nested_goals.items ≡ a.state.now.nested_goals.items)
-  pub err : OnErr r (b.table.now ≡ a.table.now)
-  pub memory : a.state.now.fault ≡ None → IsOkUnless r error.Memory
-  pub nothing : EvaluatedNothing a.state.now b.state.now
-  pub fault : b.state.now.fault ≡ fault_after a.state.now.fault r
-  pub faulted : IfSome a.state.now.fault (λ f. r ≡ Err (error_of f))
+-- what stands for goals from that source is added to those of a context
+abbrev pub AddsGoals : {H : Type 0} → EvalCtxt H → EvalCtxt H → GoalSource → List Goal → Type 0
+AddsGoals a b s gs = AddsTo a.cx.now b.cx.now a.table.now b.table.now s gs a.state.now.nested_goals.items b.state.now.nested_goals.items
 
 -- two values are related by a variance in a context, and the goals that this leaves are added; or they are refused
 pub record RelatesIn {H : Type 0} (ready : List Tree → H → Type 0) (OfOneHead : Type 0) (a b : EvalCtxt H) (env : ParamEnv) (v : Variance) (x y : NodeId) (r : Result (Unit {0}) EvalError) : Type 0 where

@@ -1,8 +1,9 @@
 //! Goals that are added to a context.
 ghost use Rattle.std.specs.Prelude.{◌≡◌, ◌∷◌, [], All, Ok, None, Err, IfSome, OnOk, OnErr, IsOkUnless};
 ghost use Rattle.nts_store.specs.Errors.{error_of};
-ghost use Rattle.nts_contexts.specs.Contexts.{IsContextReady, KeepsContext, IsGoalOfContext};
-ghost use Rattle.nts_contexts.specs.Promises.{AddsIn};
+ghost use Rattle.nts_contexts.specs.Faults.{fault_after};
+ghost use Rattle.nts_contexts.specs.Contexts.{IsContextReady, KeepsContext, EvaluatedNothing, IsGoalOfContext};
+ghost use Rattle.nts_contexts.specs.Promises.{AddsGoals};
 
 use crate::adding::add_all;
 use crate::context::EvalCtxt;
@@ -20,7 +21,14 @@ impl<H: GoalHandler> EvalCtxt<'_, H> {
         requires ready { IsContextReady H.ready self.old }
         requires goal { IsGoalOfContext self.old goal }
         ensures keeps { KeepsContext H.ready self.old self.new }
-        ensures adds { AddsIn self.old self.new source (goal ∷ []) result }
+        ensures adds { OnOk result (AddsGoals self.old self.new source (goal ∷ [])) }
+        ensures goals { OnErr result (self.new.state.now.nested_goals.items ≡
+            self.old.state.now.nested_goals.items) }
+        ensures err { OnErr result (self.new.table.now ≡ self.old.table.now) }
+        ensures memory { self.old.state.now.fault ≡ None → IsOkUnless result EvalError.Memory }
+        ensures nothing { EvaluatedNothing self.old.state.now self.new.state.now }
+        ensures fault { self.new.state.now.fault ≡ fault_after self.old.state.now.fault result }
+        ensures faulted { IfSome self.old.state.now.fault (λ f. result ≡ Err (error_of f)) }
     {
         self.state.check()?;
         let added = add_all(self.table, self.cx, self.state, source, &[goal]);
@@ -32,7 +40,14 @@ impl<H: GoalHandler> EvalCtxt<'_, H> {
         requires ready { IsContextReady H.ready self.old }
         requires goals { All (IsGoalOfContext self.old) goals.now }
         ensures keeps { KeepsContext H.ready self.old self.new }
-        ensures adds { AddsIn self.old self.new source goals.now result }
+        ensures adds { OnOk result (AddsGoals self.old self.new source goals.now) }
+        ensures goals { OnErr result (self.new.state.now.nested_goals.items ≡
+            self.old.state.now.nested_goals.items) }
+        ensures err { OnErr result (self.new.table.now ≡ self.old.table.now) }
+        ensures memory { self.old.state.now.fault ≡ None → IsOkUnless result EvalError.Memory }
+        ensures nothing { EvaluatedNothing self.old.state.now self.new.state.now }
+        ensures fault { self.new.state.now.fault ≡ fault_after self.old.state.now.fault result }
+        ensures faulted { IfSome self.old.state.now.fault (λ f. result ≡ Err (error_of f)) }
         ensures empty { goals.now ≡ [] → self.old.state.now.fault ≡ None → result ≡ Ok tt }
     {
         self.state.check()?;

@@ -1,4 +1,4 @@
-use Rattle.std.proofs.Common.{refl, rules, sym, ◌∙◌, []}
+use Rattle.std.proofs.Common.{refl, sym, ◌∙◌, []}
 use Rattle.std.proofs.lemmas.List.{append-nil}
 use Rattle.nts_contexts.proofs.Frames.{keeps_refl, keeps_grown}
 use Rattle.nts_contexts.proofs.Relates.{adds_none, no_goals}
@@ -14,13 +14,9 @@ pub returns-then-is_empty-clause-adds : goal.returns-then-is_empty-clause-adds
 returns-then-is_empty-clause-adds g c =
     let none = no_goals c.args.goals.now (sym c.is_empty.ensures ∙ c.if-is_empty.true) in
     record {
-      adds = record { added = []; adds = adds_none c.args.self.now.cx.now.nodes c.args.self.now.table.now.entries c.args.source c.args.goals.now none; behind = sym (append-nil _) };
-      goals = search rules;
-      err = search rules;
-      memory = search rules;
-      nothing = search rules;
-      fault = search rules;
-      faulted = search rules;
+      added = [];
+      adds = adds_none c.args.self.now.cx.now.nodes c.args.self.now.table.now.entries c.args.source c.args.goals.now none;
+      behind = sym (append-nil _);
     }
 
 pub returns-clause-keeps : goal.returns-clause-keeps
