@@ -15,6 +15,8 @@ pub mod Theories
 pub mod Offering
 pub mod Opening
 pub mod Readying
+pub mod Outliving
+pub mod Recording
 pub mod ReachedGoals
 pub mod Queried
 pub mod Begun

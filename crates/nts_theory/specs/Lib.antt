@@ -1,3 +1,4 @@
 pub mod Erased
+pub mod Outliving
 pub mod Refutation
 pub mod Telling

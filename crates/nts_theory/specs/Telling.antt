@@ -15,7 +15,7 @@ use Rattle.nts_model.specs.Tables.Levels.{AreCurrent}
 use Rattle.nts_model.specs.Tables.Passing.{BringsOnly}
 use Rattle.nts_model.specs.Tables.SubUnifying.{SharesSubRoot}
 use Rattle.nts_model.specs.Tables.Recording.{resolved_constraints, AreNews}
-use Rattle.nts_model.specs.Derivations.Related.{pair}
+use Rattle.nts_model.specs.Derivations.Related.{Constraint, pair}
 use Rattle.nts_model.specs.Lists.{Among}
 use Rattle.nts_model.specs.Derivations.Sequents.{Source, type_relating, normalize_goal, inductive, Premise}
 use Rattle.nts_model.specs.Derivations.Rules.{Mode, coherence, statement_of}
@@ -23,12 +23,13 @@ use Rattle.nts_model.specs.Terms.Substitutions.{leaf_tree, filled}
 use Rattle.nts_model.specs.Canonical.Numbered.{position}
 use Rattle.nts_model.specs.Derivations.Handlers.{Handler, Candidate, IsAsked, premise_by}
 use Rattle.nts_model.specs.Refutation.Choosing.{Freshens, EquatesAll, IsCandidateMet}
-use Rattle.nts_model.specs.Refutation.Forcing.{AddsAll}
+use Rattle.nts_model.specs.Refutation.Forcing.{Adds, AddsAll}
 use Rattle.nts_model.specs.Refutation.Opening.{entered_table, opened_in, placeholder_in}
 use Rattle.nts_model.specs.Searching.Driving.{unconstrained}
 use Rattle.nts_model.specs.Canonical.Inputs.{Input, IsInput, CanonicalInput, PositionKind, type_variable, integer_variable, float_variable, const_variable, region_variable, placeholder, canonical_of, originals}
 use Rattle.nts_model.specs.Answers.Applying.{IsProperContent}
 use Rattle.nts_model.specs.Derivations.Proving.{HoldsTerms, AreConstraintsOf}
+use Rattle.nts_theory.specs.Outliving.{IsOutlives}
 use Rattle.nts_model.specs.Answers.Responses.{Findings, AreFindings, Response, response_of, IsResponseTo, Applies, RefusesResponse}
 
 -- a response, and whether it is certain
@@ -179,12 +180,14 @@ SaysOf c found qs v =
     ⊎ (v.is_yes ≡ false) × (IsPlainResponse found qs v.response ⊎ IsPlainResponse c qs v.response)
 
 mutual
-  -- what a goal is answered in a table, for these terms of an input of these kinds: nothing is told, or the verdict that stands
-  -- for those of the candidates for the goal
+  -- what a goal is answered in a table, for these terms of an input of these kinds: nothing is told; or the verdict that stands
+  -- for those of the candidates for the goal; or, of a goal that something outlives a region, yes, where the table holds that
   pub data Tells (Q : Queries) (h : Handler) (mode : Mode) : List PositionKind → Content → Tree → Tree → List Tree → Verdict → Type 0 where
     tells_nothing : {ks : List PositionKind} {c : Content} {e g : Tree} {qs : List Tree} {v : Verdict} (d : Content) → (d ≡ c) ⊎ (d ≡ entered_table c g) → v.is_yes ≡ false → IsPlainResponse d qs v.response → Tells Q h mode ks c e g qs v
     says_nothing : {ks : List PositionKind} {c : Content} {e g : Tree} {qs : List Tree} {v : Verdict} → SaysNothing ks v.response → Tells Q h mode ks c e g qs v
     tells_one : {ks : List PositionKind} {c : Content} {e g : Tree} {qs : List Tree} {v : Verdict} (vs : List Verdict) → IsReady c e g → Outcomes Q h mode (entered_table c g) e (opened_in c g) qs (h.offers mode e (opened_in c g)) vs → StandsForAll qs vs v
+        → Tells Q h mode ks c e g qs v
+    tells_outlives : {ks : List PositionKind} {c : Content} {e g : Tree} {qs : List Tree} {v : Verdict} (x : Constraint) (found : Content) → IsOutlives g x → Adds x c found → IsFound c e g found → v.is_yes ≡ true → IsResponseOf found qs v.response
         → Tells Q h mode ks c e g qs v
 
   -- each candidate fails

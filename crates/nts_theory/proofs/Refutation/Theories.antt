@@ -19,7 +19,7 @@ use Rattle.nts_model.specs.Terms.Placeholders.{CanName, leaf_level_of, leaf_leve
 use Rattle.nts_model.specs.Tables.Levels.{NamesAll}
 use Rattle.nts_model.specs.Tables.Passing.{AllLabels}
 use Rattle.nts_model.specs.Terms.Substitutions.{leaf_tree, put, Occurs, StaysItself, leaf_sort, Renaming, rename}
-use Rattle.nts_model.specs.Derivations.Related.{pair, unbound}
+use Rattle.nts_model.specs.Derivations.Related.{Constraint, pair, unbound}
 use Rattle.nts_model.specs.Lists.{Among}
 use Rattle.nts_model.specs.Derivations.Rules.{coherence, Equation, related, alike, opened, opened_at, AreFresh, IsHandlers}
 use Rattle.nts_model.specs.Canonical.Numbered.{seen, AreDistinct}
@@ -27,6 +27,8 @@ use Rattle.nts_model.specs.Refutation.Opening.{placeholder_in}
 use Rattle.nts_model.specs.Refutation.Choosing.{left_of, right_of}
 use Rattle.nts_model.specs.Derivations.Handlers.{Handler, equation_by, constraint_by, premise_by, application_under, InstancesAreRules}
 use Rattle.nts_model.specs.Refutation.Containing.{Truth, IsTrueBy, IsGroundLabel}
+use Rattle.nts_theory.specs.Outliving.{SaysOutlives}
+use Rattle.nts_theory.proofs.Refutation.Outliving.{outlives_renamed, sides_formed, true_again}
 use Rattle.nts_theory.specs.Refutation.Refutation.{IsCarrying, IsFair, UsesClause, UsesNamed, binding, AreUsed, IsTheory}
 use Rattle.nts_model.proofs.Terms.Substituting.{replace-equal, replace-leaf}
 use Rattle.nts_model.proofs.Terms.Composing.{IsFormed-instance, IsClosed-instance}
@@ -694,6 +696,17 @@ module _ (h : Handler) (truth : Truth) (Proves : Tree → Tree → Type 0) (rule
       uses_named h truth Later rules fair carried_kept (u + 1) e (opened (placeholder_in (u + 1)) 0 s) (f.0, (fo, tt)) (up.0, (named_opened (u + 1) 0 s up.1.0, tt))
       (opened_before e x xs s (placeholder_in (u + 1)) c i fresh)
 
+  -- what outlives a region before does so later
+  outlives_later : (e s : Tree) (x : Constraint) → Later e (unbound s) → SaysOutlives x s → IsClosed s → IsTrueBy truth x.relation x.left x.right
+  outlives_later e s x c says z =
+      let b = back_to c.by in
+      let k = back_carrying c.by c.carrying in
+      let is : c.predicate ≡ unbound (rename b s) = before e (unbound s) c in
+      let f = formed_later e (unbound s) c in
+      let sides = sides_formed x s says (let y = f.1.0 in y.1.1.0) in
+      true_again truth fair c.by c.carrying (forth_again c.by) x.relation x.left x.right sides.0 sides.1
+      (used.outlives c.environment (rename b s) (constraint_by (rename b) x) (subst (Proves c.environment) is c.proved) (outlives_renamed b x s says) (IsClosed-instance (instance_by b k) s z))
+
   -- what is carried is a theory
   pub carried_theory : IsTheory h truth Later
   carried_theory =
@@ -702,4 +715,5 @@ module _ (h : Handler) (truth : Truth) (Proves : Tree → Tree → Type 0) (rule
         kept = carried_kept;
         plain = plain_named;
         opened = opened_named;
+        outlives = outlives_later;
       }

@@ -26,8 +26,9 @@ use Rattle.nts_theory.proofs.Refutation.Entering.{entered as enters}
 use Rattle.nts_theory.proofs.Refutation.Trying.{same_positions}
 use Rattle.nts_theory.proofs.Refutation.Agreeing.{AreNumberedKinds, identity_contains, nothing_contains, kinds_agree, terms_long}
 use Rattle.nts_theory.proofs.Refutation.Opening.{CanBegin}
+use Rattle.nts_theory.proofs.Refutation.Recording.{recorded_solution}
 use Rattle.nts_theory.proofs.Refutation.Readying.{some_begins}
-use Rattle.nts_theory.specs.Telling.{Verdict, Queries, AreTermsOfKinds, StandsForAll, SaysOf, IsFound, without_constraints, IsPlainResponse, goals_with, Tells, tells_nothing, says_nothing, tells_one, Refutes, all_fail, Outcomes, no_outcome, then_fails, then_replies, Replies, replies, Fails, is_unmet, is_refused, is_leaky, Reaches, asks_nothing, then_asks, RefusesOne, refuses_one, cuts_one, Asked, asked_by, Refused, by_query, by_response}
+use Rattle.nts_theory.specs.Telling.{Verdict, Queries, AreTermsOfKinds, StandsForAll, SaysOf, IsFound, without_constraints, IsPlainResponse, goals_with, Tells, tells_nothing, says_nothing, tells_one, tells_outlives, Refutes, all_fail, Outcomes, no_outcome, then_fails, then_replies, Replies, replies, Fails, is_unmet, is_refused, is_leaky, Reaches, asks_nothing, then_asks, RefusesOne, refuses_one, cuts_one, Asked, asked_by, Refused, by_query, by_response}
 use Rattle.nts_theory.proofs.Refutation.Queried.{BeginsEach, Leads, Reached, IsSolved, IsQuery, first_query, IsTried, tried, tried_knows, found_table, solution_without, entered_solution, says_contains, says_long}
 use Rattle.nts_theory.proofs.Refutation.Begun.{asked_from, BegunAt, begun_at, asks_more, goal_known, goal_there}
 use Rattle.nts_theory.proofs.Refutation.QueryLabels.{entered_query, query_without}
@@ -95,6 +96,11 @@ module _ (Q : Queries) (begins : BeginsEach Q) (h : Handler) (truth : Truth) (Pr
         let x = some_begins h truth Proves theory lawful law c e g w s.solution q.current q.knows s.proved ready in
         let one = outcomes_contain all (tried ks c e g qs q) w x.solution x.candidate x.offered x.begins in
         stands_contains ks qs vs v ts q.numbered q.kinds s.values (outcome_long all) stands (subst (OneContains truth vs) s.images one)
+    tells_contain {ks} {c} {e} {g} {qs} {v} (tells_outlives x found is adds at sure says) q ts w s =
+        let there = recorded_solution truth Proves h theory c found e g w x is adds (let z = q.knows in z.1.0) s.solution s.proved in
+        let t : IsTried ks c e g qs = record { placed = q.placed; table = q.table; environment = q.environment; predicate = q.predicate } in
+        subst (ContainsSolution truth v.response) (same_positions c w there.world qs there.agrees (tried_knows ks c e g qs t) ∙ s.images)
+        (says_contains truth ks found qs v.response q.placed (found_table ks c found e g qs t at there.keeps) says there.world there.solution)
 
     pub refutes_none : {ks : List PositionKind} {c : Content} {e g : Tree} {qs : List Tree} → Refutes Q h coherence c e g qs → IsQuery ks c e g qs → (ts : List Tree) (w : World) → IsSolved truth Proves ks c e g qs ts w → ⊥
     refutes_none {ks} {c} {e} {g} {qs} (all_fail ready all) q ts w s =

@@ -20,6 +20,7 @@ use Rattle.nts_model.specs.Tables.Worlds.{World, inst, Agrees}
 use Rattle.nts_model.specs.declared.labels.Variance.{Variance}
 use Rattle.nts_model.specs.Refutation.Containing.{Truth, IsTrueBy, IsSolution, IsGroundLabel, AreGround}
 use Rattle.nts_model.specs.Tables.Passing.{AllLabels}
+use Rattle.nts_theory.specs.Outliving.{SaysOutlives}
 use Rattle.nts_variance_model.specs.Variances.SettledProofs.{HasSettledProof}
 
 -- no rule of the handler says what an alias normalizes to. Where no alias is declared there is none
@@ -59,13 +60,15 @@ abbrev pub binding : Tree → Tree → Tree → Tree
 binding x xs s = bound (more x xs) s
 
 -- what is proved: terms without region variables. Names of constants and regions play no part, and each goal of the handler
--- follows by a use of a clause, as it stands or with the placeholders of a new universe for what it binds
+-- follows by a use of a clause, as it stands or with the placeholders of a new universe for what it binds. What is proved to
+-- outlive a region does
 pub record IsTheory (h : Handler) (truth : Truth) (Proves : Tree → Tree → Type 0) : Type 0 where
   pub ground : AreGround Proves
   pub kept : (ρ : Renaming) → IsCarrying ρ → (e g : Tree) → Proves e g → Proves (rename ρ e) (rename ρ g)
   pub plain : (u : ℕ) (e s : Tree) → Proves e (unbound s) → IsHandlers s → IsClosed s → NamesAll leaf_level u (pair e s) → UsesNamed h truth Proves u e s
   pub opened : (u : ℕ) (e x xs s : Tree) → Proves e (binding x xs s) → IsHandlers (opened (placeholder_in (u + 1)) 0 s) → IsFormed (opened (placeholder_in (u + 1)) 0 s) → NamesAll leaf_level u (pair e s)
       → UsesNamed h truth Proves (u + 1) e (opened (placeholder_in (u + 1)) 0 s)
+  pub outlives : (e s : Tree) (x : Constraint) → Proves e (unbound s) → SaysOutlives x s → IsClosed s → IsTrueBy truth x.relation x.left x.right
 
 -- a goal that binds variables follows with fresh placeholders for them
 pub record UsesOpened (h : Handler) (truth : Truth) (Proves : Tree → Tree → Type 0) (e c s : Tree) : Type 0 where
@@ -73,11 +76,13 @@ pub record UsesOpened (h : Handler) (truth : Truth) (Proves : Tree → Tree → 
   pub are_fresh : AreFresh (pair e c) fresh
   pub uses : UsesClause h truth Proves e (opened fresh 0 s)
 
--- proved goals are terms without region variables, and each goal of the handler follows by a use of a clause from proved goals
+-- proved goals are terms without region variables, each goal of the handler follows by a use of a clause from proved goals, and
+-- what is proved to outlive a region does
 pub record AreUsed (h : Handler) (truth : Truth) (Proves : Tree → Tree → Type 0) : Type 0 where
   pub ground : AreGround Proves
   pub plain : (e s : Tree) → Proves e (unbound s) → IsHandlers s → IsClosed s → UsesClause h truth Proves e s
   pub opened : (e x xs s : Tree) → Proves e (binding x xs s) → IsHandlers s → UsesOpened h truth Proves e (binding x xs s) s
+  pub outlives : (e s : Tree) (x : Constraint) → Proves e (unbound s) → SaysOutlives x s → IsClosed s → IsTrueBy truth x.relation x.left x.right
 
 -- an instance that leaves no region variable: each has been assigned a free region
 pub record IsGroundInstance (ι : Instance) : Type 0 where
