@@ -13,11 +13,12 @@ use Rattle.nts_model.specs.declared.labels.Label.TheVariants as label
 use Rattle.nts_model.specs.Terms.Trees.{Tree, empty, more, node, kind_of, one_sort, is, AllFit, binders, IsClosedUnder, IsClosed, IsFormed}
 use Rattle.nts_model.specs.Tables.Contents.{Content}
 use Rattle.nts_model.specs.Terms.Substitutions.{leaf_tree}
-use Rattle.nts_model.specs.Derivations.Related.{pair, unbound}
+use Rattle.nts_model.specs.Derivations.Related.{Constraint, pair, unbound}
 use Rattle.nts_model.specs.Derivations.Rules.{Mode, statement_of, statement_kind, coinductive_trait, other_goal, normalization, opened, opened_at, bound}
 use Rattle.nts_model.specs.Derivations.Handlers.{Handler}
 use Rattle.nts_model.specs.Refutation.Opening.{binds, placeholder_in, opened_in}
 use Rattle.nts_model.proofs.Terms.Substituting.{leaf_alone, no_children}
+use Rattle.nts_theory.specs.Outliving.{SaysOutlives, region_outlives, type_outlives, IsOutlives}
 use Rattle.nts_theory.specs.Telling.{IsTraitStatement}
 use Rattle.nts_decisions.specs.Deciding.{blurred, blurred_environment, IsDecidable, IsPlainGoal, top_level, opened_next, IsGoalDecided}
 use Rattle.nts_decisions.proofs.BlurredWorlds.{merged_leaf}
@@ -46,6 +47,14 @@ plain_statement e o p =
     let a = p.asked in
     let u = unbound_raw merged_leaf o a.statement (sym (as_leaves o) ∙ a.binds_nothing) in
     subst IsTraitStatement (sym (ap statement_of u.is)) (trait_blurred u.says (subst IsDecidable (sym u.same) p.kind))
+
+-- .. says of nothing that it outlives a region
+says_not_both : (s : Tree) (x : Constraint) → IsTraitStatement s → SaysOutlives x s → ⊥
+says_not_both s x t region_outlives = t
+says_not_both s x t type_outlives = t
+
+pub trait_outlives_nothing : (g : Tree) (x : Constraint) → IsTraitStatement (statement_of g) → IsOutlives g x → ⊥
+trait_outlives_nothing g x t o = says_not_both o.statement x (subst (λ z. IsTraitStatement (statement_of z)) o.binds_nothing t) o.says
 
 -- .. is not about an alias
 by_test : (b : Bool) → (if b then coinductive_trait else other_goal) ≢ normalization

@@ -1,7 +1,7 @@
 -- A goal with a fact is not refused: its query does not refute it, and each answer is granted to the caller.
 use Rattle.std.proofs.Common.{◌≡◌, inl, inr, ℕ, List, [], ◌∷◌, map, refl, sym, ap, subst, ◌∙◌}
 use Rattle.std.specs.Prelude.{length, false}
-use Rattle.nts_model.specs.Terms.Trees.{Tree, IsFormed}
+use Rattle.nts_model.specs.Terms.Trees.{Tree, node, IsFormed}
 use Rattle.nts_model.specs.declared.labels.Leaf.{Leaf}
 use Rattle.nts_model.specs.declared.labels.Sort.TheVariants as sort
 use Rattle.nts_model.specs.Lists.{Among}
@@ -10,15 +10,19 @@ use Rattle.nts_model.specs.Tables.Levels.{AreCurrent, term_level}
 use Rattle.nts_model.specs.Tables.Resolving.{Knows, IsSound}
 use Rattle.nts_model.specs.Tables.Worlds.{World, Solves}
 use Rattle.nts_model.specs.Terms.Substitutions.{leaf_tree, filled}
-use Rattle.nts_model.specs.Derivations.Related.{pair}
+use Rattle.nts_model.specs.Derivations.Related.{Constraint, pair}
+use Rattle.nts_model.specs.declared.labels.ClauseHead.TheVariants as clause
+use Rattle.nts_model.specs.declared.labels.Label.TheVariants as label
+use Rattle.nts_theory.specs.Outliving.{IsOutlives}
+use Rattle.nts_decisions.proofs.OpenedStatements.{trait_outlives_nothing}
 use Rattle.nts_model.specs.Derivations.Sequents.{Premise}
-use Rattle.nts_model.specs.Derivations.Rules.{Mode, Equation}
+use Rattle.nts_model.specs.Derivations.Rules.{Mode, Equation, statement_of}
 use Rattle.nts_model.specs.Derivations.Handlers.{Handler, Candidate, IsAsked, IsLawfulHandler, HasNoLeaks, IsCandidateFor, AreValuesOf}
 use Rattle.nts_model.specs.Canonical.Inputs.{Input, PositionKind, type_variable, integer_variable, float_variable, const_variable, region_variable, placeholder, IsInput, HaveKinds, canonical_of, after_environment, originals, AreAlikeInputs, made_of}
 use Rattle.nts_model.specs.Canonical.Numbered.{numbered, no_leaf}
 use Rattle.nts_model.specs.Refutation.Opening.{binds, opened_in, entered_table}
 use Rattle.nts_model.specs.Answers.Responses.{Response, IsResponseTo, IsQueryTable, read_in, RefusesResponse}
-use Rattle.nts_theory.specs.Telling.{Verdict, Queries, IsInputFor, IsReady, StandsForAll, SaysOf, without_constraints, IsPlainResponse, goals_with, Tells, tells_nothing, says_nothing, tells_one, Refutes, all_fail, Outcomes, no_outcome, then_fails, then_replies, Replies, replies, Fails, is_unmet, is_refused, is_leaky, Reaches, asks_nothing, then_asks, Refused, by_query, by_response}
+use Rattle.nts_theory.specs.Telling.{Verdict, Queries, IsInputFor, IsReady, StandsForAll, SaysOf, without_constraints, IsPlainResponse, goals_with, Tells, tells_nothing, says_nothing, tells_one, tells_outlives, IsTraitStatement, Refutes, all_fail, Outcomes, no_outcome, then_fails, then_replies, Replies, replies, Fails, is_unmet, is_refused, is_leaky, Reaches, asks_nothing, then_asks, Refused, by_query, by_response}
 use Rattle.nts_theory.proofs.Refutation.Queried.{IsFirst, BeginsEach, IsQuery, first_query, IsTried, tried, tried_knows, found_table, says_long}
 use Rattle.nts_theory.proofs.Refutation.QueryLabels.{query_without}
 use Rattle.nts_theory.proofs.Refutation.Answered.{among_split}
@@ -82,6 +86,19 @@ module _ (Q : Queries) (h : Handler) (law : IsLawfulHandler h) (mode : Mode) (ti
       let goal = fact.goal in
       let asked = goal.asked in
       subst (λ z. binds (filled (map leaf_tree u) (numbered no_leaf (after_environment i) z)) ≡ false) (sym asked.binds_nothing) refl
+
+  -- it says of nothing that it outlives a region
+  still_trait : (s : Tree) → IsTraitStatement s → IsTraitStatement (filled (map leaf_tree u) (numbered no_leaf (after_environment i) s))
+  still_trait (node (label.Clause (clause.Trait j)) ts) h = tt
+  still_trait s h = absurd h
+
+  outlives_nothing : (y : Constraint) → IsOutlives g' y → ⊥
+  outlives_nothing y o =
+      let goal = fact.goal in
+      let asked = goal.asked in
+      let t = goal.trait_goal in
+      let trait : IsTraitStatement asked.statement = subst (λ z. IsTraitStatement (statement_of z)) asked.binds_nothing t.statement in
+      trait_outlives_nothing g' y (subst (λ z. IsTraitStatement (statement_of (filled (map leaf_tree u) (numbered no_leaf (after_environment i) z)))) (sym asked.binds_nothing) (still_trait asked.statement trait)) o
 
   same_goal : opened_in q g' ≡ g'
   same_goal = rw binds_none refl
@@ -245,6 +262,7 @@ module _ (Q : Queries) (h : Handler) (law : IsLawfulHandler h) (mode : Mode) (ti
       let all : (let x = r.findings in x.values ≡ positions_from 0 ks) = ap (λ (z : Response). (let y = z.findings in y.values)) says in
       let kinds : r.kinds ≡ ks = ap (λ (z : Response). z.kinds) says in
       identity_merged ks r ts query.numbered (nothing_is_identity ks r says) (ap (length {A = Tree}) all ∙ positions_long 0 ks) (subst (AllAgree ks) (sym kinds) (agree_themselves ks)) values values_same
+  tells_contained v (tells_outlives y o r) = absurd (outlives_nothing y o)
   tells_contained v (tells_one vs ready all stands) = by_one stands
     where
       by_one : StandsForAll (map leaf_tree u) vs v → ContainsMerged v.response ts

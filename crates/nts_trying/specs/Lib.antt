@@ -5,4 +5,5 @@ pub mod Found
 pub mod Stepping
 pub mod Adding
 pub mod Rows
+pub mod Outlives
 pub mod Stopping

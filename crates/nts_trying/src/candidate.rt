@@ -300,7 +300,7 @@ fn record_one(
 const NO_PLACE: Span = Span(0);
 
 /// Records that a region or a type outlives a region, for the leak check to see.
-fn record_outlives(
+pub fn record_outlives(
     table: &mut InferCtxt,
     cx: &Cx,
     relation: Relation,

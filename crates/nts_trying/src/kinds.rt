@@ -54,7 +54,7 @@ fn is_candidates_goal(cx: &Cx, goal: Goal) -> bool
 
 /// Whether no bound variable names a binder of the environment that binds nothing.
 #[inline(never)]
-fn statements_are_closed(cx: &Cx, env: ParamEnv) -> bool
+pub fn statements_are_closed(cx: &Cx, env: ParamEnv) -> bool
     requires { HoldsEnv cx.now.nodes env }
     ensures { IsTrue result ↔ HasClosedStatements (tree_at cx.now.nodes env.node) }
 {

@@ -7,6 +7,7 @@ mod candidate;
 mod kinds;
 mod leaks;
 mod merged;
+mod outlives;
 mod steps;
 
 pub use binder::enter_forall;
@@ -14,4 +15,5 @@ pub use candidate::{Trial, equate, record_constraints};
 pub use kinds::{GoalRow, goal_kind, goal_row};
 pub use leaks::check_leaks;
 pub use merged::{keep_response, merge_responses};
+pub use outlives::{Outlives, answer_outlives, outlives_in};
 pub use steps::{AvailableDepth, Step, depth_below};

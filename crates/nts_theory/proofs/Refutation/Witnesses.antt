@@ -96,11 +96,11 @@ module _ (Q : Queries) (begins : BeginsEach Q) (h : Handler) (truth : Truth) (Pr
         let x = some_begins h truth Proves theory lawful law c e g w s.solution q.current q.knows s.proved ready in
         let one = outcomes_contain all (tried ks c e g qs q) w x.solution x.candidate x.offered x.begins in
         stands_contains ks qs vs v ts q.numbered q.kinds s.values (outcome_long all) stands (subst (OneContains truth vs) s.images one)
-    tells_contain {ks} {c} {e} {g} {qs} {v} (tells_outlives x found is adds at sure says) q ts w s =
-        let there = recorded_solution truth Proves h theory c found e g w x is adds (let z = q.knows in z.1.0) s.solution s.proved in
+    tells_contain {ks} {c} {e} {g} {qs} {v} (tells_outlives x is r) q ts w s =
+        let there = recorded_solution truth Proves h theory c r.found e g w x is r.adds (let z = q.knows in z.1.0) s.solution s.proved in
         let t : IsTried ks c e g qs = record { placed = q.placed; table = q.table; environment = q.environment; predicate = q.predicate } in
         subst (ContainsSolution truth v.response) (same_positions c w there.world qs there.agrees (tried_knows ks c e g qs t) ∙ s.images)
-        (says_contains truth ks found qs v.response q.placed (found_table ks c found e g qs t at there.keeps) says there.world there.solution)
+        (says_contains truth ks r.found qs v.response q.placed (found_table ks c r.found e g qs t r.is_found there.keeps) r.says there.world there.solution)
 
     pub refutes_none : {ks : List PositionKind} {c : Content} {e g : Tree} {qs : List Tree} → Refutes Q h coherence c e g qs → IsQuery ks c e g qs → (ts : List Tree) (w : World) → IsSolved truth Proves ks c e g qs ts w → ⊥
     refutes_none {ks} {c} {e} {g} {qs} (all_fail ready all) q ts w s =
