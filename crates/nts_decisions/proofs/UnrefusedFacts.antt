@@ -262,7 +262,7 @@ module _ (Q : Queries) (h : Handler) (law : IsLawfulHandler h) (mode : Mode) (ti
       let all : (let x = r.findings in x.values ≡ positions_from 0 ks) = ap (λ (z : Response). (let y = z.findings in y.values)) says in
       let kinds : r.kinds ≡ ks = ap (λ (z : Response). z.kinds) says in
       identity_merged ks r ts query.numbered (nothing_is_identity ks r says) (ap (length {A = Tree}) all ∙ positions_long 0 ks) (subst (AllAgree ks) (sym kinds) (agree_themselves ks)) values values_same
-  tells_contained v (tells_outlives y o r) = absurd (outlives_nothing y o)
+  tells_contained v (tells_outlives y o r) = absurd (outlives_nothing y (subst (λ z. IsOutlives z y) same_goal o))
   tells_contained v (tells_one vs ready all stands) = by_one stands
     where
       by_one : StandsForAll (map leaf_tree u) vs v → ContainsMerged v.response ts

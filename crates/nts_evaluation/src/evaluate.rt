@@ -25,8 +25,8 @@ use nts_store::EvalError;
 use nts_table::InferCtxt;
 use nts_terms::{Cx, GenericArg, Goal};
 use nts_trying::{
-    AvailableDepth, GoalRow, Step, Trial, check_leaks, enter_forall, equate, goal_kind, goal_row,
-    keep_response, merge_responses, record_constraints,
+    AvailableDepth, GoalRow, Step, Trial, answer_outlives, check_leaks, enter_forall, equate,
+    goal_kind, goal_row, keep_response, merge_responses, record_constraints,
 };
 
 /// Evaluates a goal in a query of its own: its leaves give place to positions, the search answers the query, and the response is
@@ -164,6 +164,10 @@ fn compute_goal<H: GoalHandler>(
         }
         GoalRow::Unanswered(_) => {
             let response = boxed_response(table, cx, values, Certainty::AMBIGUOUS)?;
+            return Ok(response);
+        }
+        GoalRow::Outlives(opened, outlives) => {
+            let response = answer_outlives(table, cx, opened, outlives, values)?;
             return Ok(response);
         }
         GoalRow::Candidates(opened) => opened,

@@ -3,7 +3,7 @@ use Rattle.std.specs.Prelude.{◌≡◌}
 use Rattle.nts_model.specs.declared.labels.Relation.TheVariants as relation
 use Rattle.nts_model.specs.declared.labels.ClauseHead.TheVariants as clause
 use Rattle.nts_model.specs.declared.labels.Label.TheVariants as label
-use Rattle.nts_model.specs.Terms.Trees.{Tree, node, IsClosed}
+use Rattle.nts_model.specs.Terms.Trees.{Tree, node, IsClosed, IsFormed}
 use Rattle.nts_model.specs.Derivations.Related.{Constraint, pair, unbound}
 
 -- the constraint that a statement says to hold: that the one outlives the other
@@ -16,4 +16,5 @@ pub record IsOutlives (g : Tree) (x : Constraint) : Type 0 where
   pub statement : Tree
   pub binds_nothing : g ≡ unbound statement
   pub says : SaysOutlives x statement
+  pub formed : IsFormed statement
   pub closed : IsClosed statement

@@ -179,8 +179,9 @@ SaysOf c found qs v =
     (v.is_yes ≡ true) × IsResponseOf found qs v.response
     ⊎ (v.is_yes ≡ false) × (IsPlainResponse found qs v.response ⊎ IsPlainResponse c qs v.response)
 
--- a yes that says all of a table in which the constraint was recorded
+-- a yes to a goal of a table that says all of the table in which the constraint was recorded
 pub record SaysRecorded (x : Constraint) (c : Content) (e g : Tree) (qs : List Tree) (v : Verdict) : Type 0 where
+  pub knows : Knows c (pair e g)
   pub found : Content
   pub adds : Adds x c found
   pub is_found : IsFound c e g found
@@ -195,7 +196,8 @@ mutual
     says_nothing : {ks : List PositionKind} {c : Content} {e g : Tree} {qs : List Tree} {v : Verdict} → SaysNothing ks v.response → Tells Q h mode ks c e g qs v
     tells_one : {ks : List PositionKind} {c : Content} {e g : Tree} {qs : List Tree} {v : Verdict} (vs : List Verdict) → IsReady c e g → Outcomes Q h mode (entered_table c g) e (opened_in c g) qs (h.offers mode e (opened_in c g)) vs → StandsForAll qs vs v
         → Tells Q h mode ks c e g qs v
-    tells_outlives : {ks : List PositionKind} {c : Content} {e g : Tree} {qs : List Tree} {v : Verdict} (x : Constraint) → IsOutlives g x → SaysRecorded x c e g qs v → Tells Q h mode ks c e g qs v
+    tells_outlives : {ks : List PositionKind} {c : Content} {e g : Tree} {qs : List Tree} {v : Verdict} (x : Constraint) → IsOutlives (opened_in c g) x → SaysRecorded x (entered_table c g) e (opened_in c g) qs v
+        → Tells Q h mode ks c e g qs v
 
   -- each candidate fails
   pub data Refutes (Q : Queries) (h : Handler) (mode : Mode) : Content → Tree → Tree → List Tree → Type 0 where

@@ -14,7 +14,7 @@ use Rattle.nts_model.specs.declared.labels.Variance.{Variance}
 use Rattle.nts_model.specs.Tables.Holding.{Continues}
 use Rattle.nts_model.specs.Tables.Resolving.{Knows}
 use Rattle.nts_model.specs.Lists.{Among}
-use Rattle.nts_model.specs.Derivations.Rules.{Mode}
+use Rattle.nts_model.specs.Derivations.Rules.{Mode, Meaning}
 use Rattle.nts_model.specs.Derivations.Handlers as handlers
 use Rattle.nts_model.specs.Derivations.Handlers.{Handler, meaning, IsLawfulHandler}
 use Rattle.nts_model.proofs.Tables.Slots.{KeepsKinds, Knows-kept}
@@ -47,8 +47,12 @@ use Rattle.nts_meaning.specs.Meant.{IsServed, offers_of, IsTold, IsRefuted, Cand
 use Rattle.nts_meaning.proofs.Evaluating.{Knows-goes, offers-kept}
 use Rattle.nts_meaning.proofs.Running.{term_table}
 use Rattle.nts_meaning.specs.Telling.{Outcomes}
-use Rattle.nts_theory.specs.Telling.{IsPlainResponse, Verdict, IsReady, IsTraitGoal, StandsForAll}
-use Rattle.nts_theory.specs.Telling.Tells.{tells_nothing, tells_one}
+use Rattle.nts_theory.specs.Telling.{IsPlainResponse, Verdict, IsReady, IsTraitGoal, StandsForAll, SaysRecorded}
+use Rattle.nts_theory.specs.Telling.Tells.{tells_nothing, tells_one, tells_outlives}
+use Rattle.nts_theory.specs.Outliving.{IsOutlives}
+use Rattle.nts_trying.specs.Outlives.{IsClosedEnv, IsOutlivesGoal, constraint_at, HoldsIn}
+use Rattle.nts_trying.specs.declared.outlives.Outlives.{Outlives}
+use Rattle.nts_trying.proofs.Outlives.{outlives_proved}
 use Rattle.nts_theory.specs.Telling.Refutes.{all_fail}
 use Rattle.nts_meaning.specs.Answering.{is_yes, verdict_at}
 use Rattle.nts_model.specs.Answers.Applying.{IsProperContent}
@@ -137,6 +141,17 @@ module _ {a b : List Tree} {t u : Table} {g o : Goal} (posed : IsPosed a t g) (o
   pub nothing_through : (h : Handler) (mode : TypingMode) (qs : List GenericArg) (e : List Tree) (r : Canonical Response) → trees_of b qs ≡ trees_of a qs → is_yes r.value.certainty ≡ false → IsPlainResponse there (trees_of b qs) (response_at e r) → IsTold h mode a t g qs e r
   nothing_through h mode qs e r same n x ks = tells_nothing there (inr opens.table) n (subst (λ z. IsPlainResponse there z (response_at e r)) same x)
 
+  -- what is told of what outlives what there is told of the goal
+  pub outlives_told : (x : Outlives) → IsOutlivesGoal b o x → (h : Handler) (mode : TypingMode) (qs : List GenericArg) (e : List Tree) (r : Canonical Response) → trees_of b qs ≡ trees_of a qs
+      → SaysRecorded (constraint_at b x) there (tree_at b o.param_env.node) (tree_at b o.predicate.node) (trees_of b qs) (verdict_at e r) → IsTold h mode a t g qs e r
+  outlives_told x says h mode qs e r same told ks =
+      let y = constraint_at b x in
+      let v = verdict_at e r in
+      tells_outlives y (subst (λ z. IsOutlives z y) opens.predicate says.says)
+      (subst (λ z. SaysRecorded y z (tree_at a g.param_env.node) (opened_in before (tree_at a g.predicate.node)) (trees_of a qs) v) opens.table
+      (subst (λ z. SaysRecorded y there (tree_at a g.param_env.node) z (trees_of a qs) v) opens.predicate
+      (subst (λ z. SaysRecorded y there z (tree_at b o.predicate.node) (trees_of a qs) v) environment_same (subst (λ z. SaysRecorded y there (tree_at b o.param_env.node) (tree_at b o.predicate.node) z v) same told))))
+
   -- what answering the opened goal brings
   passes_entered : (P : Label → Bool) → TablePasses P before → TablePasses P there
   passes_entered P h = subst (TablePasses P) (sym opens.table) (by_test (binds (tree_at a g.predicate.node)))
@@ -184,6 +199,32 @@ module _ {a b : List Tree} {t u : Table} {g o : Goal} (posed : IsPosed a t g) (o
       let proved = by_entered_candidate h V mode A c terms.sound terms.values terms.constraints before e p current later solvable.levelled proper.regions (record { knows = posed.knows.env; formed = fe }) (record { knows = posed.knows.predicate; formed = fp }) (goal_closed before e p opens.closed ask) ask
       (record { knows = ke; formed = fe }) (record { knows = kp; formed = fp }) (record { knows = ko; formed = fo }) x.candidate law x.offered x.sure x.holds in
       subst (λ z. IsProvedFrom (meaning h V) mode A c z (tree_at d g.predicate.node)) (sym env) (subst (λ z. IsProvedFrom (meaning h V) mode A c e z) (sym pred) proved)
+
+  -- where the table holds what the opened goal says, the goal is proved
+  pub outlives_through : (m : Meaning) (mode : Mode) (A : List Assumed) {d : List Tree} {v : Table} (x : Outlives) → IsPosed b u o → IsOutlivesGoal b o x → Goes b d u v → Continues before (content_of d v.entries) → AreFormed d → HoldsIn (constraint_at b x) d v
+      → IsProvedFrom m mode A (content_of d v.entries) (tree_at d g.param_env.node) (tree_at d g.predicate.node)
+  outlives_through m mode A {d} {v} x there_posed says goes later formed held =
+      let c = content_of d v.entries in
+      let terms = term_table formed goes.table in
+      let proper = goes.table.now.proper in
+      let solvable = proper.solvable in
+      let e = tree_at a g.param_env.node in
+      let p = tree_at a g.predicate.node in
+      let ad = Extends-trans up goes.extends in
+      let env : tree_at d g.param_env.node ≡ e = ad.kept g.param_env.node posed.holds.env.within in
+      let pred : tree_at d g.predicate.node ≡ p = ad.kept g.predicate.node posed.holds.predicate.within in
+      let opred : tree_at d o.predicate.node ≡ opened_in before p = goes.extends.kept o.predicate.node there_posed.holds.predicate.within ∙ opens.predicate in
+      let fe : IsFormed e = subst IsFormed env (formed g.param_env.node (IsIn-extended ad g.param_env.node posed.holds.env.within)) in
+      let fp : IsFormed p = subst IsFormed pred (formed g.predicate.node (IsIn-extended ad g.predicate.node posed.holds.predicate.within)) in
+      let fo : IsFormed (opened_in before p) = subst IsFormed opred (formed o.predicate.node (IsIn-extended goes.extends o.predicate.node there_posed.holds.predicate.within)) in
+      let grown : KeepsKinds before c = record { grows = later.grows; kinds = later.kinds } in
+      let ke : Knows c e = Knows-kept before c e grown posed.knows.env in
+      let kp : Knows c p = Knows-kept before c p grown posed.knows.predicate in
+      let ko : Knows c (opened_in before p) = subst (Knows c) opens.predicate (Knows-goes (tree_at b o.predicate.node) goes there_posed.knows.predicate) in
+      let current = posed.table.now.proper.current in
+      let proved = outlives_proved m mode A c terms.sound terms.values terms.constraints before e p (constraint_at b x) current later solvable.levelled proper.regions (record { knows = posed.knows.env; formed = fe }) (record { knows = posed.knows.predicate; formed = fp })
+      (record { knows = ke; formed = fe }) (record { knows = kp; formed = fp }) (record { knows = ko; formed = fo }) (subst IsClosedEnv environment_same says.environment) opens.closed (subst (λ z. IsOutlives z (constraint_at b x)) opens.predicate says.says) held in
+      subst (λ z. IsProvedFrom m mode A c z (tree_at d g.predicate.node)) (sym env) (subst (λ z. IsProvedFrom m mode A c e z) (sym pred) proved)
 
 pub opened_holds : (ts : List Tree) (t : Table) (o : Option Goal) → IfSome o (IsPosed ts t) → IfSome o (HoldsGoal ts)
 opened_holds ts t None p = tt

@@ -11,6 +11,7 @@ ghost use Rattle.nts_meaning.specs.Evaluation.{IsAskedGoal};
 ghost use Rattle.nts_trying.specs.Rows.{IsRowOf};
 ghost use Rattle.nts_terms.specs.Handles.{HoldsEnv, HoldsGoal};
 
+use crate::outlives::{Outlives, outlives_in};
 use nts_delegate::GoalHandler;
 use nts_search::CurrentGoalKind;
 use nts_terms::{ClauseKind, Cx, Goal, ParamEnv, PredicateKind};
@@ -71,6 +72,8 @@ pub fn statements_are_closed(cx: &Cx, env: ParamEnv) -> bool
 pub enum GoalRow {
     /// By the candidates of the handler.
     Candidates(Goal),
+    /// By a region constraint: it says that a type or a region outlives a region.
+    Outlives(Goal, Outlives),
     /// It is ambiguous: nothing answers a goal of its kind, or with its terms.
     Unanswered(Goal),
     /// It is ambiguous: it binds variables, and can't be opened.
@@ -87,6 +90,9 @@ pub fn goal_row(cx: &Cx, opened: Option<Goal>) -> GoalRow
         Some(goal) => {
             if is_candidates_goal(cx, goal) {
                 return GoalRow::Candidates(goal);
+            }
+            if let Some(outlives) = outlives_in(cx, goal) {
+                return GoalRow::Outlives(goal, outlives);
             }
             GoalRow::Unanswered(goal)
         }

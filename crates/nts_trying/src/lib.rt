@@ -15,5 +15,5 @@ pub use candidate::{Trial, equate, record_constraints};
 pub use kinds::{GoalRow, goal_kind, goal_row};
 pub use leaks::check_leaks;
 pub use merged::{keep_response, merge_responses};
-pub use outlives::{Outlives, answer_outlives, outlives_in};
+pub use outlives::{Outlives, answer_outlives};
 pub use steps::{AvailableDepth, Step, depth_below};

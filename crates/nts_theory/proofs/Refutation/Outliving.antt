@@ -1,17 +1,23 @@
 -- What is proved to outlive a region does: by the rule of the engine, under a renaming, and in a world.
-use Rattle.std.proofs.Common.{◌≡◌, inl, inr, sym, ap, ◌∙◌, subst}
+use Rattle.std.proofs.Common.{◌≡◌, inl, inr, ℕ, Bool, true, false, refl, sym, ap, ◌∙◌, subst}
+use Rattle.std.specs.Prelude.{◌==◌, if◌then◌else◌}
+use Rattle.nts_model.specs.declared.labels.Sort.{Sort}
+use Rattle.nts_model.specs.declared.labels.Leaf.{Leaf}
+use Rattle.nts_model.specs.declared.labels.BoundVarIndexKind.TheVariants as index
+use Rattle.nts_model.specs.declared.labels.ClauseHead.TheVariants as clause
+use Rattle.nts_model.specs.declared.labels.Label.TheVariants as label
 use Rattle.nts_model.specs.declared.labels.Relation.{Relation}
 use Rattle.nts_model.specs.declared.labels.Relation.TheVariants as relation
-use Rattle.nts_model.specs.Terms.Trees.{Tree, IsClosed, IsFormed}
+use Rattle.nts_model.specs.Terms.Trees.{Tree, empty, more, node, IsClosed, IsFormed}
 use Rattle.nts_model.specs.Tables.Worlds.{World, inst}
-use Rattle.nts_model.specs.Terms.Substitutions.{Renaming, rename}
+use Rattle.nts_model.specs.Terms.Substitutions.{leaf_tree, Renaming, rename}
 use Rattle.nts_model.specs.Derivations.Related.{Constraint, unbound}
 use Rattle.nts_model.specs.Derivations.Sequents.{Premise, Hidden}
 use Rattle.nts_model.specs.Derivations.Rules.{Mode, Meaning, goal_kind, Stands, opened, IsHandlers, IsBuiltIn, region_lives, type_lives, IsPlainRule, bound, IsRule}
 use Rattle.nts_model.specs.Derivations.Handlers.{constraint_by}
 use Rattle.nts_model.specs.Refutation.Containing.{Truth, IsTrueBy}
 use Rattle.nts_theory.specs.Outliving.{SaysOutlives, region_outlives, type_outlives}
-use Rattle.nts_theory.specs.Refutation.Refutation.{IsCarrying, IsFair}
+use Rattle.nts_theory.specs.Refutation.Refutation.{IsCarrying, IsFair, OutlivesOpened, binding}
 use Rattle.nts_theory.proofs.Derivations.ClosedStatements.{opened_closed, one_statement as unbound_statement}
 use Rattle.nts_theory.proofs.Refutation.Carriers.{back_to, back_carrying}
 
@@ -36,10 +42,84 @@ rule_holds m mode G H D P e s x says c (inl (t, is, plain)) = plain_holds m mode
 rule_holds m mode G H D P e s x says c (inr (sorts, t, f, is, fresh, plain)) =
     plain_holds m mode G H D P e s x says (subst (IsPlainRule m mode G H D P e) (ap (opened f 0) (sym (bound_statement sorts s t is)) ∙ opened_closed f 0 s c) plain)
 
+-- .. of one that binds variables, with the fresh placeholders of the rule
+not_unbound : (x xs s t : Tree) → binding x xs s ≡ unbound t → ⊥
+not_unbound x xs s t e = let z : more x xs ≡ empty = cc e in cc z
+
+binding_statement : (x xs s y t : Tree) → binding x xs s ≡ bound y t → s ≡ t
+binding_statement x xs s y t e = cc e
+
+pub rule_holds_opened : (m : Meaning) (mode : Mode) (G : Tree → Type 0) (H : Constraint → Type 0) (D : Hidden → Type 0) (P : Premise → Type 0) (truth : Truth) (granted : (x : Constraint) → H x → IsTrueBy truth x.relation x.left x.right) (e x xs s : Tree)
+    → IsRule m mode G H D P e (binding x xs s) → OutlivesOpened truth e (binding x xs s) s
+rule_holds_opened m mode G H D P truth granted e x xs s (inl (t, is, plain)) = absurd (not_unbound x xs s t is)
+rule_holds_opened m mode G H D P truth granted e x xs s (inr (sorts, t, f, is, fresh, plain)) =
+    record {
+      fresh = f;
+      are_fresh = fresh;
+      holds = λ y says. granted y (plain_holds m mode G H D P e (opened f 0 s) y says (subst (λ z. IsPlainRule m mode G H D P e (opened f 0 z)) (sym (binding_statement x xs s sorts t is)) plain));
+    }
+
+-- what a statement says once it is opened, it says of bound variables before
+pub record OpenedSays (f : Sort → ℕ → Leaf) (s : Tree) (y : Constraint) : Type 0 where
+  pub before : Constraint
+  pub says : SaysOutlives before s
+  pub same : y ≡ constraint_by (opened f 0) before
+
+not_bound : (f : Sort → ℕ → Leaf) (b : Bool) (o : Sort) (d n : ℕ) (t : Tree) (y : Constraint) → SaysOutlives y (if b then leaf_tree (f o n) else node (label.Bound o (index.Bound d) n) t) → ⊥
+not_bound f true o d n t y says = elim says [ ]
+not_bound f false o d n t y says = elim says [ ]
+
+region_says : (f : Sort → ℕ → Leaf) (c : Tree) (y : Constraint) → IsFormed (node (label.Clause clause.RegionOutlives) c) → SaysOutlives y (node (label.Clause clause.RegionOutlives) (opened f 0 c)) → OpenedSays f (node (label.Clause clause.RegionOutlives) c) y
+region_says f empty y k says = absurd k.0
+region_says f (more a empty) y k says = absurd (let p = k.0 in p.1)
+region_says f (more a (more b empty)) y k region_outlives = record { before = record { relation = relation.RegionOutlives; left = a; right = b }; says = region_outlives; same = refl }
+region_says f (more a (more b (more x z))) y k says = absurd (let p = k.0 in p.1.1)
+region_says f (more a (more b (node l z))) y k says = absurd (let p = k.0 in p.1.1)
+region_says f (more a (node l z)) y k says = absurd (let p = k.0 in p.1)
+region_says f (node l z) y k says = absurd k.0
+
+type_says : (f : Sort → ℕ → Leaf) (c : Tree) (y : Constraint) → IsFormed (node (label.Clause clause.TypeOutlives) c) → SaysOutlives y (node (label.Clause clause.TypeOutlives) (opened f 0 c)) → OpenedSays f (node (label.Clause clause.TypeOutlives) c) y
+type_says f empty y k says = absurd k.0
+type_says f (more a empty) y k says = absurd (let p = k.0 in p.1)
+type_says f (more a (more b empty)) y k type_outlives = record { before = record { relation = relation.TypeOutlives; left = a; right = b }; says = type_outlives; same = refl }
+type_says f (more a (more b (more x z))) y k says = absurd (let p = k.0 in p.1.1)
+type_says f (more a (more b (node l z))) y k says = absurd (let p = k.0 in p.1.1)
+type_says f (more a (node l z)) y k says = absurd (let p = k.0 in p.1)
+type_says f (node l z) y k says = absurd k.0
+
+pub opened_says : (f : Sort → ℕ → Leaf) (s : Tree) (y : Constraint) → IsFormed s → SaysOutlives y (opened f 0 s) → OpenedSays f s y
+opened_says f (node (label.Clause clause.RegionOutlives) c) y k says = region_says f c y k says
+opened_says f (node (label.Clause clause.TypeOutlives) c) y k says = type_says f c y k says
+opened_says f (node (label.Bound o (index.Bound d) n) c) y k says = absurd (not_bound f (d == 0) o d n (opened f 0 c) y says)
+opened_says f empty y k says = elim says [ ]
+opened_says f (more _ _) y k says = elim says [ ]
+opened_says f (node (label.Leaf _) c) y k says = elim says [ ]
+opened_says f (node (label.Bound o index.Canonical n) c) y k says = elim says [ ]
+opened_says f (node (label.Ty _) c) y k says = elim says [ ]
+opened_says f (node (label.Const _) c) y k says = elim says [ ]
+opened_says f (node (label.Clause (clause.Trait _)) c) y k says = elim says [ ]
+opened_says f (node (label.Clause (clause.HostEffect _)) c) y k says = elim says [ ]
+opened_says f (node (label.Clause (clause.Projection _)) c) y k says = elim says [ ]
+opened_says f (node (label.Clause clause.ConstArgHasType) c) y k says = elim says [ ]
+opened_says f (node (label.Clause clause.WellFormed) c) y k says = elim says [ ]
+opened_says f (node (label.Clause clause.ConstEvaluatable) c) y k says = elim says [ ]
+opened_says f (node (label.Clause (clause.UnstableFeature _)) c) y k says = elim says [ ]
+opened_says f (node (label.Predicate _) c) y k says = elim says [ ]
+opened_says f (node (label.List _) c) y k says = elim says [ ]
+
 -- a renaming moves the sides, and so does a world
 pub outlives_renamed : (ρ : Renaming) (x : Constraint) (s : Tree) → SaysOutlives x s → SaysOutlives (constraint_by (rename ρ) x) (rename ρ s)
 outlives_renamed ρ x s region_outlives = region_outlives
 outlives_renamed ρ x s type_outlives = type_outlives
+
+pub says_opened : (ρ : Renaming) (f : Sort → ℕ → Leaf) (x : Constraint) (s : Tree) → SaysOutlives x s → SaysOutlives (constraint_by (λ z. opened f 0 (rename ρ z)) x) (opened f 0 (rename ρ s))
+says_opened ρ f x s region_outlives = region_outlives
+says_opened ρ f x s type_outlives = type_outlives
+
+pub sides_moved : (σ ρ : Renaming) (f p : Sort → ℕ → Leaf) (x : Constraint) (s : Tree) → SaysOutlives x s → rename σ (opened f 0 (rename ρ s)) ≡ opened p 0 s
+    → (rename σ (opened f 0 (rename ρ x.left)) ≡ opened p 0 x.left) × (rename σ (opened f 0 (rename ρ x.right)) ≡ opened p 0 x.right)
+sides_moved σ ρ f p x s region_outlives e = (cc e, cc e)
+sides_moved σ ρ f p x s type_outlives e = (cc e, cc e)
 
 pub outlives_inst : (w : World) (x : Constraint) (s : Tree) → SaysOutlives x s → SaysOutlives (constraint_by (inst w) x) (inst w s)
 outlives_inst w x s region_outlives = region_outlives

@@ -45,7 +45,7 @@ module _ (truth : Truth) (base : ℕ) (c : Content) (w : World) (s : IsSolution 
           let there : universe_of c n ≡ Some v.universe = ap (map_slot (λ x. x.universe)) q in
           NamesAll-more leaf_level v.universe c.universe (w.tree n) (current.universes n v.universe there) (rw there at (s.named.each n))
 
-  names_image : (t : Tree) → Knows c t → NamesAll leaf_level c.universe (inst w t)
+  pub names_image : (t : Tree) → Knows c t → NamesAll leaf_level c.universe (inst w t)
   names_image empty k = tt
   names_image (more a b) k = (names_image a k.0, names_image b k.1)
   names_image (node (label.Leaf (leaf.Variable v n)) t) k = variable_image v n k.0.0
@@ -65,13 +65,13 @@ pub record SomeBegins (h : Handler) (truth : Truth) (Proves : Tree → Tree → 
   pub solution : IsSolution truth 0 (entered_table c g) w
   pub begins : CanBegin truth Proves (entered_table c g) w candidate
 
-record IsBinding (g : Tree) : Type 0 where
+pub record IsBinding (g : Tree) : Type 0 where
   pub first : Tree
   pub rest : Tree
   pub says : Tree
   pub is : g ≡ binding first rest says
 
-binding_shape : (g : Tree) → binds g ≡ true → IsBinding g
+pub binding_shape : (g : Tree) → binds g ≡ true → IsBinding g
 binding_shape (node (label.List list.Binder) (more (node (label.List list.Sorts) (more x xs)) (more s empty))) e = record { first = x; rest = xs; says = s; is = refl }
 binding_shape g e = cc e
 
@@ -89,7 +89,7 @@ module _ (h : Handler) (truth : Truth) (Proves : Tree → Tree → Type 0) (theo
   later_solution c w s =
       solution_later truth 0 c (in_universe c (c.universe + 1)) w w s (omega arith) (Agrees-refl (length c.slots) w) (Solves-in_universe c (c.universe + 1) w s.solves) (record { each = λ n. s.named.each n })
 
-  themselves : (c : Content) (w : World) → IsSolution truth 0 c w → (o : Sort) (n : ℕ) → inst w (leaf_tree (placeholder_in (c.universe + 1) o n)) ≡ leaf_tree (placeholder_in (c.universe + 1) o n)
+  pub themselves : (c : Content) (w : World) → IsSolution truth 0 c w → (o : Sort) (n : ℕ) → inst w (leaf_tree (placeholder_in (c.universe + 1) o n)) ≡ leaf_tree (placeholder_in (c.universe + 1) o n)
   themselves c w s sort.Ty n = refl
   themselves c w s sort.Const n = refl
   themselves c w s sort.Region n = ap (λ z. leaf_tree (leaf.Region z)) (s.new (c.universe + 1) n (omega arith))

@@ -28,7 +28,7 @@ use Rattle.nts_model.specs.Refutation.Choosing.{left_of, right_of}
 use Rattle.nts_model.specs.Derivations.Handlers.{Handler, equation_by, constraint_by, premise_by, application_under, InstancesAreRules}
 use Rattle.nts_model.specs.Refutation.Containing.{Truth, IsTrueBy, IsGroundLabel}
 use Rattle.nts_theory.specs.Outliving.{SaysOutlives}
-use Rattle.nts_theory.proofs.Refutation.Outliving.{outlives_renamed, sides_formed, true_again}
+use Rattle.nts_theory.proofs.Refutation.Outliving.{outlives_renamed, sides_formed, true_again, opened_says, says_opened, sides_moved}
 use Rattle.nts_theory.specs.Refutation.Refutation.{IsCarrying, IsFair, UsesClause, UsesNamed, binding, AreUsed, IsTheory}
 use Rattle.nts_model.proofs.Terms.Substituting.{replace-equal, replace-leaf}
 use Rattle.nts_model.proofs.Terms.Composing.{IsFormed-instance, IsClosed-instance}
@@ -588,6 +588,18 @@ back_again ρ t f = rename_then ρ (back_to ρ) t ∙ replace-equal (λ l. leaf_
 pub forth_again : (ρ : Renaming) (t : Tree) → IsFormed t → rename ρ (rename (back_to ρ) t) ≡ t
 forth_again ρ t f = rename_then (back_to ρ) ρ t ∙ replace-equal (λ l. leaf_tree (ρ.to (ρ.from l))) leaf_tree (λ l. ap leaf_tree (ρ.forth l)) t ∙ replace-leaf t f
 
+-- what a goal that binds variables lacks, what it says lacks
+fewer : (e x xs s : Tree) (f : Sort → ℕ → Leaf) → AreAbsent (pair e (binding x xs s)) f → AreAbsent (pair e s) f
+fewer e x xs s f a = record {
+  moves = a.moves;
+  sorts = a.sorts;
+  distinct = a.distinct;
+  absent = λ o n i. a.absent o n (elim i [
+    | inl j ↦ inl j
+    | inr j ↦ (elim j [ inl k ↦ inr (inl (inr (inr (inl k)))) | inr k ↦ absurd k ])
+  ]);
+}
+
 binding_same : (x xs s y ys t : Tree) → binding x xs s ≡ binding y ys t → s ≡ t
 binding_same x xs s y ys t e = cc e
 
@@ -675,17 +687,6 @@ module _ (h : Handler) (truth : Truth) (Proves : Tree → Tree → Type 0) (rule
       let new : AreAbsent (pair e s) fresh =
       subst (λ y. AreAbsent (pair y s) fresh) c.is_environment (subst (λ y. AreAbsent (pair (rename c.by c.environment) y) fresh) back (absent_renamed c.by c.carrying (pair c.environment t) u.fresh old)) in
       uses_swapped e s (f.0, (fs, tt)) fresh p new a h truth Later rules fair carried_kept w
-    where
-      fewer : (e x xs s : Tree) (f : Sort → ℕ → Leaf) → AreAbsent (pair e (binding x xs s)) f → AreAbsent (pair e s) f
-      fewer e x xs s f a = record {
-        moves = a.moves;
-        sorts = a.sorts;
-        distinct = a.distinct;
-        absent = λ o n i. a.absent o n (elim i [
-          | inl j ↦ inl j
-          | inr j ↦ (elim j [ inl k ↦ inr (inl (inr (inr (inl k)))) | inr k ↦ absurd k ])
-        ]);
-      }
 
   opened_named : (u : ℕ) (e x xs s : Tree) → Later e (binding x xs s) → IsHandlers (opened (placeholder_in (u + 1)) 0 s) → IsFormed (opened (placeholder_in (u + 1)) 0 s) → NamesAll leaf_level u (pair e s)
       → UsesNamed h truth Later (u + 1) e (opened (placeholder_in (u + 1)) 0 s)
@@ -707,6 +708,35 @@ module _ (h : Handler) (truth : Truth) (Proves : Tree → Tree → Type 0) (rule
       true_again truth fair c.by c.carrying (forth_again c.by) x.relation x.left x.right sides.0 sides.1
       (used.outlives c.environment (rename b s) (constraint_by (rename b) x) (subst (Proves c.environment) is c.proved) (outlives_renamed b x s says) (IsClosed-instance (instance_by b k) s z))
 
+  -- .. and with placeholders of the next universe
+  outlives_opened_later : (u : ℕ) (e x xs s : Tree) (y : Constraint) → Later e (binding x xs s) → SaysOutlives y (opened (placeholder_in (u + 1)) 0 s) → NamesAll leaf_level u (pair e s) → IsTrueBy truth y.relation y.left y.right
+  outlives_opened_later u e x xs s y c says n =
+      let p = placeholder_in (u + 1) in
+      let a = absent_fresh (pair e s) p (fresh_in u (u + 1) (pair e s) (omega arith) n) in
+      let b = back_to c.by in
+      let k = back_carrying c.by c.carrying in
+      let t = rename b s in
+      let is : c.predicate ≡ binding (rename b x) (rename b xs) t = before e (binding x xs s) c in
+      let v = used.outlives_opened c.environment (rename b x) (rename b xs) t (subst (Proves c.environment) is c.proved) in
+      let f = formed_later e (binding x xs s) c in
+      let fs : IsFormed s = (let z = f.1.0 in z.1.1.0) in
+      let fresh : Sort → ℕ → Leaf = λ o i. c.by.to (v.fresh o i) in
+      let back : rename c.by t ≡ s = forth_again c.by s fs in
+      let q : rename c.by (opened v.fresh 0 t) ≡ opened fresh 0 s = rename_opened c.by v.fresh 0 t ∙ ap (opened fresh 0) back in
+      let old : AreAbsent (pair c.environment t) v.fresh = fewer c.environment (rename b x) (rename b xs) t v.fresh (absent_fresh (pair c.environment (binding (rename b x) (rename b xs) t)) v.fresh v.are_fresh) in
+      let new : AreAbsent (pair e s) fresh =
+      subst (λ z. AreAbsent (pair z s) fresh) c.is_environment (subst (λ z. AreAbsent (pair (rename c.by c.environment) z) fresh) back (absent_renamed c.by c.carrying (pair c.environment t) v.fresh old)) in
+      let w = swap e s (f.0, (fs, tt)) fresh p new a in
+      let σ = then_by c.by w in
+      let kσ = then_carrying c.by w c.carrying (swap_carrying e s (f.0, (fs, tt)) fresh p new a) in
+      let whole : rename σ (opened v.fresh 0 t) ≡ opened p 0 s = sym (rename_then c.by w (opened v.fresh 0 t)) ∙ ap (rename w) q ∙ swap_opened e s (f.0, (fs, tt)) fresh p new a in
+      let o = opened_says p s y fs says in
+      let moved = sides_moved σ b v.fresh p o.before s o.says whole in
+      let there = v.holds _ (says_opened b v.fresh o.before s o.says) in
+      let r = o.before.relation in
+      let known : IsTrueBy truth r (rename σ (opened v.fresh 0 (rename b o.before.left))) (rename σ (opened v.fresh 0 (rename b o.before.right))) = true_renamed truth fair σ kσ r _ _ there in
+      subst (λ z. IsTrueBy truth z.relation z.left z.right) (sym o.same) (subst (λ z. IsTrueBy truth r (opened p 0 o.before.left) z) moved.1 (subst (λ z. IsTrueBy truth r z (rename σ (opened v.fresh 0 (rename b o.before.right)))) moved.0 known))
+
   -- what is carried is a theory
   pub carried_theory : IsTheory h truth Later
   carried_theory =
@@ -716,4 +746,5 @@ module _ (h : Handler) (truth : Truth) (Proves : Tree → Tree → Type 0) (rule
         plain = plain_named;
         opened = opened_named;
         outlives = outlives_later;
+        outlives_opened = outlives_opened_later;
       }

@@ -11,7 +11,7 @@ use Rattle.nts_model.specs.Derivations.Sequents.{Premise}
 use Rattle.nts_model.specs.Derivations.Rules.{Mode, coherence}
 use Rattle.nts_model.specs.Terms.Substitutions.{instance_of}
 use Rattle.nts_model.specs.Derivations.Handlers.{Handler, Candidate, IsLawfulHandler}
-use Rattle.nts_model.specs.Refutation.Opening.{entered_table}
+use Rattle.nts_model.specs.Refutation.Opening.{entered_table, opened_in}
 use Rattle.nts_model.specs.Canonical.Inputs.{PositionKind, canonical_of, originals}
 use Rattle.nts_model.specs.Answers.Responses.{IsQueryTable}
 use Rattle.nts_model.specs.Refutation.Containing.{Truth, IsSolution, AreInputValues, ContainsSolution, AnswerContains, HasNoSolution, SolvesGoals, ExtendsTo}
@@ -25,8 +25,8 @@ use Rattle.nts_theory.proofs.Refutation.Answered.{AreTermsOf, askable, asked_sol
 use Rattle.nts_theory.proofs.Refutation.Entering.{entered as enters}
 use Rattle.nts_theory.proofs.Refutation.Trying.{same_positions}
 use Rattle.nts_theory.proofs.Refutation.Agreeing.{AreNumberedKinds, identity_contains, nothing_contains, kinds_agree, terms_long}
-use Rattle.nts_theory.proofs.Refutation.Opening.{CanBegin}
-use Rattle.nts_theory.proofs.Refutation.Recording.{recorded_solution}
+use Rattle.nts_theory.proofs.Refutation.Opening.{CanBegin, added}
+use Rattle.nts_theory.proofs.Refutation.Recording.{recorded_true}
 use Rattle.nts_theory.proofs.Refutation.Readying.{some_begins}
 use Rattle.nts_theory.specs.Telling.{Verdict, Queries, AreTermsOfKinds, StandsForAll, SaysOf, IsFound, without_constraints, IsPlainResponse, goals_with, Tells, tells_nothing, says_nothing, tells_one, tells_outlives, Refutes, all_fail, Outcomes, no_outcome, then_fails, then_replies, Replies, replies, Fails, is_unmet, is_refused, is_leaky, Reaches, asks_nothing, then_asks, RefusesOne, refuses_one, cuts_one, Asked, asked_by, Refused, by_query, by_response}
 use Rattle.nts_theory.proofs.Refutation.Queried.{BeginsEach, Leads, Reached, IsSolved, IsQuery, first_query, IsTried, tried, tried_knows, found_table, solution_without, entered_solution, says_contains, says_long}
@@ -97,10 +97,12 @@ module _ (Q : Queries) (begins : BeginsEach Q) (h : Handler) (truth : Truth) (Pr
         let one = outcomes_contain all (tried ks c e g qs q) w x.solution x.candidate x.offered x.begins in
         stands_contains ks qs vs v ts q.numbered q.kinds s.values (outcome_long all) stands (subst (OneContains truth vs) s.images one)
     tells_contain {ks} {c} {e} {g} {qs} {v} (tells_outlives x is r) q ts w s =
-        let there = recorded_solution truth Proves h theory c r.found e g w x is r.adds (let z = q.knows in z.1.0) s.solution s.proved in
-        let t : IsTried ks c e g qs = record { placed = q.placed; table = q.table; environment = q.environment; predicate = q.predicate } in
-        subst (ContainsSolution truth v.response) (same_positions c w there.world qs there.agrees (tried_knows ks c e g qs t) ∙ s.images)
-        (says_contains truth ks r.found qs v.response q.placed (found_table ks c r.found e g qs t r.is_found there.keeps) r.says there.world there.solution)
+        let here = entered_table c g in
+        let true_there = recorded_true h truth Proves theory lawful law c e g w s.solution q.current q.knows s.proved x is in
+        let there = added truth 0 x here r.found w r.adds (entered_solution truth c g w s.solution) true_there in
+        let t = tried ks c e g qs q in
+        subst (ContainsSolution truth v.response) (same_positions here w there.world qs there.agrees (tried_knows ks here e (opened_in c g) qs t) ∙ s.images)
+        (says_contains truth ks r.found qs v.response q.placed (found_table ks here r.found e (opened_in c g) qs t r.is_found there.keeps) r.says there.world there.solution)
 
     pub refutes_none : {ks : List PositionKind} {c : Content} {e g : Tree} {qs : List Tree} → Refutes Q h coherence c e g qs → IsQuery ks c e g qs → (ts : List Tree) (w : World) → IsSolved truth Proves ks c e g qs ts w → ⊥
     refutes_none {ks} {c} {e} {g} {qs} (all_fail ready all) q ts w s =

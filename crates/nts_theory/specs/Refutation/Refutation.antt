@@ -65,10 +65,17 @@ binding x xs s = bound (more x xs) s
 pub record IsTheory (h : Handler) (truth : Truth) (Proves : Tree → Tree → Type 0) : Type 0 where
   pub ground : AreGround Proves
   pub kept : (ρ : Renaming) → IsCarrying ρ → (e g : Tree) → Proves e g → Proves (rename ρ e) (rename ρ g)
+  pub outlives : (e s : Tree) (y : Constraint) → Proves e (unbound s) → SaysOutlives y s → IsClosed s → IsTrueBy truth y.relation y.left y.right
+  pub outlives_opened : (u : ℕ) (e x xs s : Tree) (y : Constraint) → Proves e (binding x xs s) → SaysOutlives y (opened (placeholder_in (u + 1)) 0 s) → NamesAll leaf_level u (pair e s) → IsTrueBy truth y.relation y.left y.right
   pub plain : (u : ℕ) (e s : Tree) → Proves e (unbound s) → IsHandlers s → IsClosed s → NamesAll leaf_level u (pair e s) → UsesNamed h truth Proves u e s
   pub opened : (u : ℕ) (e x xs s : Tree) → Proves e (binding x xs s) → IsHandlers (opened (placeholder_in (u + 1)) 0 s) → IsFormed (opened (placeholder_in (u + 1)) 0 s) → NamesAll leaf_level u (pair e s)
       → UsesNamed h truth Proves (u + 1) e (opened (placeholder_in (u + 1)) 0 s)
-  pub outlives : (e s : Tree) (x : Constraint) → Proves e (unbound s) → SaysOutlives x s → IsClosed s → IsTrueBy truth x.relation x.left x.right
+
+-- what a goal that binds variables says that outlives what does so with fresh placeholders for them
+pub record OutlivesOpened (truth : Truth) (e c s : Tree) : Type 0 where
+  pub fresh : Sort → ℕ → Leaf
+  pub are_fresh : AreFresh (pair e c) fresh
+  pub holds : (y : Constraint) → SaysOutlives y (opened fresh 0 s) → IsTrueBy truth y.relation y.left y.right
 
 -- a goal that binds variables follows with fresh placeholders for them
 pub record UsesOpened (h : Handler) (truth : Truth) (Proves : Tree → Tree → Type 0) (e c s : Tree) : Type 0 where
@@ -82,7 +89,8 @@ pub record AreUsed (h : Handler) (truth : Truth) (Proves : Tree → Tree → Typ
   pub ground : AreGround Proves
   pub plain : (e s : Tree) → Proves e (unbound s) → IsHandlers s → IsClosed s → UsesClause h truth Proves e s
   pub opened : (e x xs s : Tree) → Proves e (binding x xs s) → IsHandlers s → UsesOpened h truth Proves e (binding x xs s) s
-  pub outlives : (e s : Tree) (x : Constraint) → Proves e (unbound s) → SaysOutlives x s → IsClosed s → IsTrueBy truth x.relation x.left x.right
+  pub outlives : (e s : Tree) (y : Constraint) → Proves e (unbound s) → SaysOutlives y s → IsClosed s → IsTrueBy truth y.relation y.left y.right
+  pub outlives_opened : (e x xs s : Tree) → Proves e (binding x xs s) → OutlivesOpened truth e (binding x xs s) s
 
 -- an instance that leaves no region variable: each has been assigned a free region
 pub record IsGroundInstance (ι : Instance) : Type 0 where

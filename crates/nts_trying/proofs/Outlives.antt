@@ -1,0 +1,170 @@
+-- Goals that something outlives a region: which statements are such, and that one holds where its constraint is held.
+use Rattle.std.proofs.Common.{◌≡◌, inl, inr, ℕ, ◌+◌, Bool, true, false, List, [], Some, is_some, refl, sym, ap, ◌∙◌, subst}
+use Rattle.std.specs.Prelude.{◌⊎◌}
+use Rattle.nts_model.specs.declared.labels.Sort.TheVariants as sort
+use Rattle.nts_model.specs.declared.labels.Relation.{Relation}
+use Rattle.nts_model.specs.declared.labels.Relation.TheVariants as relation
+use Rattle.nts_model.specs.Terms.Trees.{Tree, empty, more, node, kind_of, of_sort, any_label, is_canonical, is_alias, IsClosed, IsFormed}
+use Rattle.nts_model.specs.Terms.Regions.{IsRegion}
+use Rattle.nts_model.specs.Tables.Contents.{Content}
+use Rattle.nts_model.specs.Tables.Recording.{left_kind}
+use Rattle.nts_model.specs.Tables.Resolving.{Knows, deeply_resolved, IsSound}
+use Rattle.nts_model.specs.Derivations.Related.{Constraint, pair, unbound}
+use Rattle.nts_model.specs.Derivations.Sequents.{Premise, IsOfTerms, HasClosedStatement, HasClosedStatements}
+use Rattle.nts_model.specs.Derivations.Rules.{Meaning, Mode, opened, AreFresh, bound, IsBuiltIn, region_lives, type_lives}
+use Rattle.nts_model.specs.Derivations.Handlers.{constraint_by}
+use Rattle.nts_model.specs.Derivations.Proofs.{Assumed}
+use Rattle.nts_model.specs.Derivations.Proving.{HoldsTerms, AreConstraintsOf, IsTermOf, recorded_as, sequent_at}
+use Rattle.nts_model.specs.Tables.Holding.{HoldsConstraint, Continues}
+use Rattle.nts_model.specs.Searching.Stacks.{IsProvedFrom}
+use Rattle.nts_model.proofs.Tables.Fitting.{IsClosed-under}
+use Rattle.nts_model.proofs.Tables.ResolvedTerms.{IsFormed-deeply_resolved, IsClosed-deeply_resolved}
+use Rattle.nts_model.proofs.Tables.Open.{Knows-deeply_resolved}
+use Rattle.nts_model.proofs.Terms.Unpositioned.{known_no_positions, known_well_bound, pair_no_positions}
+use Rattle.nts_model.proofs.Tables.Alike.{IsRegion-deeply_resolved}
+use Rattle.nts_model.proofs.Tables.TableInstances.{reading_of, instance_of-reading}
+use Rattle.nts_model.proofs.Terms.Composing.{IsClosed-instance}
+use Rattle.nts_model.specs.Terms.Substitutions.{instance_of}
+use Rattle.nts_theory.proofs.Derivations.ClosedStatements.{closed_unbound, closed_statements_instance}
+use Rattle.nts_decisions.proofs.RelatedRegions.{region_of_kind}
+use Rattle.nts_model.specs.declared.labels.Leaf.{Leaf}
+use Rattle.nts_model.specs.declared.labels.ListHead.TheVariants as list
+use Rattle.nts_model.specs.declared.labels.Label.TheVariants as label
+use Rattle.nts_model.specs.declared.labels.Sort.{Sort}
+use Rattle.nts_model.specs.Tables.Levels.{IsLevelled, AreRegionsLevelled, AreCurrent}
+use Rattle.nts_model.specs.Refutation.Opening.{binds, placeholder_in, opened_in}
+use Rattle.nts_theory.proofs.Derivations.ByCandidate.{IsGranted, granted}
+use Rattle.nts_theory.proofs.Derivations.Served.{IsClosedEnvironment}
+use Rattle.nts_theory.proofs.Derivations.ClosedStatements.{one_statement}
+use Rattle.nts_theory.proofs.Refutation.OpenedProofs.{fresh_later}
+use Rattle.nts_theory.proofs.Aliases.OpenedRules.{opened_rule, statement_reads}
+use Rattle.nts_trying.specs.Outlives.{IsClosedEnv}
+use Rattle.nts_theory.specs.Outliving.{SaysOutlives, region_outlives, type_outlives, IsOutlives}
+use Rattle.nts_theory.proofs.Aliases.BuiltIn.{by_engine}
+use Rattle.nts_terms.specs.declared.kinds.ClauseKind.{ClauseKind}
+use Rattle.nts_terms.specs.declared.kinds.ClauseKind.TheVariants as clause
+use Rattle.nts_terms.specs.declared.kinds.PredicateKind.{PredicateKind}
+use Rattle.nts_terms.specs.declared.kinds.PredicateKind.TheVariants as predicate
+use Rattle.nts_terms.specs.declared.handles.Ty.{Ty}
+use Rattle.nts_terms.specs.declared.handles.Region.{Region}
+use Rattle.nts_terms.specs.Kinds.{tree_of_clause, tree_of_statement}
+
+-- statements of other kinds
+pub other_clause_says : (ts : List Tree) (k : ClauseKind) (x : Constraint) → ((t : Ty) (r : Region) → k ≡ clause.TypeOutlives t r → ⊥) → ((a b : Region) → k ≡ clause.RegionOutlives a b → ⊥) → SaysOutlives x (tree_of_clause ts k) → ⊥
+other_clause_says ts (clause.TypeOutlives t r) x n m h = n t r refl
+other_clause_says ts (clause.RegionOutlives a b) x n m h = m a b refl
+
+pub other_statement_says : (ts : List Tree) (k : PredicateKind) (x : Constraint) → ((c : ClauseKind) → k ≡ predicate.Clause c → ⊥) → SaysOutlives x (tree_of_statement ts k) → ⊥
+other_statement_says ts (predicate.Clause c) x n h = n c refl
+
+-- the sides of a statement are of its sorts, closed where it is, and formed
+pub right_region : (x : Constraint) (s : Tree) → SaysOutlives x s → IsFormed s → kind_of x.right ≡ Some (of_sort sort.Region)
+right_region x s region_outlives f = (let p = f.0 in p.1.0)
+right_region x s type_outlives f = (let p = f.0 in p.1.0)
+
+pub left_sort : (x : Constraint) (s : Tree) → SaysOutlives x s → IsFormed s → kind_of x.left ≡ Some (left_kind x.relation)
+left_sort x s region_outlives f = (let p = f.0 in p.0)
+left_sort x s type_outlives f = (let p = f.0 in p.0)
+
+pub outlives_no_equality : (x : Constraint) (s : Tree) → SaysOutlives x s → x.relation ≡ relation.Equal → ⊥
+outlives_no_equality x s region_outlives e = cc e
+outlives_no_equality x s type_outlives e = cc e
+
+-- .. each of them
+pub record AreSidesOf (P : Tree → Type 0) (x : Constraint) : Type 0 where
+  pub left : P x.left
+  pub right : P x.right
+
+pub closed_sides : (x : Constraint) (s : Tree) → SaysOutlives x s → IsClosed s → AreSidesOf IsClosed x
+closed_sides x s region_outlives c = record { left = (let y = c.1 in y.0); right = (let y = c.1 in y.1.0) }
+closed_sides x s type_outlives c = record { left = (let y = c.1 in y.0); right = (let y = c.1 in y.1.0) }
+
+pub formed_sides : (x : Constraint) (s : Tree) → SaysOutlives x s → IsFormed s → AreSidesOf IsFormed x
+formed_sides x s region_outlives c = record { left = (let y = c.1 in y.0); right = (let y = c.1 in y.1.0) }
+formed_sides x s type_outlives c = record { left = (let y = c.1 in y.0); right = (let y = c.1 in y.1.0) }
+
+pub known_sides : (c : Content) (x : Constraint) (s : Tree) → SaysOutlives x s → Knows c s → AreSidesOf (Knows c) x
+known_sides c x s region_outlives k = record { left = (let y = k.1 in y.0); right = (let y = k.1 in y.1.0) }
+known_sides c x s type_outlives k = record { left = (let y = k.1 in y.0); right = (let y = k.1 in y.1.0) }
+
+-- a goal that something outlives a region follows by the engine's rule in a table that holds that
+module _ (m : Meaning) (mode : Mode) (A : List Assumed) (c : Content) (s : IsSound c) (t : HoldsTerms c) (k : AreConstraintsOf c) (e : Tree) (ke : IsTermOf c e) (env : IsClosedEnv e) (o : Tree) (x : Constraint) (says : IsOutlives o x) (ko : IsTermOf c o) where
+  abbrev read : Tree → Tree
+  read = instance_of (reading_of c s t)
+
+  read_as : (u : Tree) → Knows c u → IsFormed u → read u ≡ deeply_resolved c u
+  read_as u n f = instance_of-reading c s t u n f
+
+  statement_known : Knows c says.statement
+  statement_known = (let f : Knows c (unbound says.statement) = subst (Knows c) says.binds_nothing ko.knows in f.1.1.0)
+
+  read_closed : IsClosedEnvironment (deeply_resolved c e)
+  read_closed =
+      let there = Knows-deeply_resolved c e s ke.knows in
+      record {
+        closed = IsClosed-deeply_resolved c e t env.closed;
+        no_positions = known_no_positions c (deeply_resolved c e) there;
+        well_bound = known_well_bound c (deeply_resolved c e) there;
+        statements = subst HasClosedStatements (read_as e ke.knows ke.formed) (closed_statements_instance (reading_of c s t) e ke.formed env.statements);
+      }
+
+  read_region : (u : Tree) → kind_of u ≡ Some (of_sort sort.Region) → Knows c u → IsFormed u → IsClosed u → IsRegion (read u)
+  read_region u r n f z = subst IsRegion (sym (read_as u n f)) (IsRegion-deeply_resolved c u (region_of_kind u r f z (known_no_positions c u n)))
+
+  read_granted : (y : Constraint) (u : Tree) → SaysOutlives y u → Knows c u → IsFormed u → HoldsConstraint c (recorded_as y) → IsGranted c (constraint_by read y)
+  read_granted y u w n f h =
+      let ns = known_sides c y u w n in
+      let fs = formed_sides y u w f in
+      rw (read_as y.left ns.left fs.left, read_as y.right ns.right fs.right) (granted c y.relation y.left y.right h)
+
+  built : (P : Premise → Type 0) (y : Constraint) (u : Tree) → SaysOutlives y u → Knows c u → IsFormed u → IsClosed u → HoldsConstraint c (recorded_as y) → IsBuiltIn m (λ z. Unit {0}) (IsGranted c) P (deeply_resolved c e) (read u)
+  built P y u region_outlives n f z h =
+      let ns = known_sides c y u region_outlives n in
+      let fs = formed_sides y u region_outlives f in
+      let zs = closed_sides y u region_outlives z in
+      region_lives (read_region y.left (left_sort y u region_outlives f) ns.left fs.left zs.left) (read_region y.right (right_region y u region_outlives f) ns.right fs.right zs.right) (read_granted y u region_outlives n f h)
+  built P y u type_outlives n f z h =
+      let ns = known_sides c y u type_outlives n in
+      let fs = formed_sides y u type_outlives f in
+      let zs = closed_sides y u type_outlives z in
+      type_lives (read_region y.right (right_region y u type_outlives f) ns.right fs.right zs.right) (read_granted y u type_outlives n f h)
+
+  holds_built : (P : Premise → Type 0) → HoldsConstraint c (recorded_as x) → IsBuiltIn m (λ z. Unit {0}) (IsGranted c) P (deeply_resolved c e) (read says.statement)
+  holds_built P h = built P x says.statement says.says statement_known says.formed says.closed h
+
+  goal_read : deeply_resolved c o ≡ unbound (read says.statement)
+  goal_read = sym (read_as o ko.knows ko.formed) ∙ ap read says.binds_nothing
+
+  whole_closed : IsClosed o
+  whole_closed = rw says.binds_nothing (tt, ((tt, tt), (IsClosed-under 1 says.statement says.closed, tt)))
+
+  terms : IsOfTerms (sequent_at c e o)
+  terms =
+      let known = Knows-deeply_resolved c o s ko.knows in
+      let here = read_closed in
+      record {
+        formed = (IsFormed-deeply_resolved c e s t ke.knows ke.formed, (IsFormed-deeply_resolved c o s t ko.knows ko.formed, tt));
+        closed = (here.closed, (IsClosed-deeply_resolved c o t whole_closed, tt));
+        no_positions = pair_no_positions (deeply_resolved c e) (deeply_resolved c o) here.no_positions (known_no_positions c (deeply_resolved c o) known);
+        well_bound = (here.well_bound, (known_well_bound c (deeply_resolved c o) known, tt));
+        statement = subst HasClosedStatement (sym goal_read) (closed_unbound (read says.statement) (IsClosed-instance (reading_of c s t) says.statement says.closed));
+        statements = here.statements;
+      }
+
+  -- a goal that binds nothing
+  proved_plain : HoldsConstraint c (recorded_as x) → IsProvedFrom m mode A c e o
+  proved_plain h = by_engine m mode A c s t k e o (read says.statement) goal_read terms (holds_built _ h)
+
+  -- .. and one that binds variables, by what it says of fresh placeholders
+  proved_binding : (f : Sort → ℕ → Leaf) (v vs u : Tree) → IsTermOf c (bound (more v vs) u) → IsClosed (bound (more v vs) u) → AreFresh (pair (deeply_resolved c e) (deeply_resolved c (bound (more v vs) u))) f → o ≡ unbound (opened f 0 u) → HoldsConstraint c (recorded_as x)
+      → IsProvedFrom m mode A c e (bound (more v vs) u)
+  proved_binding f v vs u kg closed fresh is h =
+      opened_rule m mode A c s t k e ke read_closed v vs u f kg closed fresh (read says.statement)
+      (ap read (one_statement says.statement (opened f 0 u) (sym says.binds_nothing ∙ is)) ∙ statement_reads m mode A c s t k e ke read_closed v vs u f kg closed fresh) [] (λ q i. absurd i) (inr (holds_built _ h))
+
+-- so does a goal that a table knew before it was opened there
+pub outlives_proved : (m : Meaning) (mode : Mode) (A : List Assumed) (c : Content) (s : IsSound c) (t : HoldsTerms c) (k : AreConstraintsOf c) (b : Content) (e g : Tree) (x : Constraint) → AreCurrent b → Continues b c → IsLevelled c → AreRegionsLevelled c
+    → IsTermOf b e → IsTermOf b g → IsTermOf c e → IsTermOf c g → IsTermOf c (opened_in b g) → IsClosedEnv e → (binds g ≡ true → IsClosed g) → IsOutlives (opened_in b g) x → HoldsConstraint c (recorded_as x) → IsProvedFrom m mode A c e g
+outlives_proved m mode A c s t k b e (node (label.List list.Binder) (more (node (label.List list.Sorts) (more v vs)) (more u empty))) x now later l r te tg ke kg ko env closed says h =
+    proved_binding m mode A c s t k e ke env (unbound (opened (placeholder_in (b.universe + 1)) 0 u)) x says ko (placeholder_in (b.universe + 1)) v vs u kg (closed refl) (fresh_later b c e (bound (more v vs) u) te.knows tg.knows now later l r) refl h
+outlives_proved m mode A c s t k b e g x now later l r te tg ke kg ko env closed says h = proved_plain m mode A c s t k e ke env g x says kg h
