@@ -13,4 +13,4 @@ pub mod Adding
 pub mod LeftOut
 pub mod Instances
 pub mod Unasked
-pub mod Outlives
+pub mod Outliving

@@ -50,9 +50,9 @@ use Rattle.nts_meaning.specs.Telling.{Outcomes}
 use Rattle.nts_theory.specs.Telling.{IsPlainResponse, Verdict, IsReady, IsTraitGoal, StandsForAll, SaysRecorded}
 use Rattle.nts_theory.specs.Telling.Tells.{tells_nothing, tells_one, tells_outlives}
 use Rattle.nts_theory.specs.Outliving.{IsOutlives}
-use Rattle.nts_trying.specs.Outlives.{IsClosedEnv, IsOutlivesGoal, constraint_at, HoldsIn}
+use Rattle.nts_trying.specs.Outliving.{IsClosedEnv, IsOutlivesGoal, constraint_at, HoldsIn}
 use Rattle.nts_trying.specs.declared.outlives.Outlives.{Outlives}
-use Rattle.nts_trying.proofs.Outlives.{outlives_proved}
+use Rattle.nts_trying.proofs.Outliving.{outlives_proved}
 use Rattle.nts_theory.specs.Telling.Refutes.{all_fail}
 use Rattle.nts_meaning.specs.Answering.{is_yes, verdict_at}
 use Rattle.nts_model.specs.Answers.Applying.{IsProperContent}
@@ -147,7 +147,7 @@ module _ {a b : List Tree} {t u : Table} {g o : Goal} (posed : IsPosed a t g) (o
   outlives_told x says h mode qs e r same told ks =
       let y = constraint_at b x in
       let v = verdict_at e r in
-      tells_outlives y (subst (λ z. IsOutlives z y) opens.predicate says.says)
+      tells_outlives y (subst (λ z. IsOutlives z y) opens.predicate (let i = says.is in i.says))
       (subst (λ z. SaysRecorded y z (tree_at a g.param_env.node) (opened_in before (tree_at a g.predicate.node)) (trees_of a qs) v) opens.table
       (subst (λ z. SaysRecorded y there (tree_at a g.param_env.node) z (trees_of a qs) v) opens.predicate
       (subst (λ z. SaysRecorded y there z (tree_at b o.predicate.node) (trees_of a qs) v) environment_same (subst (λ z. SaysRecorded y there (tree_at b o.param_env.node) (tree_at b o.predicate.node) z v) same told))))
@@ -223,7 +223,7 @@ module _ {a b : List Tree} {t u : Table} {g o : Goal} (posed : IsPosed a t g) (o
       let ko : Knows c (opened_in before p) = subst (Knows c) opens.predicate (Knows-goes (tree_at b o.predicate.node) goes there_posed.knows.predicate) in
       let current = posed.table.now.proper.current in
       let proved = outlives_proved m mode A c terms.sound terms.values terms.constraints before e p (constraint_at b x) current later solvable.levelled proper.regions (record { knows = posed.knows.env; formed = fe }) (record { knows = posed.knows.predicate; formed = fp })
-      (record { knows = ke; formed = fe }) (record { knows = kp; formed = fp }) (record { knows = ko; formed = fo }) (subst IsClosedEnv environment_same says.environment) opens.closed (subst (λ z. IsOutlives z (constraint_at b x)) opens.predicate says.says) held in
+      (record { knows = ke; formed = fe }) (record { knows = kp; formed = fp }) (record { knows = ko; formed = fo }) (subst IsClosedEnv environment_same (let i = says.is in i.environment)) opens.closed (subst (λ z. IsOutlives z (constraint_at b x)) opens.predicate (let i = says.is in i.says)) held in
       subst (λ z. IsProvedFrom m mode A c z (tree_at d g.predicate.node)) (sym env) (subst (λ z. IsProvedFrom m mode A c e z) (sym pred) proved)
 
 pub opened_holds : (ts : List Tree) (t : Table) (o : Option Goal) → IfSome o (IsPosed ts t) → IfSome o (HoldsGoal ts)

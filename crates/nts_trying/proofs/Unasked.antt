@@ -72,7 +72,7 @@ pub asked_statements : (ts : List Tree) (g : Goal) → IsAskedGoal ts g → HasC
 asked_statements ts g h = h.asked.asked.statements
 
 -- what a binder lists
-abbrev listed_of : Tree → Tree
+abbrev pub listed_of : Tree → Tree
 listed_of (node l (more v r)) = v
 listed_of t = empty
 

@@ -5,5 +5,5 @@ pub mod Found
 pub mod Stepping
 pub mod Adding
 pub mod Rows
-pub mod Outlives
+pub mod Outliving
 pub mod Stopping

@@ -4,7 +4,7 @@ use Rattle.nts_model.specs.Terms.Trees.{Tree}
 use Rattle.nts_terms.specs.declared.handles.Goal.{Goal}
 use Rattle.nts_meaning.specs.Evaluation.{IsAskedGoal}
 use Rattle.nts_model.specs.Derivations.Related.{Constraint}
-use Rattle.nts_trying.specs.Outlives.{OutlivesIn, IsOutlivesGoal}
+use Rattle.nts_trying.specs.Outliving.{OutlivesIn, IsOutlivesGoal}
 use Rattle.nts_trying.specs.declared.kinds.GoalRow.{GoalRow}
 use Rattle.nts_trying.specs.declared.kinds.GoalRow.TheVariants as row
 

@@ -1,17 +1,20 @@
 //! Goals that say of a type or a region that it outlives a region.
-ghost use Rattle.std.specs.Prelude.{◌≡◌, ◌↔◌, IsTrue, All, IfOk, OnOk, IsOkUnless, List};
+ghost use Rattle.std.specs.Prelude.{◌≡◌, ◌↔◌, IsTrue, All, IfOk, IfSome, IsNone, OnOk, IsOkUnless, List};
 ghost use Rattle.nts_model.specs.Terms.Trees.{Tree};
 ghost use Rattle.nts_store.specs.Growth.{tree_at};
+ghost use Rattle.nts_terms.specs.Kinds.{StatementFits, tree_of_statement};
 ghost use Rattle.nts_terms.specs.Handles.{HoldsGoal, HoldsEnv};
 ghost use Rattle.nts_terms.specs.Rest.{Grows};
 ghost use Rattle.nts_canonical.specs.Building.{IsArgOf};
 ghost use Rattle.nts_canonical.specs.Forms.{trees_of};
 ghost use Rattle.nts_unify.specs.Reading.{content_of};
+ghost use Rattle.nts_model.specs.Derivations.Related.{Constraint};
+ghost use Rattle.nts_theory.specs.Outliving.{SaysOutlives};
 ghost use Rattle.nts_theory.specs.Telling.{SaysRecorded};
 ghost use Rattle.nts_meaning.specs.Answering.{verdict_at};
 ghost use Rattle.nts_meaning.specs.Evaluation.{IsPosed};
 ghost use Rattle.nts_trying.specs.Found.{Found};
-ghost use Rattle.nts_trying.specs.Outlives.{IsSaidBy, IsClosedEnv, SaysWhatOutlives, IsOutlivesGoal, constraint_at, HoldsIn};
+ghost use Rattle.nts_trying.specs.Outliving.{AreSidesIn, IsClosedEnv, SaysWhatOutlives, IsOutlivesGoal, constraint_at, HoldsIn};
 
 use crate::candidate::record_outlives;
 use crate::kinds::statements_are_closed;
@@ -33,7 +36,12 @@ pub struct Outlives {
 
 /// What a statement says that outlives what.
 fn outlives_of(statement: PredicateKind) -> Option<Outlives>
-    ensures { (ts : List Tree) → IsSaidBy ts statement result }
+    ensures found { IfSome result (λ o. (ts : List Tree) → SaysOutlives (constraint_at ts o)
+        (tree_of_statement ts statement)) }
+    ensures none { IsNone result → (ts : List Tree) (x : Constraint) → SaysOutlives x
+        (tree_of_statement ts statement) → ⊥ }
+    ensures sides { IfSome result (λ o. (ts : List Tree) → StatementFits ts statement →
+        AreSidesIn ts o) }
 {
     let PredicateKind::Clause(clause) = statement else {
         return None;
@@ -117,7 +125,6 @@ pub fn answer_outlives(
 {
     cx.terms_are_formed();
     record_outlives(table, cx, outlives.relation, outlives.left, outlives.right)?;
-    cx.terms_are_formed();
     let response = boxed_response(table, cx, values, Certainty::Yes)?;
     Ok(response)
 }

@@ -36,7 +36,8 @@ use Rattle.nts_store.specs.Kept.{map-kept, AllIn-kept}
 use Rattle.nts_theory.specs.Telling.{IsPlainResponse, SaysNothing}
 use Rattle.nts_theory.specs.Telling.Tells.{tells_nothing, says_nothing}
 use Rattle.nts_theory.specs.Telling.Fails.{is_unmet}
-use Rattle.nts_trying.proofs.Opened.{told_through, told_offered, refuted_through, nothing_through, labels_through, labels_entered, proved_through, opened_holds}
+use Rattle.nts_trying.proofs.Opened.{told_through, told_offered, refuted_through, nothing_through, labels_through, labels_entered, proved_through, opened_holds, outlives_told, outlives_through}
+use Rattle.nts_decisions.proofs.OpenedStatements.{trait_outlives_nothing}
 use Rattle.nts_trying.proofs.Probed.{found_in, found_still, found_fits, found_derived, went_in, plain_of, doubtful, not_kept, says_found, says_before, run_replies}
 use Rattle.nts_trying.proofs.Outcomes.{found_earlier, founds_more, founds_with, outcomes_first, outcomes_more, found_merged, told_merged, failed_of}
 use Rattle.nts_trying.proofs.Ran.{added_is, added_only, ran_to, ran_refused, all_proved, all_posed, proved_all, ok_inside}
@@ -148,11 +149,61 @@ compute_goal-returns-in-Unanswered g t c =
       told = λ s tells. nothing_through c.requires.posed (rw c.in-Unanswered.ensures.0 at o.opened) o.grows.extends (g.H.GoalHandler.handler s.base c.args.handler.now) c.args.table.now.mode c.args.values.now _ c.in_ok-response-in-Unanswered.response.value trees (ap is_yes r.certainty) plain;
       refuted = search rules;
       decided = λ s n b d can.
-          absurd (c.in-Unanswered.ensures.1
+          absurd (c.in-Unanswered.ensures.1.0
           (is_asked_here (g.H.GoalHandler.handler s.base c.args.handler.now) (g.met.H.GoalHandler.lawful s.base c.args.handler.now s.formed s.is_ready) (mode_of c.args.table.now.mode) n b c.args.goal c.args.values.now d.0 d.1 c.requires.posed c.terms_are_formed.ensures o.grows.extends _ (rw c.in-Unanswered.ensures.0 at o.opened) (rw c.in-Unanswered.ensures.0 at o.posed)));
       facts = λ s tells f can.
           let settled = f.settled in
-          absurd (c.in-Unanswered.ensures.1 (fact_asked (g.H.GoalHandler.handler s.base c.args.handler.now) (mode_of c.args.table.now.mode) c.args.cx.now.nodes c.enter_forall.new.cx.nodes c.args.table.now c.enter_forall.new.table c.args.goal _ (rw c.in-Unanswered.ensures.0 at o.opened) settled c.requires.posed (rw c.in-Unanswered.ensures.0 at o.posed) o.grows.extends));
+          absurd (c.in-Unanswered.ensures.1.0 (fact_asked (g.H.GoalHandler.handler s.base c.args.handler.now) (mode_of c.args.table.now.mode) c.args.cx.now.nodes c.enter_forall.new.cx.nodes c.args.table.now c.enter_forall.new.table c.args.goal _ (rw c.in-Unanswered.ensures.0 at o.opened) settled c.requires.posed (rw c.in-Unanswered.ensures.0 at o.posed) o.grows.extends));
+    }
+
+pub compute_goal-answer_outlives-requires-clause-posed : goal.compute_goal-answer_outlives-requires-clause-posed
+compute_goal-answer_outlives-requires-clause-posed g t c = rw c.in-Outlives.ensures.0 at c.in_ok-opened.ensures.posed
+
+pub compute_goal-answer_outlives-requires-clause-outlives : goal.compute_goal-answer_outlives-requires-clause-outlives
+compute_goal-answer_outlives-requires-clause-outlives g t c = c.in-Outlives.ensures.1
+
+pub compute_goal-answer_outlives-requires-clause-values : goal.compute_goal-answer_outlives-requires-clause-values
+compute_goal-answer_outlives-requires-clause-values g t c =
+    let o = c.in_ok-opened.ensures in
+    args_later c.args.cx.now.nodes c.enter_forall.new.cx.nodes c.args.table.now.entries c.enter_forall.new.table.entries c.args.values.now o.goes.extends o.goes.continues c.requires.values
+
+pub compute_goal-returns-in_err-response-in-Outlives : goal.compute_goal-returns-in_err-response-in-Outlives
+compute_goal-returns-in_err-response-in-Outlives g t c =
+    goal_failed c.from_residual-in_err-response-in-Outlives.result (search rules) (search rules) (search rules) (Searches-refl c.args.depth c.requires.search (grown c.in_ok-opened.ensures.grows c.answer_outlives.ensures.grows))
+
+pub compute_goal-returns-in-Outlives : goal.compute_goal-returns-in-Outlives
+compute_goal-returns-in-Outlives g t c =
+    let o = c.in_ok-opened.ensures in
+    let r = c.in_ok-response-in-Outlives.ensures in
+    let f = r.found in
+    let opened = rw c.in-Outlives.ensures.0 at o.opened in
+    let posed = rw c.in-Outlives.ensures.0 at o.posed in
+    let says = c.in-Outlives.ensures.1 in
+    let trees = trees_kept c.args.cx.now.nodes c.enter_forall.new.cx.nodes c.args.table.now.entries c.args.values.now o.grows.extends c.requires.values in
+    record {
+      grows = search rules;
+      searches = Searches-refl c.args.depth c.requires.search (grown o.grows r.grows);
+      found = record {
+        store = f.store;
+        after = f.after;
+        formed = f.formed;
+        goes = Goes-trans o.goes f.goes;
+        labels = labels_through c.requires.posed opened o.grows.extends f.labels;
+        extends = f.extends;
+        says = rw trees at f.says;
+        holds = f.holds;
+        no_more = f.no_more;
+        sure = λ y s. outlives_through c.requires.posed opened o.grows.extends (meaning (g.H.GoalHandler.handler s.base c.args.handler.now) s.variances) (mode_of c.args.table.now.mode) (assumed_in c.answer_outlives.new.cx.nodes c.args.graph.now) c.in-Outlives.outlives posed says f.goes (let z = Goes-trans o.goes f.goes in z.continues) f.formed (f.sure y);
+      };
+      told = λ s tells. outlives_told c.requires.posed opened o.grows.extends c.in-Outlives.outlives says (g.H.GoalHandler.handler s.base c.args.handler.now) c.args.table.now.mode c.args.values.now _ c.in_ok-response-in-Outlives.response.value trees r.told;
+      refuted = search rules;
+      decided = λ s n b d can.
+          let asked = is_asked_here (g.H.GoalHandler.handler s.base c.args.handler.now) (g.met.H.GoalHandler.lawful s.base c.args.handler.now s.formed s.is_ready) (mode_of c.args.table.now.mode) n b c.args.goal c.args.values.now d.0 d.1 c.requires.posed c.terms_are_formed.ensures o.grows.extends _ opened posed in
+          absurd (trait_outlives_nothing _ _ (let z = asked.trait_goal in z.statement) (let z = says.is in z.says));
+      facts = λ s tells f can.
+          let settled = f.settled in
+          let asked = fact_asked (g.H.GoalHandler.handler s.base c.args.handler.now) (mode_of c.args.table.now.mode) c.args.cx.now.nodes c.enter_forall.new.cx.nodes c.args.table.now c.enter_forall.new.table c.args.goal _ opened settled c.requires.posed posed o.grows.extends in
+          absurd (trait_outlives_nothing _ _ (let z = asked.trait_goal in z.statement) (let z = says.is in z.says));
     }
 
 pub evaluate_added-evaluate_goal-requires : goal.evaluate_added-evaluate_goal-requires

@@ -1,10 +1,8 @@
 -- Goals that something outlives a region: which statements are such, and that one holds where its constraint is held.
-use Rattle.std.proofs.Common.{◌≡◌, inl, inr, ℕ, ◌+◌, Bool, true, false, List, [], Some, is_some, refl, sym, ap, ◌∙◌, subst}
-use Rattle.std.specs.Prelude.{◌⊎◌}
+use Rattle.std.proofs.Common.{◌≡◌, inl, inr, ℕ, ◌+◌, ◌||◌, Bool, true, false, List, [], ◌∷◌, Some, refl, sym, ap, ◌∙◌, subst, arith}
 use Rattle.nts_model.specs.declared.labels.Sort.TheVariants as sort
-use Rattle.nts_model.specs.declared.labels.Relation.{Relation}
 use Rattle.nts_model.specs.declared.labels.Relation.TheVariants as relation
-use Rattle.nts_model.specs.Terms.Trees.{Tree, empty, more, node, kind_of, of_sort, any_label, is_canonical, is_alias, IsClosed, IsFormed}
+use Rattle.nts_model.specs.Terms.Trees.{Tree, empty, more, node, kind_of, of_sort, any_label, is_alias, IsClosed, IsFormed}
 use Rattle.nts_model.specs.Terms.Regions.{IsRegion}
 use Rattle.nts_model.specs.Tables.Contents.{Content}
 use Rattle.nts_model.specs.Tables.Recording.{left_kind}
@@ -31,6 +29,9 @@ use Rattle.nts_model.specs.declared.labels.Leaf.{Leaf}
 use Rattle.nts_model.specs.declared.labels.ListHead.TheVariants as list
 use Rattle.nts_model.specs.declared.labels.Label.TheVariants as label
 use Rattle.nts_model.specs.declared.labels.Sort.{Sort}
+use Rattle.nts_model.specs.Tables.Passing.{TreePasses, BringsLabelsOf, BringsOnly}
+use Rattle.nts_model.proofs.Tables.Bringing.{only-of}
+use Rattle.nts_model.specs.declared.labels.Label.{Label}
 use Rattle.nts_model.specs.Tables.Levels.{IsLevelled, AreRegionsLevelled, AreCurrent}
 use Rattle.nts_model.specs.Refutation.Opening.{binds, placeholder_in, opened_in}
 use Rattle.nts_theory.proofs.Derivations.ByCandidate.{IsGranted, granted}
@@ -38,7 +39,22 @@ use Rattle.nts_theory.proofs.Derivations.Served.{IsClosedEnvironment}
 use Rattle.nts_theory.proofs.Derivations.ClosedStatements.{one_statement}
 use Rattle.nts_theory.proofs.Refutation.OpenedProofs.{fresh_later}
 use Rattle.nts_theory.proofs.Aliases.OpenedRules.{opened_rule, statement_reads}
-use Rattle.nts_trying.specs.Outlives.{IsClosedEnv}
+use Rattle.nts_trying.specs.Outliving.{IsClosedEnv, OutlivesIn, constraint_at}
+use Rattle.nts_trying.specs.declared.outlives.Outlives.{Outlives}
+use Rattle.nts_trying.proofs.Unasked.{listed_of}
+use Rattle.nts_model.specs.Terms.Trees.{children, row_length, IsRow}
+use Rattle.nts_model.specs.Derivations.Related.{no_sorts}
+use Rattle.nts_model.specs.Derivations.Rules.{statement_of}
+use Rattle.nts_store.specs.declared.type_flags.TypeFlags.{TypeFlags}
+use Rattle.nts_store.specs.TypeFlags.{flags_of}
+use Rattle.nts_delegate.proofs.Testing.{or_false}
+use Rattle.nts_store.specs.Formed.{AreFormed}
+use Rattle.nts_store.specs.Growth.{tree_at}
+use Rattle.nts_terms.specs.declared.handles.Binder.{Binder}
+use Rattle.nts_terms.specs.declared.handles.Goal.{Goal}
+use Rattle.nts_terms.specs.Handles.{HoldsGoal}
+use Rattle.nts_terms.specs.Kinds.{tree_of_predicate, PredicateFits}
+use Rattle.nts_terms.proofs.Standing.{vars_tree}
 use Rattle.nts_theory.specs.Outliving.{SaysOutlives, region_outlives, type_outlives, IsOutlives}
 use Rattle.nts_theory.proofs.Aliases.BuiltIn.{by_engine}
 use Rattle.nts_terms.specs.declared.kinds.ClauseKind.{ClauseKind}
@@ -53,9 +69,35 @@ use Rattle.nts_terms.specs.Kinds.{tree_of_clause, tree_of_statement}
 pub other_clause_says : (ts : List Tree) (k : ClauseKind) (x : Constraint) → ((t : Ty) (r : Region) → k ≡ clause.TypeOutlives t r → ⊥) → ((a b : Region) → k ≡ clause.RegionOutlives a b → ⊥) → SaysOutlives x (tree_of_clause ts k) → ⊥
 other_clause_says ts (clause.TypeOutlives t r) x n m h = n t r refl
 other_clause_says ts (clause.RegionOutlives a b) x n m h = m a b refl
+other_clause_says ts (clause.Trait _) x n m h = elim h [ ]
+other_clause_says ts (clause.HostEffect _) x n m h = elim h [ ]
+other_clause_says ts (clause.Projection _ _) x n m h = elim h [ ]
+other_clause_says ts (clause.ConstArgHasType _ _) x n m h = elim h [ ]
+other_clause_says ts (clause.WellFormed _) x n m h = elim h [ ]
+other_clause_says ts (clause.ConstEvaluatable _) x n m h = elim h [ ]
+other_clause_says ts (clause.UnstableFeature _) x n m h = elim h [ ]
 
 pub other_statement_says : (ts : List Tree) (k : PredicateKind) (x : Constraint) → ((c : ClauseKind) → k ≡ predicate.Clause c → ⊥) → SaysOutlives x (tree_of_statement ts k) → ⊥
 other_statement_says ts (predicate.Clause c) x n h = n c refl
+other_statement_says ts (predicate.Subtype _ _ _) x n h = elim h [ ]
+other_statement_says ts (predicate.Coerce _ _) x n h = elim h [ ]
+other_statement_says ts (predicate.DynCompatible _) x n h = elim h [ ]
+other_statement_says ts (predicate.ConstEquate _ _) x n h = elim h [ ]
+other_statement_says ts (predicate.NormalizesTo _ _) x n h = elim h [ ]
+other_statement_says ts (predicate.AliasRelate _ _ _) x n h = elim h [ ]
+other_statement_says ts predicate.Ambiguous x n h = elim h [ ]
+
+-- a statement says one thing
+pub says_once : (x y : Constraint) (s u : Tree) → s ≡ u → SaysOutlives x s → SaysOutlives y u → x ≡ y
+says_once x y s u e region_outlives region_outlives = cc e
+says_once x y s u e type_outlives type_outlives = cc e
+says_once x y s u e region_outlives type_outlives = cc e
+says_once x y s u e type_outlives region_outlives = cc e
+
+-- a statement of closed sides is closed
+pub statement_closed : (x : Constraint) (s : Tree) → SaysOutlives x s → IsClosed x.left → IsClosed x.right → IsClosed s
+statement_closed x s region_outlives a b = (tt, (a, (b, tt)))
+statement_closed x s type_outlives a b = (tt, (a, (b, tt)))
 
 -- the sides of a statement are of its sorts, closed where it is, and formed
 pub right_region : (x : Constraint) (s : Tree) → SaysOutlives x s → IsFormed s → kind_of x.right ≡ Some (of_sort sort.Region)
@@ -86,6 +128,58 @@ formed_sides x s type_outlives c = record { left = (let y = c.1 in y.0); right =
 pub known_sides : (c : Content) (x : Constraint) (s : Tree) → SaysOutlives x s → Knows c s → AreSidesOf (Knows c) x
 known_sides c x s region_outlives k = record { left = (let y = k.1 in y.0); right = (let y = k.1 in y.1.0) }
 known_sides c x s type_outlives k = record { left = (let y = k.1 in y.0); right = (let y = k.1 in y.1.0) }
+
+-- .. of a goal that a table knows
+pub known_here : (c : Content) (g : Tree) (x : Constraint) → Knows c g → IsOutlives g x → AreSidesOf (Knows c) x
+known_here c g x k s = (let there : Knows c (unbound s.statement) = subst (Knows c) s.binds_nothing k in known_sides c x s.statement s.says there.1.1.0)
+
+-- a binder without variables
+row_of_none : (t : Tree) → IsRow t → row_length t ≡ 0 → t ≡ empty
+row_of_none empty r e = refl
+row_of_none (more a b) r e = absurd (omega (arith, e))
+row_of_none (node l c) r e = absurd r
+
+-- a goal of the store that says so, by its kind
+module _ (ts : List Tree) (g : Goal) (b : Binder PredicateKind) (is : tree_at ts g.predicate.node ≡ tree_of_predicate ts b) where
+  states : (x : Constraint) (h : OutlivesIn ts g x) → (let s = h.says in s.statement ≡ tree_of_statement ts b.value)
+  states x h = (let s = h.says in sym (ap statement_of s.binds_nothing) ∙ ap statement_of is)
+
+  pub closed_here : (o : Outlives) (x : Constraint) → SaysOutlives (constraint_at ts o) (tree_of_statement ts b.value) → OutlivesIn ts g x → AreSidesOf IsClosed (constraint_at ts o)
+  closed_here o x w h =
+      let s = h.says in
+      subst (AreSidesOf IsClosed) (says_once x (constraint_at ts o) s.statement (tree_of_statement ts b.value) (states x h) s.says w) (closed_sides x s.statement s.says s.closed)
+
+  pub says_here : (x : Constraint) → OutlivesIn ts g x → SaysOutlives x (tree_of_statement ts b.value)
+  says_here x h = (let s = h.says in subst (SaysOutlives x) (states x h) s.says)
+
+  pub binds_none_here : (x : Constraint) → OutlivesIn ts g x → row_length (children (tree_at ts b.vars.node)) ≡ 0
+  binds_none_here x h = (let s = h.says in ap (λ t. row_length (children (listed_of t))) (sym is ∙ s.binds_nothing))
+
+  -- .. and what the tests of it see
+  pub outlives_here : AreFormed ts → HoldsGoal ts g → PredicateFits ts b → IsRow (children (tree_at ts b.vars.node)) → row_length (children (tree_at ts b.vars.node)) ≡ 0 → (x : Constraint) → SaysOutlives x (tree_of_statement ts b.value) → IsClosed x.left → IsClosed x.right → IsOutlives (tree_at ts g.predicate.node) x
+  outlives_here formed holds fits row none x w left right =
+      let binder : tree_at ts b.vars.node ≡ no_sorts = vars_tree (tree_at ts b.vars.node) fits.0.fits ∙ ap (node (label.List list.Sorts)) (row_of_none (children (tree_at ts b.vars.node)) row none) in
+      let whole : tree_at ts g.predicate.node ≡ unbound (tree_of_statement ts b.value) = is ∙ ap (λ z. node (label.List list.Binder) (more z (more (tree_of_statement ts b.value) empty))) binder in
+      let f : IsFormed (unbound (tree_of_statement ts b.value)) = subst IsFormed whole (formed g.predicate.node holds.predicate.within) in
+      record { statement = tree_of_statement ts b.value; binds_nothing = whole; says = w; formed = f.1.1.0; closed = statement_closed x (tree_of_statement ts b.value) w left right }
+
+-- no alias stands in a goal, by its facts
+pub no_alias_here : (ts : List Tree) (g : Goal) (env goal : TypeFlags) → env ≡ flags_of (tree_at ts g.param_env.node) → goal ≡ flags_of (tree_at ts g.predicate.node) → env.has_alias ≡ false → goal.has_alias ≡ false
+    → any_label is_alias (pair (tree_at ts g.param_env.node) (tree_at ts g.predicate.node)) ≡ false
+no_alias_here ts g env goal e p x y =
+    let t = any_label is_alias (tree_at ts g.param_env.node) in
+    let u = any_label is_alias (tree_at ts g.predicate.node) in
+    or_false t (u || false) (sym (ap (λ f. f.has_alias) e) ∙ x) (or_false u false (sym (ap (λ f. f.has_alias) p) ∙ y) refl)
+
+-- the sides have no labels but the goal's
+sides_pass : (P : Label → Bool) (x : Constraint) (s : Tree) → SaysOutlives x s → TreePasses P s → AreSidesOf (TreePasses P) x
+sides_pass P x s region_outlives k = record { left = (let y = k.1 in y.0); right = (let y = k.1 in y.1.0) }
+sides_pass P x s type_outlives k = record { left = (let y = k.1 in y.0); right = (let y = k.1 in y.1.0) }
+
+pub only_sides : (e g : Tree) (x : Constraint) (c d : Content) → IsOutlives g x → BringsLabelsOf c d x.left x.right → BringsOnly (e ∷ g ∷ []) c d
+only_sides e g x c d says h =
+    only-of (e ∷ g ∷ []) x.left x.right h
+    (λ P q k i. let whole : TreePasses P (unbound says.statement) = subst (TreePasses P) says.binds_nothing (k g (inr (inl refl))) in let y = sides_pass P x says.statement says.says (whole.1.1.0) in (y.left, y.right))
 
 -- a goal that something outlives a region follows by the engine's rule in a table that holds that
 module _ (m : Meaning) (mode : Mode) (A : List Assumed) (c : Content) (s : IsSound c) (t : HoldsTerms c) (k : AreConstraintsOf c) (e : Tree) (ke : IsTermOf c e) (env : IsClosedEnv e) (o : Tree) (x : Constraint) (says : IsOutlives o x) (ko : IsTermOf c o) where

@@ -5,23 +5,21 @@ use Rattle.nts_model.specs.Tables.Holding.{HoldsConstraint}
 use Rattle.nts_model.specs.Derivations.Proving.{recorded_as}
 use Rattle.nts_model.specs.Derivations.Related.{Constraint, pair}
 use Rattle.nts_model.specs.Derivations.Sequents.{HasClosedStatements}
-use Rattle.nts_theory.specs.Outliving.{SaysOutlives, IsOutlives}
-use Rattle.nts_store.specs.Growth.{tree_at}
-use Rattle.nts_terms.specs.Kinds.{tree_of_statement}
+use Rattle.nts_theory.specs.Outliving.{IsOutlives}
+use Rattle.nts_store.specs.Growth.{tree_at, IsIn}
 use Rattle.nts_terms.specs.declared.handles.Goal.{Goal}
-use Rattle.nts_terms.specs.declared.kinds.PredicateKind.{PredicateKind}
 use Rattle.nts_table.specs.Tables.{Table}
 use Rattle.nts_unify.specs.Reading.{content_of}
 use Rattle.nts_trying.specs.declared.outlives.Outlives.{Outlives}
 
+-- the sides are terms of the store
+pub record AreSidesIn (ts : List Tree) (o : Outlives) : Type 0 where
+  pub left : IsIn ts o.left
+  pub right : IsIn ts o.right
+
 -- as a constraint between trees
 abbrev pub constraint_at : List Tree → Outlives → Constraint
 constraint_at ts o = record { relation = o.relation; left = tree_at ts o.left; right = tree_at ts o.right }
-
--- what a statement says that outlives what; or it says nothing so
-abbrev pub IsSaidBy : List Tree → PredicateKind → Option Outlives → Type 0
-IsSaidBy ts s (Some o) = SaysOutlives (constraint_at ts o) (tree_of_statement ts s)
-IsSaidBy ts s None = (x : Constraint) → SaysOutlives x (tree_of_statement ts s) → ⊥
 
 -- an environment without bound variables that are without their binders, and none of whose statements names a binder that binds
 -- nothing
@@ -35,8 +33,11 @@ pub record OutlivesIn (ts : List Tree) (g : Goal) (x : Constraint) : Type 0 wher
   pub environment : IsClosedEnv (tree_at ts g.param_env.node)
   pub no_alias : any_label is_alias (pair (tree_at ts g.param_env.node) (tree_at ts g.predicate.node)) ≡ false
 
-abbrev pub IsOutlivesGoal : List Tree → Goal → Outlives → Type 0
-IsOutlivesGoal ts g o = OutlivesIn ts g (constraint_at ts o)
+-- .. that these terms of the store are the sides of
+pub record IsOutlivesGoal (ts : List Tree) (g : Goal) (o : Outlives) : Type 0 where
+  pub left : IsIn ts o.left
+  pub right : IsIn ts o.right
+  pub is : OutlivesIn ts g (constraint_at ts o)
 
 -- the goal is one, and this is what it says; or it is none
 abbrev pub SaysWhatOutlives : List Tree → Goal → Option Outlives → Type 0
