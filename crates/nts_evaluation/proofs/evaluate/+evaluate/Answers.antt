@@ -149,11 +149,11 @@ compute_goal-returns-in-Unanswered g t c =
       told = λ s tells. nothing_through c.requires.posed (rw c.in-Unanswered.ensures.0 at o.opened) o.grows.extends (g.H.GoalHandler.handler s.base c.args.handler.now) c.args.table.now.mode c.args.values.now _ c.in_ok-response-in-Unanswered.response.value trees (ap is_yes r.certainty) plain;
       refuted = search rules;
       decided = λ s n b d can.
-          absurd (c.in-Unanswered.ensures.1.0
+          absurd (c.in-Unanswered.ensures.1
           (is_asked_here (g.H.GoalHandler.handler s.base c.args.handler.now) (g.met.H.GoalHandler.lawful s.base c.args.handler.now s.formed s.is_ready) (mode_of c.args.table.now.mode) n b c.args.goal c.args.values.now d.0 d.1 c.requires.posed c.terms_are_formed.ensures o.grows.extends _ (rw c.in-Unanswered.ensures.0 at o.opened) (rw c.in-Unanswered.ensures.0 at o.posed)));
       facts = λ s tells f can.
           let settled = f.settled in
-          absurd (c.in-Unanswered.ensures.1.0 (fact_asked (g.H.GoalHandler.handler s.base c.args.handler.now) (mode_of c.args.table.now.mode) c.args.cx.now.nodes c.enter_forall.new.cx.nodes c.args.table.now c.enter_forall.new.table c.args.goal _ (rw c.in-Unanswered.ensures.0 at o.opened) settled c.requires.posed (rw c.in-Unanswered.ensures.0 at o.posed) o.grows.extends));
+          absurd (c.in-Unanswered.ensures.1 (fact_asked (g.H.GoalHandler.handler s.base c.args.handler.now) (mode_of c.args.table.now.mode) c.args.cx.now.nodes c.enter_forall.new.cx.nodes c.args.table.now c.enter_forall.new.table c.args.goal _ (rw c.in-Unanswered.ensures.0 at o.opened) settled c.requires.posed (rw c.in-Unanswered.ensures.0 at o.posed) o.grows.extends));
     }
 
 pub compute_goal-answer_outlives-requires-clause-posed : goal.compute_goal-answer_outlives-requires-clause-posed
