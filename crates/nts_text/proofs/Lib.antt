@@ -1,4 +1,5 @@
 pub mod CountLemmas
+pub mod WordLemmas
 pub mod InputLemmas
 pub mod TokenLemmas
 pub mod NumberLemmas
