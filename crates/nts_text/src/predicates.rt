@@ -309,7 +309,7 @@ fn trees_before(kind: TokenKind, behind: usize) -> usize
     }
 }
 
-/// Adds a node, and then that of the colon on whose left it stands.
+/// Adds a node, and then that of the colon that it stands on the left of.
 fn push_word(nodes: &mut Vec<Node>, node: Node, colon: Option<Token>) -> Result<(), AllocError>
     ensures { OnOk result (nodes.new.items ≡ nodes.old.items ++
         reverse (behind_colon node colon)) }
@@ -326,7 +326,8 @@ fn push_word(nodes: &mut Vec<Node>, node: Node, colon: Option<Token>) -> Result<
 }
 
 /// The nodes of predicates, in the order of the text. They are found from the last to the first,
-/// so that a name's arguments are counted when it is reached, and a colon is known when what stands on its left is.
+/// so that a name's arguments are counted when it is reached, and the colon is known that it stands
+/// on the left of.
 fn nodes_of(alloc: Global, tokens: &[Token]) -> Result<Vec<Node>, AllocError>
     ensures nodes { IfOk result (λ ns. ns.items ≡ written_nodes tokens.now) }
     ensures words { IfOk result (λ ns. filter (λ t. is_word t.kind)
