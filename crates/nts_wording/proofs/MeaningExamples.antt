@@ -1,5 +1,5 @@
 -- What nodes mean that say what outlives a region.
-use Rattle.std.proofs.Common.{◌≡◌, ℕ, List, [], ◌∷◌, refl}
+use Rattle.std.proofs.Common.{◌≡◌, List, [], ◌∷◌, refl}
 use Rattle.std.specs.Global.{Vec}
 use Rattle.nts_model.specs.declared.labels.Label.TheVariants as label
 use Rattle.nts_model.specs.declared.labels.Leaf.TheVariants as leaf
@@ -11,7 +11,10 @@ use Rattle.nts_model.specs.declared.labels.UintTy.TheVariants.{U8}
 use Rattle.nts_model.specs.Terms.Trees.{Tree, empty, more, node}
 use Rattle.nts_store.specs.declared.nodes.NodeId.{NodeId}
 use Rattle.nts_terms.specs.declared.handles.GenericArg.{GenericArg}
+use Rattle.nts_terms.specs.declared.handles.Ty.{Ty}
+use Rattle.nts_terms.specs.declared.handles.Region.{Region}
 use Rattle.nts_terms.specs.declared.kinds.ClauseKind.{ClauseKind}
+use Rattle.nts_terms.specs.declared.kinds.ClauseKind.TheVariants as statements
 use Rattle.nts_text.specs.declared.resolver.Resolved.TheVariants as nodes
 use Rattle.nts_wording.specs.Meaning.{BoundStatement, nodes_meaning, no_values, MakesStatement, TakesLast}
 
@@ -43,6 +46,13 @@ type_is_none = refl
 type_is_not_stated : (ts : List Tree) (old new : Vec GenericArg) (c : ClauseKind) → MakesStatement ts (nodes.Uint U8) old new c → ⊥
 type_is_not_stated ts old new c h = h
 
--- nothing is taken from nothing
+type_is_stated : (ts : List Tree) (old new : Vec GenericArg) (t : Ty) (r : Region) → old.items ≡ record { node = r.node } ∷ record { node = t.node } ∷ [] → new.items ≡ []
+    → MakesStatement ts nodes.TypeOutlives old new (statements.TypeOutlives t r)
+type_is_stated ts old new t r e f = λ us v later. rw (e, f) (refl, refl)
+
+-- the last argument is taken, and nothing from nothing
+last_is_taken : (old new : Vec GenericArg) (a : GenericArg) → old.items ≡ a ∷ [] → new.items ≡ [] → TakesLast old new a.node
+last_is_taken old new a e f = λ us. rw (e, f) refl
+
 nothing_to_take : (none new : Vec GenericArg) (n : NodeId) → none.items ≡ [] → TakesLast none new n → ⊥
-nothing_to_take none new n e h = let f = h [] in rw e at f
+nothing_to_take none new n e h = let f = h [] in let g = rw e at f in cc
