@@ -1,5 +1,5 @@
 -- What the lines of a run have said, and what they declare.
-use Rattle.std.specs.Prelude.{◌≡◌, ℕ, true, false, List, [], length, map, Option, None, Some}
+use Rattle.std.specs.Prelude.{◌≡◌, ℕ, true, false, List, [], length, map, None, Some}
 use Rattle.nts_model.specs.declared.labels.Sort.{Sort}
 use Rattle.nts_terms.specs.declared.cx.Cx.{Cx}
 use Rattle.nts_terms.specs.declared.handles.ParamEnv.{ParamEnv}

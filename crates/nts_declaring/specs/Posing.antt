@@ -1,33 +1,18 @@
 -- How a goal is posed.
 use Rattle.std.specs.Prelude.{◌≡◌, List, [], All, Option}
-use Rattle.nts_model.specs.Derivations.Handlers.{Handler, meaning}
-use Rattle.nts_model.specs.Derivations.Proving.{HasRankedProofUnder}
 use Rattle.nts_model.specs.Terms.Trees.{Tree}
-use Rattle.nts_terms.specs.declared.cx.Cx.{Cx}
-use Rattle.nts_terms.specs.Signatures.{variances_in}
-use Rattle.nts_terms.specs.declared.handles.GenericArg.{GenericArg}
-use Rattle.nts_terms.specs.declared.handles.Goal.{Goal}
 use Rattle.nts_terms.specs.declared.handles.ParamEnv.{ParamEnv}
 use Rattle.nts_terms.specs.declared.modes.TypingMode.{TypingMode}
 use Rattle.nts_terms.specs.declared.modes.TypingMode.TheVariants as typing
-use Rattle.nts_store.specs.Growth.{tree_at, Extends}
-use Rattle.nts_table.specs.Tables.{Table, IsTable}
+use Rattle.nts_store.specs.Growth.{Extends}
+use Rattle.nts_table.specs.Tables.{IsTable}
 use Rattle.nts_terms.specs.Handles.{HoldsGoal}
-use Rattle.nts_unify.specs.Reading.{content_of}
-use Rattle.nts_delegate.specs.Assumptions.{assuming}
-use Rattle.nts_delegate.specs.Both.{either}
-use Rattle.nts_delegate.specs.ClauseHandlers.{handler_of}
-use Rattle.nts_terms.specs.Modes.{mode_of}
-use Rattle.nts_delegate.specs.declared.clauses.Clauses.{Clauses}
 use Rattle.nts_text.specs.declared.parser.Mode.{Mode}
 use Rattle.nts_text.specs.declared.parser.Mode.TheVariants as modes
-use Rattle.nts_wording.specs.Found.{IsFoundIn, IsKnownValue}
+use Rattle.nts_wording.specs.Found.{IsKnownValue}
 use Rattle.nts_text.specs.declared.resolver.Resolved.{Resolved}
-use Rattle.nts_wording.specs.Meaning.{HasOwnPlaces, HasPlace, AreVariablesFrom, IsGoalOf, IsGoalFor}
-use Rattle.nts_wording.specs.declared.answer.Found.{Found}
+use Rattle.nts_wording.specs.Meaning.{HasOwnPlaces, HasPlace, AreVariablesFrom, IsGoalFor}
 use Rattle.nts_declaring.specs.declared.posing.Posed.{Posed}
-use Rattle.nts_wording.specs.declared.answer.Answer.{Answer}
-use Rattle.nts_wording.specs.declared.answer.Answer.TheVariants as answers
 
 -- the mode that a line names, with no hidden types
 abbrev pub IsTypingMode : Mode → TypingMode → Type 0

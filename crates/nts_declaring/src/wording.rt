@@ -32,6 +32,7 @@ const HELD: usize = 4096;
 enum Piece {
     Term(NodeId),
     Comma,
+    Colon,
     Close,
 }
 
@@ -174,6 +175,14 @@ impl Wording<'_> {
                 self.binder(said.vars)?;
                 self.trait_goal(output, trait_ref)
             }
+            PredicateKind::Clause(ClauseKind::TypeOutlives(ty, region)) => {
+                self.binder(said.vars)?;
+                self.outlives(output, ty.node, region.node)
+            }
+            PredicateKind::Clause(ClauseKind::RegionOutlives(longer, shorter)) => {
+                self.binder(said.vars)?;
+                self.outlives(output, longer.node, shorter.node)
+            }
             // A line says no other goals.
             _ => Ok(self.write(b"_")?),
         }
@@ -213,10 +222,43 @@ impl Wording<'_> {
         self.write(name_of(&names.traits, trait_ref.def_id.number))?;
         let mut pieces = Vec::new(self.cx.alloc);
         self.open(trait_ref.args.node, &mut pieces)?;
+        self.all_pieces(output, &mut pieces)
+    }
+
+    /// A type or a region, and the region that it outlives.
+    #[tactic(auto, using(nts_wording::proofs::Growths::writes))]
+    fn outlives<W: Write>(
+        &mut self,
+        output: &mut W,
+        left: NodeId,
+        region: NodeId,
+    ) -> Result<(), Stop>
+        ensures says { OnOk result (Says IsAny (W.contents output.old)
+            (W.contents output.new) self.old.text.items self.new.text.items) }
+        ensures rest { self.new ≡ record self.old { text = self.new.text } }
+        ensures fault { IfErr result (λ s. is_refusal s ≡ false) }
+        ensures begins { Begins (W.contents output.old) (W.contents output.new) }
+    {
+        let mut pieces = Vec::new(self.cx.alloc);
+        pieces.push(Piece::Term(region))?;
+        pieces.push(Piece::Colon)?;
+        pieces.push(Piece::Term(left))?;
+        self.all_pieces(output, &mut pieces)
+    }
+
+    /// What these pieces begin with, the last first.
+    #[tactic(auto, using(nts_wording::proofs::Growths::writes))]
+    fn all_pieces<W: Write>(&mut self, output: &mut W, pieces: &mut Vec<Piece>) -> Result<(), Stop>
+        ensures says { OnOk result (Says IsAny (W.contents output.old)
+            (W.contents output.new) self.old.text.items self.new.text.items) }
+        ensures rest { self.new ≡ record self.old { text = self.new.text } }
+        ensures fault { IfErr result (λ s. is_refusal s ≡ false) }
+        ensures begins { Begins (W.contents output.old) (W.contents output.new) }
+    {
         'turns: for _ in 0..u64::MAX {
             match pieces.pop() {
                 None => return Ok(()),
-                Some(piece) => self.piece(piece, &mut pieces)?,
+                Some(piece) => self.piece(piece, pieces)?,
             }
             self.put_much(output)?;
         }
@@ -231,6 +273,7 @@ impl Wording<'_> {
     {
         match piece {
             Piece::Comma => self.write(b", "),
+            Piece::Colon => self.write(b": "),
             Piece::Close => self.write(b")"),
             Piece::Term(term) => self.head(term, pieces),
         }

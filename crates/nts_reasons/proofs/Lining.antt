@@ -1,10 +1,11 @@
 -- Lines are in step with clauses.
-use Rattle.std.proofs.Common.{◌≡◌, ℕ, ◌==◌, Bool, true, false, if◌then◌else◌, List, [], ◌∷◌, ◌++◌, length, length-append, Option, None, Some, Result, Ok, Err, inl, inr, refl, sym, ap, ◌∙◌, arith}
+use Rattle.std.proofs.Common.{◌≡◌, ℕ, ◌==◌, Bool, true, false, if◌then◌else◌, List, [], ◌∷◌, ◌++◌, length, take, length-append, Option, None, Some, Result, Ok, Err, inl, inr, refl, sym, ap, ◌∙◌, arith}
 use Rattle.std.specs.Prelude.{IfOk, OnOk}
 use Rattle.nts_model.specs.declared.labels.ClauseHead.TheVariants as clause
 use Rattle.nts_model.specs.declared.labels.Label.TheVariants as label
 use Rattle.nts_model.specs.declared.labels.Sort.{Sort}
-use Rattle.nts_model.specs.Terms.Trees.{Tree, node}
+use Rattle.nts_model.specs.Terms.Trees.{Tree, empty, more, node}
+use Rattle.nts_store.specs.Growth.{tree_at}
 use Rattle.nts_delegate.specs.Adding.{AddsClause}
 use Rattle.nts_delegate.specs.Clauses.{clauses_of}
 use Rattle.nts_delegate.specs.declared.clauses.Clause.{Clause}
@@ -12,17 +13,16 @@ use Rattle.nts_text.specs.declared.commands.Command.{Command}
 use Rattle.nts_text.specs.declared.commands.Command.TheVariants as commands
 use Rattle.nts_text.specs.declared.resolver.Resolved.{Resolved}
 use Rattle.nts_text.specs.declared.resolver.Resolved.TheVariants as nodes
-use Rattle.nts_wording.specs.Meaning.{Values, BoundStatement, binding_first, binding_nothing, nodes_meaning, head_of, values_in, IsRuleOf}
+use Rattle.nts_wording.specs.Meaning.{Values, BoundStatement, binding_first, binding_nothing, nodes_meaning, term_of, head_of, values_in, IsRuleOf}
 use Rattle.nts_program.specs.Obeying.{Follows}
 use Rattle.nts_reasons.specs.declared.explainer.Asked.{Asked}
 use Rattle.nts_reasons.specs.declared.explainer.Explainer.{Explainer}
 use Rattle.nts_declaring.specs.ImplLines.{lines_of, NotesLine}
 use Rattle.nts_reasons.specs.Obeying.{trait_of, answer_of, HasLines, Notes, IsObeyed}
 
--- the number of the trait that a statement is about
-abbrev number_of : Tree → ℕ
-number_of (node (label.Clause (clause.Trait n)) ts) = n
-number_of t = 0
+-- the statement is about this trait
+abbrev IsAbout : ℕ → Tree → Type 0
+IsAbout n t = (ts : Tree) × (t ≡ node (label.Clause (clause.Trait n)) ts)
 
 -- what is bound first is bound in the first predicate
 record HasFirst (ps : List BoundStatement) (b : BoundStatement) : Type 0 where
@@ -37,22 +37,33 @@ first_bound s (p ∷ ps) b bs e =
     let same : record p { binds = s ∷ p.binds } ≡ b = cc in
     record { first = p; others = ps; are = refl; same = ap (λ x. x.statement) same }
 
--- the first predicate is about the first trait that nodes name
-first_named : (v : Values) (rs : List Resolved) (b : BoundStatement) (bs : List BoundStatement) → (nodes_meaning v rs).predicates ≡ b ∷ bs → trait_of rs ≡ Some (number_of b.statement)
-first_named v [] b bs e = cc
-first_named v (nodes.Binds s ∷ rs) b bs e =
-    let h = first_bound s (nodes_meaning v rs).predicates b bs e in
-    first_named v rs h.first h.others h.are ∙ ap (λ t. Some (number_of t)) h.same
-first_named v (nodes.Trait i n ∷ rs) b bs e = ap (λ ps. first_number ps) e
-  where
-    first_number : List BoundStatement → Option ℕ
-    first_number [] = None
-    first_number (p ∷ ps) = Some (number_of p.statement)
-first_named v (r ∷ rs) b bs e = first_named v rs b bs e
+-- where the first predicate is about a trait, that is the first one that nodes name
+first_named : (v : Values) (rs : List Resolved) (b : BoundStatement) (bs : List BoundStatement) (n : ℕ) → (nodes_meaning v rs).predicates ≡ b ∷ bs → IsAbout n b.statement → trait_of rs ≡ Some n
+first_named v [] b bs n e h = cc
+first_named v (nodes.Binds s ∷ rs) b bs n e h =
+    let f = first_bound s (nodes_meaning v rs).predicates b bs e in
+    first_named v rs f.first f.others n f.are (h.0, f.same ∙ h.1)
+first_named v (nodes.Trait i k ∷ rs) b bs n e h =
+    let m = nodes_meaning v rs in
+    let same : binding_nothing (term_of v (nodes.Trait i k) (take k m.arguments)) ≡ b = cc in
+    let t : term_of v (nodes.Trait i k) (take k m.arguments) ≡ node (label.Clause (clause.Trait n)) h.0 = ap (λ x. x.statement) same ∙ h.1 in
+    let is : i ≡ n = cc in
+    ap Some is
+first_named v (nodes.TypeOutlives ∷ rs) b bs n e h =
+    let m = nodes_meaning v rs in
+    let same : binding_nothing (term_of v nodes.TypeOutlives (take 2 m.arguments)) ≡ b = cc in
+    let t : term_of v nodes.TypeOutlives (take 2 m.arguments) ≡ node (label.Clause (clause.Trait n)) h.0 = ap (λ x. x.statement) same ∙ h.1 in
+    cc
+first_named v (nodes.RegionOutlives ∷ rs) b bs n e h =
+    let m = nodes_meaning v rs in
+    let same : binding_nothing (term_of v nodes.RegionOutlives (take 2 m.arguments)) ≡ b = cc in
+    let t : term_of v nodes.RegionOutlives (take 2 m.arguments) ≡ node (label.Clause (clause.Trait n)) h.0 = ap (λ x. x.statement) same ∙ h.1 in
+    cc
+first_named v (r ∷ rs) b bs n e h = first_named v rs b bs n e h
 
 -- the trait of a clause is the one that the words of its head name
 trait_of-rule : (ts : List Tree) (head body : List Resolved) (c : Clause) → IsRuleOf ts head body c → trait_of head ≡ Some c.trait_id.number
-trait_of-rule ts head body c h = first_named (values_in ts h.variables h.values) head (binding_nothing (head_of ts c)) [] h.head
+trait_of-rule ts head body c h = first_named (values_in ts h.variables h.values) head (binding_nothing (head_of ts c)) [] c.trait_id.number h.head (more (tree_at ts c.head.node) empty, refl)
 
 one_more : {A : Type 0} (b : Bool) (ls : List ℕ) (cs : List A) (l : ℕ) (c : A) → length ls ≡ length cs → length (if b then ls ++ l ∷ [] else ls) ≡ length (if b then cs ++ c ∷ [] else cs)
 one_more true ls cs l c h = omega (arith, h, length-append ls (l ∷ []), length-append cs (c ∷ []))

@@ -1,13 +1,13 @@
 -- Where the arrow of a clause stands.
-use Rattle.std.proofs.Common.{◌≡◌, ◌≢◌, ℕ, zero, suc, ◌<◌, Bool, true, false, ◌&&◌, nat_lt, List, [], ◌∷◌, ◌++◌, inl, inr, All, length, take, drop, get_or, refl, sym, ap, subst, ◌∙◌, arith}
+use Rattle.std.proofs.Common.{◌≡◌, ◌≢◌, ℕ, zero, suc, ◌<◌, Bool, true, false, ◌&&◌, ◌||◌, List, [], ◌∷◌, ◌++◌, inl, inr, All, length, take, drop, get_or, refl, sym, ap, subst, ◌∙◌, arith}
 use Rattle.std.specs.Prelude.{IfSome, slice_get}
 use Rattle.std.proofs.lemmas.Option.{slice_get-get_or}
 use Rattle.std.proofs.lemmas.List.Elements.{All-nil, All-cons, All-head, All-tail}
 use Rattle.nts_text.specs.Lines.{TokensSayNothing}
-use Rattle.nts_text.specs.Predicates.{is_marked, may_follow, may_follow_bound, may_stand, binding_behind, depth_behind, continues, are_predicates}
+use Rattle.nts_text.specs.Predicates.{is_name, is_complete, has_colon_behind, may_follow, may_follow_bound, may_stand, binding_behind, colon_allowed_behind, depth_behind, continues, are_predicates}
 use Rattle.nts_text.specs.declared.lexer.Token.{Token}
 use Rattle.nts_text.specs.declared.lexer.TokenKind.{TokenKind}
-use Rattle.nts_text.specs.declared.lexer.TokenKind.TheVariants.{Name, Open, Close, Comma, Greater, For, Arrow}
+use Rattle.nts_text.specs.declared.lexer.TokenKind.TheVariants.{Name, Open, Comma, Colon, Greater, For, Arrow}
 use Rattle.nts_text.specs.declared.parser.Keyword.TheVariants as keywords
 use Rattle.nts_text.specs.declared.parser.Line.TheVariants as lines
 use Rattle.nts_text.specs.declared.predicates.Wanted.TheVariants as wanted
@@ -23,30 +23,33 @@ both : (a b : Bool) → a && b ≡ true → (a ≡ true) × (b ≡ true)
 both true b h = (refl, h)
 both false b h = cc
 
+none_of : (a b c : Bool) → (a && false) || (b && false) || (c && false) ≡ false
+none_of a b c = rw (and_false a, and_false b, and_false c) refl
+
 -- no arrow follows in predicates
-never_follows : (many : Bool) (depth : ℕ) (k : TokenKind) → may_follow many depth k Arrow ≡ false
-never_follows many depth Open = refl
-never_follows many depth Comma = and_false (nat_lt 0 depth)
-never_follows many depth Greater = refl
-never_follows many depth Name = and_false (nat_lt 0 depth)
-never_follows many depth Close = refl
-never_follows many depth k = and_false (is_marked k)
+never_follows : (many colon_allowed : Bool) (depth : ℕ) (k : TokenKind) → may_follow many colon_allowed depth k Arrow ≡ false
+never_follows many colon_allowed depth Open = refl
+never_follows many colon_allowed depth Comma = refl
+never_follows many colon_allowed depth Greater = and_false colon_allowed
+never_follows many colon_allowed depth Colon = refl
+never_follows many colon_allowed depth k = none_of (is_name k) (has_colon_behind colon_allowed depth k) (is_complete colon_allowed depth k)
 
 never_bound : (k : TokenKind) → may_follow_bound k Arrow ≡ false
 never_bound For = refl
 never_bound Comma = refl
 never_bound k = refl
 
-never_stands : (many binding : Bool) (depth : ℕ) (k : TokenKind) → may_stand many binding depth k Arrow ≡ false
-never_stands many true depth k = never_bound k
-never_stands many false depth k = never_follows many depth k
+never_stands : (many binding colon_allowed : Bool) (depth : ℕ) (k : TokenKind) → may_stand many binding colon_allowed depth k Arrow ≡ false
+never_stands many true colon_allowed depth k = never_bound k
+never_stands many false colon_allowed depth k = never_follows many colon_allowed depth k
 
-continues_without : (many binding : Bool) (depth : ℕ) (k : TokenKind) (ts : List Token) → continues many binding depth k ts ≡ true → All IsNoArrow ts
-continues_without many binding depth k [] h = All-nil IsNoArrow
-continues_without many binding depth k (t ∷ ts) h =
-    let e = both (may_stand many binding depth k t.kind) (continues many (binding_behind binding t.kind) (depth_behind depth t.kind) t.kind ts) h in
-    All-cons IsNoArrow t ts (λ arrow. let f : true ≡ false = sym e.0 ∙ ap (may_stand many binding depth k) arrow ∙ never_stands many binding depth k in cc)
-    (continues_without many (binding_behind binding t.kind) (depth_behind depth t.kind) t.kind ts e.1)
+continues_without : (many binding colon_allowed : Bool) (depth : ℕ) (k : TokenKind) (ts : List Token) → continues many binding colon_allowed depth k ts ≡ true → All IsNoArrow ts
+continues_without many binding colon_allowed depth k [] h = All-nil IsNoArrow
+continues_without many binding colon_allowed depth k (t ∷ ts) h =
+    let allowed = colon_allowed_behind colon_allowed depth t.kind in
+    let e = both (may_stand many binding colon_allowed depth k t.kind) (continues many (binding_behind binding t.kind) allowed (depth_behind depth t.kind) t.kind ts) h in
+    All-cons IsNoArrow t ts (λ arrow. let f : true ≡ false = sym e.0 ∙ ap (may_stand many binding colon_allowed depth k) arrow ∙ never_stands many binding colon_allowed depth k in cc)
+    (continues_without many (binding_behind binding t.kind) allowed (depth_behind depth t.kind) t.kind ts e.1)
 
 holds_between : (P : Token → Type 0) (xs : List Token) (t : Token) (ys : List Token) → All P (xs ++ t ∷ ys) → P t
 holds_between P [] t ys h = All-head P t ys h
@@ -96,8 +99,8 @@ module _ (line : List ℕ) (ts : List Token) where
   says_no_rule at lt here first fails (lines.Impl head body) (inl h) =
       let d : Token = record { kind = Name; start = 0; end = 0 } in
       let arrow : (get_or ts at d).kind ≡ Arrow = subst (λ o. IfSome o (λ t. t.kind ≡ Arrow)) (slice_get-get_or ts at d lt) here in
-      continues_without false false 0 Greater ts h.0 at d lt arrow
+      continues_without false false false 0 Greater ts h.0 at d lt arrow
   says_no_rule at lt here first fails (lines.Impl head body) (inr (before, after, t, parts, arrow, is, head_is, are, body_is)) =
-      let e = parted before after t at (continues_without false false 0 Greater before is) arrow
+      let e = parted before after t at (continues_without false false false 0 Greater before is) arrow
       (subst (λ xs. IfSome (slice_get xs at) (λ u. u.kind ≡ Arrow)) parts here) (subst (λ xs. All IsNoArrow (take at xs)) parts first) in
       fails (ap (are_predicates wanted.Base) (ap (take at) parts ∙ sym e.0) ∙ is) (ap (are_predicates wanted.Many) (ap (drop (suc at)) parts ∙ sym e.1) ∙ are)

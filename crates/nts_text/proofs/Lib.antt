@@ -1,4 +1,6 @@
 pub mod CountLemmas
+pub mod WordLemmas
+mod PredicateExamples
 pub mod InputLemmas
 pub mod TokenLemmas
 pub mod NumberLemmas

@@ -1,10 +1,9 @@
 -- How parameters are read, token by token.
 use Rattle.std.proofs.Common.{◌≡◌, ℕ, ◌+◌, ◌<◌, length, take, get_or, List, [], ◌∷◌, ◌++◌, map, refl, sym, ap, subst, ◌∙◌, append_assoc}
 use Rattle.std.proofs.lemmas.List.{append-nil, map-append, take_more}
-use Rattle.nts_model.specs.declared.labels.Sort.{Sort}
 use Rattle.nts_model.specs.declared.labels.Variance.{Variance}
 use Rattle.nts_model.specs.declared.labels.Variance.TheVariants as variances
-use Rattle.nts_text.specs.Declarations.{Sign, bytes_of, sign_of, sign_with, word_of_sort, mark_of, signs_of_param, signs_of_params, AreParams, unmarked}
+use Rattle.nts_text.specs.Declarations.{Sign, bytes_of, sign_of, sign_with, word_of_sort, mark_of, signs_of_param, signs_of_params}
 use Rattle.nts_text.specs.declared.lexer.Token.{Token}
 use Rattle.nts_text.specs.declared.lexer.TokenKind.TheVariants.{Name, Open, Close, Comma, Minus, Equals}
 use Rattle.nts_text.specs.declared.parser.Param.{Param}

@@ -30,6 +30,8 @@ trait_sorts names n = option_map_or (λ s. s.sorts.items) (slice_get names.trait
 abbrev pub argument_sorts : NameTable → Resolved → List Sort
 argument_sorts names (nodes.Trait n arguments) = trait_sorts names n
 argument_sorts names (nodes.Ctor n arguments) = type_sorts names n
+argument_sorts names nodes.TypeOutlives = Ty ∷ Region ∷ []
+argument_sorts names nodes.RegionOutlives = Region ∷ Region ∷ []
 argument_sorts names _ = []
 
 -- a node is no variable of the line
@@ -45,6 +47,8 @@ IsNoVariable r = is_variable r ≡ false
 abbrev pub sort_of : Resolved → Option Sort
 sort_of (nodes.Binds s) = None
 sort_of (nodes.Trait n arguments) = None
+sort_of nodes.TypeOutlives = None
+sort_of nodes.RegionOutlives = None
 sort_of (nodes.BoundRegion n) = Some Region
 sort_of (nodes.RegionVariable n) = Some Region
 sort_of (nodes.RegionParam n) = Some Region
@@ -61,6 +65,8 @@ IsDeclared names _ = Unit {0}
 abbrev pub role_of : Resolved → Role
 role_of (nodes.Binds s) = roles.Bound
 role_of (nodes.Trait n arguments) = roles.Trait
+role_of nodes.TypeOutlives = roles.TypeOutlives
+role_of nodes.RegionOutlives = roles.RegionOutlives
 role_of _ = roles.Argument
 
 -- The nodes are of the sorts that are wanted, and each is followed by arguments of the sorts that
@@ -81,7 +87,8 @@ IsBoundAs Region k = k ≡ RegionParam
 IsBoundAs Const k = ⊥
 
 -- the node's word means this trait, type, variable, parameter or region, or this one of the names that
--- the predicate's binder binds; or it is a name for a binder to bind, which is free and not yet in its list
+-- the predicate's binder binds; or it is a name for a binder to bind, which is free and not yet in its list;
+-- or the node is a colon, and what its role is says what outlives the region
 abbrev pub IsMeaningOf : NameTable → Scope → List ℕ → BoundNames → Node → Resolved → Type 0
 IsMeaningOf names scope line b n (nodes.Binds s) =
     IsBoundAs s n.token.kind × (IsNameTaken names (bytes_of line n.token) → ⊥) × HasNoNumber b.next (bytes_of line n.token)
@@ -91,6 +98,8 @@ IsMeaningOf names scope line b n (nodes.BoundRegion i) =
     (n.token.kind ≡ RegionParam) × IsNumberOf b.here i (bytes_of line n.token)
 IsMeaningOf names scope line b n (nodes.Trait i arguments) =
     NameStandsFor names (bytes_of line n.token) (declared.Trait i) × (arguments ≡ n.arguments)
+IsMeaningOf names scope line b n nodes.TypeOutlives = n.role ≡ roles.TypeOutlives
+IsMeaningOf names scope line b n nodes.RegionOutlives = n.role ≡ roles.RegionOutlives
 IsMeaningOf names scope line b n (nodes.Ctor i arguments) =
     NameStandsFor names (bytes_of line n.token) (declared.Type i) × (arguments ≡ n.arguments)
 IsMeaningOf names scope line b n (nodes.Int t) = NameStandsFor names (bytes_of line n.token) (declared.Int t)

@@ -364,7 +364,6 @@ fn arrow_of(tokens: &[Token]) -> Option<usize>
 }
 
 /// A clause: a predicate that binds nothing, and the predicates behind `<-` if that is there.
-#[tactic(auto, using(crate::proofs::NodeLemmas::inside_nodes, crate::proofs::NodeLemmas::inside_nodes_take, crate::proofs::NodeLemmas::inside_nodes_drop))]
 fn impl_line(alloc: Global, line: &[u8], tokens: &[Token]) -> Result<Option<Line>, AllocError>
     requires { All (IsInside line.now) tokens.now }
     ensures says { IfOk result (λ o. IfSome o (Says line.now tokens.now Keyword.Impl)) }
@@ -390,7 +389,6 @@ fn impl_line(alloc: Global, line: &[u8], tokens: &[Token]) -> Result<Option<Line
 }
 
 /// A goal: one predicate.
-#[tactic(auto, using(crate::proofs::NodeLemmas::inside_nodes))]
 fn goal_line(alloc: Global, line: &[u8], tokens: &[Token]) -> Result<Option<Line>, AllocError>
     requires { All (IsInside line.now) tokens.now }
     ensures says { IfOk result (λ o. IfSome o (Says line.now tokens.now Keyword.Goal)) }
@@ -404,7 +402,6 @@ fn goal_line(alloc: Global, line: &[u8], tokens: &[Token]) -> Result<Option<Line
 }
 
 /// An environment: nothing, or predicates.
-#[tactic(auto, using(crate::proofs::NodeLemmas::inside_nodes))]
 fn env_line(alloc: Global, line: &[u8], tokens: &[Token]) -> Result<Option<Line>, AllocError>
     requires { All (IsInside line.now) tokens.now }
     ensures says { IfOk result (λ o. IfSome o (Says line.now tokens.now Keyword.Env)) }

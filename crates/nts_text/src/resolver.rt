@@ -40,6 +40,10 @@ pub enum Resolved {
     BoundType(usize),
     BoundRegion(usize),
     Trait { number: usize, arguments: usize },
+    /// A type outlives a region.
+    TypeOutlives,
+    /// A region outlives another one.
+    RegionOutlives,
     Ctor { number: usize, arguments: usize },
     Int(IntTy),
     Uint(UintTy),
@@ -410,6 +414,14 @@ impl Reading<'_> {
         match (node.role, wanted) {
             (Role::Bound, None) => self.bound(bounds, node),
             (Role::Trait, None) => self.trait_node(bounds, node),
+            (Role::TypeOutlives, None) => {
+                bounds.begin_predicate(self.alloc);
+                Ok(Resolved::TypeOutlives)
+            }
+            (Role::RegionOutlives, None) => {
+                bounds.begin_predicate(self.alloc);
+                Ok(Resolved::RegionOutlives)
+            }
             (Role::Argument, Some(Sort::Ty)) => self.type_node(bounds, scope, node),
             (Role::Argument, Some(Sort::Region)) => self.region_node(bounds, scope, node),
             // No text is a const, and no line has nodes in other places.
@@ -417,6 +429,11 @@ impl Reading<'_> {
         }
     }
 }
+
+/// The sorts on the sides of a colon.
+const TYPE_AND_REGION: [Sort; 2] = [Sort::Ty, Sort::Region];
+
+const TWO_REGIONS: [Sort; 2] = [Sort::Region, Sort::Region];
 
 /// Adds the sorts of a node's arguments to those that are wanted, the first one last.
 fn want_arguments(
@@ -431,6 +448,8 @@ fn want_arguments(
     let sorts = match node {
         Resolved::Trait { number, .. } => names.traits[number].sorts.as_slice(),
         Resolved::Ctor { number, .. } => names.types[number].sorts.as_slice(),
+        Resolved::TypeOutlives => TYPE_AND_REGION.as_slice(),
+        Resolved::RegionOutlives => TWO_REGIONS.as_slice(),
         _ => return Ok(()),
     };
     let mut at = sorts.len();

@@ -132,6 +132,35 @@ fn binds_in_each_predicate(rt: HostRuntime) {
     see_clause(&rt, &command, &head, &[&first, &second, &third]);
 }
 
+/// A colon stands as a node before what is on its sides, and behind its predicate's binder.
+#[test]
+fn reads_what_outlives(rt: HostRuntime) {
+    let lines: [&[u8]; 2] = [b"type Ref(region, type)", b"goal for<'a> Ref('a, ?x): 'b"];
+    let head = [Resolved::Binds(Sort::Region), Resolved::TypeOutlives];
+    let variable = Resolved::TypeVariable(0);
+    let left = [ctor(0, 2), Resolved::BoundRegion(0), variable];
+    let command = last_command(&rt, rt.alloc(), &lines);
+    see_goal(&rt, &command, &[&head, &left, &[Resolved::RegionParam(0)]]);
+}
+
+/// Predicates of both kinds stand behind one another.
+#[test]
+fn reads_conditions_that_outlive(rt: HostRuntime) {
+    let lines: [&[u8]; 3] = [
+        b"trait S(type)",
+        b"type Ref(region, type)",
+        b"impl S(Ref('?a, ?x)) <- ?x: '?a, S(?x), '?a: 'static",
+    ];
+    let region = Resolved::RegionVariable(0);
+    let variable = Resolved::TypeVariable(0);
+    let head = [trait_of(0, 1), ctor(0, 2), region, variable];
+    let first = [Resolved::TypeOutlives, variable, region];
+    let second = [trait_of(0, 1), variable];
+    let third = [Resolved::RegionOutlives, region, Resolved::Static];
+    let command = last_command(&rt, rt.alloc(), &lines);
+    see_clause(&rt, &command, &head, &[&first, &second, &third]);
+}
+
 /// Adds so many bytes, or words.
 fn append(rt: &impl Abort, line: &mut Vec<u8>, count: usize, word: &[u8]) {
     for _ in 0..count {

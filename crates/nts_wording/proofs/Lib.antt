@@ -6,5 +6,6 @@ pub mod Growths
 pub mod Printed
 pub mod Writing
 mod Answered
+mod MeaningExamples
 pub mod Lines
 pub mod Telling

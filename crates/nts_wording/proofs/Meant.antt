@@ -5,23 +5,23 @@ use Rattle.std.proofs.lemmas.List.{reverse-append}
 use Rattle.std.proofs.lemmas.List.Elements.{All-head, All-tail}
 use Rattle.nts_model.specs.declared.labels.Label.TheVariants as label
 use Rattle.nts_model.specs.declared.labels.ListHead.TheVariants as list
-use Rattle.nts_model.specs.declared.labels.ClauseHead.TheVariants as clause
-use Rattle.nts_model.specs.Terms.Trees.{Tree, empty, more, node}
+use Rattle.nts_model.specs.Terms.Trees.{Tree, more, node}
 use Rattle.nts_terms.specs.declared.handles.GenericArg.{GenericArg}
 use Rattle.nts_terms.specs.declared.handles.GenericArgs.{GenericArgs}
 use Rattle.nts_store.specs.Growth.{tree_at, trees_at, Extends}
 use Rattle.nts_terms.specs.declared.handles.Goal.{Goal}
 use Rattle.nts_terms.specs.declared.handles.ParamEnv.{ParamEnv}
 use Rattle.nts_terms.specs.declared.handles.Predicate.{Predicate}
-use Rattle.nts_terms.specs.declared.kinds.ClauseKind.TheVariants as clause_kind
+use Rattle.nts_terms.specs.declared.kinds.ClauseKind.{ClauseKind}
+use Rattle.nts_store.specs.declared.nodes.NodeId.{NodeId}
 use Rattle.nts_terms.specs.Handles.{HoldsArg, HoldsArgs, HoldsEnv}
 use Rattle.nts_terms.specs.Kinds.{tree_of_args, tree_of_clause, tree_of_env}
 use Rattle.nts_store.proofs.Growing.{Extends-trans, Extends-refl}
 use Rattle.nts_text.specs.declared.resolver.Resolved.{Resolved}
 use Rattle.nts_text.specs.declared.resolver.Resolved.TheVariants as nodes
-use Rattle.nts_wording.specs.declared.build.BoundTrait.{BoundTrait}
+use Rattle.nts_wording.specs.declared.build.BoundClause.{BoundClause}
 use Rattle.nts_wording.specs.declared.variables.LineVariables.{LineVariables}
-use Rattle.nts_wording.specs.Meaning.{argument_row, argument_list, term_of, nodes_meaning, values_in, made_trees, binding_nothing, predicate_tree, trait_statement, statements, TakesArguments, MakesArgument, AreSaid, States, AreConditions, IsGivenEnvironment, IsGoalFor, no_values, tree_at_place, environment_tree, IsEnvironmentFor}
+use Rattle.nts_wording.specs.Meaning.{Values, NodesMeaning, argument_row, argument_list, argument_count, term_of, statement_before, meaning_before, nodes_meaning, values_in, made_trees, binding_nothing, predicate_tree, clause_statement, statements, TakesArguments, TakesLast, StatesOf, MakesArgument, MakesStatement, AreSaid, States, AreConditions, IsGivenEnvironment, IsGoalFor, no_values, tree_at_place, environment_tree, IsEnvironmentFor}
 
 -- the front of a list, and what stands behind it
 take_front : {A : Type 0} (n : ℕ) (xs ys : List A) → length xs ≡ n → take n (xs ++ ys) ≡ xs
@@ -65,12 +65,12 @@ takes ts mid old new args count l parts counted held e within tree us later =
     )
 
 -- what was made of the last nodes, here and in each later store
-abbrev pub IsMade : List Tree → LineVariables → List GenericArg → List Resolved → Vec GenericArg → List BoundTrait → Type 0
+abbrev pub IsMade : List Tree → LineVariables → List GenericArg → List Resolved → Vec GenericArg → List BoundClause → Type 0
 IsMade ts variables values rs made found =
     (us : List Tree) → Extends ts us
     → (made_trees us made ≡ (nodes_meaning (values_in us variables values) rs).arguments) × (statements us (reverse found) ≡ (nodes_meaning (values_in us variables values) rs).predicates)
 
-module _ (ts mid : List Tree) (variables : LineVariables) (values : List GenericArg) (rs : List Resolved) (old new : Vec GenericArg) (found : List BoundTrait) where
+module _ (ts mid : List Tree) (variables : LineVariables) (values : List GenericArg) (rs : List Resolved) (old new : Vec GenericArg) (found : List BoundClause) where
   one_more : (us : List Tree) (last : Vec GenericArg) (a : GenericArg) (args : List Tree) (f : List Tree → Tree) (k : ℕ) → last.items ≡ new.items ++ a ∷ []
       → made_trees us old ≡ args → tree_at us a.node ≡ f (take k (made_trees us old)) → made_trees us new ≡ drop k (made_trees us old)
       → made_trees us last ≡ f (take k args) ∷ drop k args
@@ -89,6 +89,8 @@ module _ (ts mid : List Tree) (variables : LineVariables) (values : List Generic
       let was = h us (Extends-trans e later) in
       (one_more us last a _ (term_of (values_in us variables values) (nodes.BoundRegion i)) 0 pushed was.0 (makes us later).0 (makes us later).1, was.1)
   made_argument (nodes.Trait i n) last a h e makes pushed = absurd makes
+  made_argument nodes.TypeOutlives last a h e makes pushed = absurd makes
+  made_argument nodes.RegionOutlives last a h e makes pushed = absurd makes
   made_argument (nodes.Ctor i n) last a h e makes pushed = λ us later.
       let was = h us (Extends-trans e later) in
       (one_more us last a _ (term_of (values_in us variables values) (nodes.Ctor i n)) n pushed was.0 (makes us later).0 (makes us later).1, was.1)
@@ -114,28 +116,48 @@ module _ (ts mid : List Tree) (variables : LineVariables) (values : List Generic
       let was = h us (Extends-trans e later) in
       (one_more us last a _ (term_of (values_in us variables values) nodes.Static) 0 pushed was.0 (makes us later).0 (makes us later).1, was.1)
 
-  -- one more predicate
-  pub made_trait : (i n : ℕ) (args : GenericArgs) (b : BoundTrait) (last : List BoundTrait) → IsMade ts variables values rs old found → Extends ts mid → TakesArguments mid old new n args
-      → b.binds.items ≡ [] → b.trait_ref ≡ record { def_id = record { number = i }; args = args } → last ≡ found ++ b ∷ [] → IsMade mid variables values (nodes.Trait i n ∷ rs) new last
-  made_trait i n args b last h e takes unbound is pushed = λ us later.
+  stated : (r : Resolved) (c : ClauseKind) (b : BoundClause) (last : List BoundClause) → ((v : Values) (m : NodesMeaning) → meaning_before v r m ≡ statement_before v r m)
+      → IsMade ts variables values rs old found → Extends ts mid → StatesOf mid r old new c
+      → b.binds.items ≡ [] → b.clause ≡ c → last ≡ found ++ b ∷ [] → IsMade mid variables values (r ∷ rs) new last
+  stated r c b last means h e states unbound is pushed = λ us later.
       let was = h us (Extends-trans e later) in
-      let taken = takes us later in
-      let first : trait_statement us b ≡ binding_nothing (node (label.Clause (clause.Trait i)) (more (tree_at us args.node) empty)) =
-      ap (λ xs. record { binds = reverse xs; statement = tree_of_clause us (clause_kind.Trait b.trait_ref) }) unbound ∙ ap (λ r. binding_nothing (tree_of_clause us (clause_kind.Trait r))) is in (
-        taken.1 ∙ ap (drop n) was.0,
+      let v = values_in us variables values in
+      let m = nodes_meaning v rs in
+      let taken = states us v later in
+      let first : clause_statement us b ≡ binding_nothing (term_of v r (take (argument_count r) m.arguments)) =
+      ap (λ xs. record { binds = reverse xs; statement = tree_of_clause us b.clause }) unbound ∙ ap (λ k. binding_nothing (tree_of_clause us k)) is
+      ∙ ap binding_nothing (taken.0 ∙ ap (λ xs. term_of v r (take (argument_count r) xs)) was.0) in (
+        taken.1 ∙ ap (drop (argument_count r)) was.0 ∙ sym (ap (λ n. n.arguments) (means v m)),
         ap (λ xs. statements us (reverse xs)) pushed ∙ ap (statements us) (reverse-append found (b ∷ []))
             ∙ ap (λ s. s ∷ statements us (reverse found)) first
-            ∙ ap (λ t. binding_nothing (node (label.Clause (clause.Trait i)) (more t empty)) ∷ statements us (reverse found)) (taken.0 ∙ ap (λ xs. argument_list (take n xs)) was.0)
-            ∙ ap (λ ps. binding_nothing (node (label.Clause (clause.Trait i)) (more (argument_list (take n (nodes_meaning (values_in us variables values) rs).arguments)) empty)) ∷ ps) was.1,
+            ∙ ap (λ ps. binding_nothing (term_of v r (take (argument_count r) m.arguments)) ∷ ps) was.1 ∙ sym (ap (λ n. n.predicates) (means v m)),
       )
+
+  -- one more predicate
+  pub made_statement : (r : Resolved) (c : ClauseKind) (b : BoundClause) (last : List BoundClause) → IsMade ts variables values rs old found → Extends ts mid → MakesStatement mid r old new c
+      → b.binds.items ≡ [] → b.clause ≡ c → last ≡ found ++ b ∷ [] → IsMade mid variables values (r ∷ rs) new last
+  made_statement (nodes.Trait i n) c b last h e makes unbound is pushed = stated (nodes.Trait i n) c b last (λ v m. refl) h e makes unbound is pushed
+  made_statement nodes.TypeOutlives c b last h e makes unbound is pushed = stated nodes.TypeOutlives c b last (λ v m. refl) h e makes unbound is pushed
+  made_statement nodes.RegionOutlives c b last h e makes unbound is pushed = stated nodes.RegionOutlives c b last (λ v m. refl) h e makes unbound is pushed
+  made_statement r c b last h e makes unbound is pushed = absurd makes
+
+-- the last argument is the first of those that are read from the end
+pub taken_last : (old new : Vec GenericArg) (a : GenericArg) (n : NodeId) → old.items ≡ new.items ++ a ∷ [] → n ≡ a.node → TakesLast old new n
+taken_last old new a n e same = λ us.
+    ap (λ xs. map (λ b. tree_at us b.node) (reverse xs)) e ∙ ap (map (λ b. tree_at us b.node)) (reverse-append new.items (a ∷ []))
+    ∙ ap (λ x. tree_at us x ∷ made_trees us new) (sym same)
+
+-- two arguments that were taken one after the other
+pub both_taken : (old mid new : Vec GenericArg) (a b : NodeId) → TakesLast old mid a → TakesLast mid new b → (us : List Tree) → made_trees us old ≡ tree_at us a ∷ tree_at us b ∷ made_trees us new
+both_taken old mid new a b h k us = h us ∙ ap (λ xs. tree_at us a ∷ xs) (k us)
 
 pub one_item : {A : Type 0} (xs : List A) (d : A) → 1 ≤ length xs → length xs < 2 → xs ≡ get_or xs 0 d ∷ []
 one_item [] d l h = absurd (omega (arith, l))
 one_item (x ∷ []) d l h = refl
 one_item (x ∷ y ∷ ys) d l h = absurd (omega (arith, h))
 
--- the goal of the one trait that nodes say
-pub goal_for : (a mid ts : List Tree) (env : Option ParamEnv) (variables : LineVariables) (values : List GenericArg) (rs : List Resolved) (traits : List BoundTrait) (r : BoundTrait) (g : Goal)
+-- the goal of the one predicate that nodes say
+pub goal_for : (a mid ts : List Tree) (env : Option ParamEnv) (variables : LineVariables) (values : List GenericArg) (rs : List Resolved) (traits : List BoundClause) (r : BoundClause) (g : Goal)
     → AreSaid a variables values rs traits → traits ≡ r ∷ [] → Extends a mid → Extends mid ts → States ts r g.predicate → ((us : List Tree) → Extends mid us → IsGivenEnvironment us env g.param_env)
     → IsGoalFor ts env variables values rs g
 goal_for a mid ts env variables values rs traits r g said one e f states assumed = λ us later.

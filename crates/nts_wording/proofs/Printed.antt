@@ -13,10 +13,7 @@ use Rattle.nts_model.specs.declared.labels.Label.{Label}
 use Rattle.nts_model.specs.declared.labels.TyHead.{TyHead}
 use Rattle.nts_model.specs.declared.labels.TyHead.TheVariants as ty
 use Rattle.nts_model.specs.declared.labels.Leaf.{Leaf}
-use Rattle.nts_model.specs.declared.labels.IntTy.{IntTy}
-use Rattle.nts_model.specs.declared.labels.UintTy.{UintTy}
-use Rattle.nts_text.specs.Names.{word_of_int, word_of_uint}
-use Rattle.nts_wording.specs.Printing.{Lexicon, Seen, IsText, IsLeafText, IsUnnamedType, separator, in_brackets, type_name}
+use Rattle.nts_wording.specs.Printing.{Lexicon, Seen, IsText, IsUnnamedType, separator, in_brackets, type_name}
 use Rattle.nts_wording.specs.Pieces.{ArePrinted, Completes, Opens}
 use Rattle.nts_replacing.proofs.Replacing.{row_drop as row_from}
 

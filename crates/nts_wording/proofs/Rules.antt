@@ -1,9 +1,7 @@
 -- The clause that an impl says.
 use Rattle.std.proofs.Common.{◌≡◌, ℕ, ◌+◌, ◌<◌, List, [], ◌∷◌, ◌++◌, All, map, reverse, take, get_or, length, sym, ap, ◌∙◌}
 use Rattle.std.proofs.lemmas.List.{map-append, take_more}
-use Rattle.nts_model.specs.declared.labels.Label.TheVariants as label
-use Rattle.nts_model.specs.declared.labels.ClauseHead.TheVariants as clause
-use Rattle.nts_model.specs.Terms.Trees.{Tree, empty, more, node}
+use Rattle.nts_model.specs.Terms.Trees.{Tree}
 use Rattle.nts_store.specs.Growth.{tree_at, Extends}
 use Rattle.nts_store.proofs.Growing.{Extends-trans}
 use Rattle.nts_delegate.specs.declared.clauses.Clause.{Clause}
@@ -11,37 +9,37 @@ use Rattle.nts_terms.specs.declared.handles.GenericArg.{GenericArg}
 use Rattle.nts_terms.specs.declared.handles.Predicate.{Predicate}
 use Rattle.nts_terms.specs.declared.kinds.ClauseKind.TheVariants as clause_kind
 use Rattle.nts_terms.specs.Kinds.{tree_of_clause}
-use Rattle.nts_wording.specs.declared.build.BoundTrait.{BoundTrait}
+use Rattle.nts_wording.specs.declared.build.BoundClause.{BoundClause}
 use Rattle.nts_text.specs.declared.resolver.Resolved.{Resolved}
 use Rattle.nts_wording.specs.declared.variables.LineVariables.{LineVariables}
 use Rattle.nts_wording.specs.Meaning.{statements, AreSaid, States, AreConditions, predicate_tree, binding_nothing, HasOwnPlaces, HasPlace, AreClausePositions, IsRuleOf}
 
--- what holds of the traits holds of the conditions
-pub conditions_said : (a ts : List Tree) (variables : LineVariables) (values : List GenericArg) (rs : List Resolved) (traits : List BoundTrait) (ps : List Predicate)
+-- what holds of the predicates holds of the conditions
+pub conditions_said : (a ts : List Tree) (variables : LineVariables) (values : List GenericArg) (rs : List Resolved) (traits : List BoundClause) (ps : List Predicate)
     → AreSaid a variables values rs traits → Extends a ts
     → ((us : List Tree) → Extends ts us → map (λ p. tree_at us p.node) ps ≡ map predicate_tree (statements us traits))
     → AreConditions ts variables values rs ps
 conditions_said a ts variables values rs traits ps said e stated = λ us later. stated us later ∙ ap (map predicate_tree) (said us (Extends-trans e later))
 
 -- one condition more
-pub stated_push : (mid ts : List Tree) (traits : List BoundTrait) (i : ℕ) (d : BoundTrait) (ps : List Predicate) (p : Predicate) → i < length traits
+pub stated_push : (mid ts : List Tree) (traits : List BoundClause) (i : ℕ) (d : BoundClause) (ps : List Predicate) (p : Predicate) → i < length traits
     → ((us : List Tree) → Extends mid us → map (λ q. tree_at us q.node) ps ≡ map predicate_tree (statements us (take i traits)))
     → Extends mid ts → States ts (get_or traits i d) p
     → (us : List Tree) → Extends ts us → map (λ q. tree_at us q.node) (ps ++ p ∷ []) ≡ map predicate_tree (statements us (take (i + 1) traits))
 stated_push mid ts traits i d ps p lt h e states us later =
-    let r : BoundTrait = get_or traits i d in
+    let r : BoundClause = get_or traits i d in
     let parts : statements us (take (i + 1) traits) ≡ statements us (take i traits) ++ statements us (r ∷ []) = ap (statements us) (take_more traits i d lt) ∙ map-append _ (take i traits) (r ∷ []) in
     map-append (λ q. tree_at us q.node) ps (p ∷ []) ∙ ap (λ xs. xs ++ tree_at us p.node ∷ []) (h us (Extends-trans e later))
     ∙ ap (λ t. map predicate_tree (statements us (take i traits)) ++ t ∷ []) (states us later)
     ∙ sym (ap (map predicate_tree) parts ∙ map-append predicate_tree (statements us (take i traits)) (statements us (r ∷ [])))
 
 -- the clause of the one trait that the head says
-pub rule_of : (a b ts : List Tree) (variables : LineVariables) (values : List GenericArg) (head body : List Resolved) (traits : List BoundTrait) (r : BoundTrait) (c : Clause)
-    → HasOwnPlaces variables → All (HasPlace variables) head × All (HasPlace variables) body → c.fresh.items ≡ variables.sorts.items → r.binds.items ≡ [] → c.trait_id ≡ r.trait_ref.def_id → c.head ≡ r.trait_ref.args
+pub rule_of : (a b ts : List Tree) (variables : LineVariables) (values : List GenericArg) (head body : List Resolved) (traits : List BoundClause) (r : BoundClause) (c : Clause)
+    → HasOwnPlaces variables → All (HasPlace variables) head × All (HasPlace variables) body → c.fresh.items ≡ variables.sorts.items → r.binds.items ≡ [] → r.clause ≡ clause_kind.Trait (record { def_id = c.trait_id; args = c.head })
     → AreClausePositions ts variables.sorts.items values → AreSaid a variables values head traits → traits ≡ r ∷ [] → Extends a ts
     → AreConditions b variables values body c.body.items → Extends b ts
     → IsRuleOf ts head body c
-rule_of a b ts variables values head body traits r c own placed fresh unbound trait args positions said one e conditions f = record {
+rule_of a b ts variables values head body traits r c own placed fresh unbound is positions said one e conditions f = record {
   variables = variables;
   values = values;
   own = own;
@@ -49,8 +47,7 @@ rule_of a b ts variables values head body traits r c own placed fresh unbound tr
   sorts = fresh;
   positions = rw fresh positions;
   head = sym (said ts e) ∙ ap (statements ts) one
-      ∙ ap (λ xs. record { binds = reverse xs; statement = tree_of_clause ts (clause_kind.Trait r.trait_ref) } ∷ []) unbound
-      ∙ ap (λ i. binding_nothing (node (label.Clause (clause.Trait i.number)) (more (tree_at ts r.trait_ref.args.node) empty)) ∷ []) (sym trait)
-      ∙ ap (λ l. binding_nothing (node (label.Clause (clause.Trait c.trait_id.number)) (more (tree_at ts l.node) empty)) ∷ []) (sym args);
+      ∙ ap (λ xs. record { binds = reverse xs; statement = tree_of_clause ts r.clause } ∷ []) unbound
+      ∙ ap (λ k. binding_nothing (tree_of_clause ts k) ∷ []) is;
   body = conditions ts f;
 }

@@ -17,7 +17,8 @@ use Rattle.nts_table.specs.Fresh.{variable_kind}
 use Rattle.nts_delegate.specs.declared.clauses.Clause.{Clause}
 use Rattle.nts_terms.specs.declared.handles.GenericArg.{GenericArg}
 use Rattle.nts_terms.specs.declared.handles.GenericArgs.{GenericArgs}
-use Rattle.nts_terms.specs.declared.kinds.ClauseKind.TheVariants as clause_kind
+use Rattle.nts_terms.specs.declared.kinds.ClauseKind.{ClauseKind}
+use Rattle.nts_store.specs.declared.nodes.NodeId.{NodeId}
 use Rattle.nts_store.specs.Growth.{tree_at, Extends}
 use Rattle.nts_terms.specs.Kinds.{tree_of_clause, tree_of_vars}
 use Rattle.nts_terms.specs.declared.handles.Goal.{Goal}
@@ -25,7 +26,7 @@ use Rattle.nts_terms.specs.declared.handles.ParamEnv.{ParamEnv}
 use Rattle.nts_terms.specs.declared.handles.Predicate.{Predicate}
 use Rattle.nts_text.specs.declared.resolver.Resolved.{Resolved}
 use Rattle.nts_text.specs.declared.resolver.Resolved.TheVariants as nodes
-use Rattle.nts_wording.specs.declared.build.BoundTrait.{BoundTrait}
+use Rattle.nts_wording.specs.declared.build.BoundClause.{BoundClause}
 use Rattle.nts_wording.specs.declared.variables.LineVariables.{LineVariables}
 
 -- what the variables of a line stand for, by number
@@ -45,6 +46,8 @@ argument_list ts = node (label.List list.Args) (argument_row ts)
 abbrev pub argument_count : Resolved → ℕ
 argument_count (nodes.Trait i n) = n
 argument_count (nodes.Ctor i n) = n
+argument_count nodes.TypeOutlives = 2
+argument_count nodes.RegionOutlives = 2
 argument_count r = 0
 
 -- the term that a node means, with these arguments: a bound variable is of the innermost binder, that of
@@ -54,6 +57,8 @@ term_of v (nodes.Binds s) args = empty
 term_of v (nodes.BoundType i) args = node (label.Bound sort.Ty (index.Bound 0) i) empty
 term_of v (nodes.BoundRegion i) args = node (label.Bound sort.Region (index.Bound 0) i) empty
 term_of v (nodes.Trait i n) args = node (label.Clause (clause.Trait i)) (more (argument_list args) empty)
+term_of v nodes.TypeOutlives args = node (label.Clause clause.TypeOutlives) (argument_row args)
+term_of v nodes.RegionOutlives args = node (label.Clause clause.RegionOutlives) (argument_row args)
 term_of v (nodes.Ctor i n) args = node (label.Ty (ty.Ctor i)) (more (argument_list args) empty)
 term_of v (nodes.Int i) args = node (label.Ty (ty.Int i)) empty
 term_of v (nodes.Uint i) args = node (label.Ty (ty.Uint i)) empty
@@ -85,14 +90,20 @@ pub record NodesMeaning : Type 0 where
   pub arguments : List Tree
   pub predicates : List BoundStatement
 
+-- a predicate takes its arguments, and binds nothing as yet
+abbrev pub statement_before : Values → Resolved → NodesMeaning → NodesMeaning
+statement_before v r m = record {
+  arguments = drop (argument_count r) m.arguments;
+  predicates = binding_nothing (term_of v r (take (argument_count r) m.arguments)) ∷ m.predicates;
+}
+
 -- a node takes as many arguments as it has from the front of those that stand behind it, and a name that
 -- a binder is to bind is bound in the predicate behind it
 abbrev pub meaning_before : Values → Resolved → NodesMeaning → NodesMeaning
 meaning_before v (nodes.Binds s) m = record m { predicates = binding_first s m.predicates }
-meaning_before v (nodes.Trait i n) m = record {
-  arguments = drop n m.arguments;
-  predicates = binding_nothing (term_of v (nodes.Trait i n) (take n m.arguments)) ∷ m.predicates;
-}
+meaning_before v (nodes.Trait i n) m = statement_before v (nodes.Trait i n) m
+meaning_before v nodes.TypeOutlives m = statement_before v nodes.TypeOutlives m
+meaning_before v nodes.RegionOutlives m = statement_before v nodes.RegionOutlives m
 meaning_before v r m = record {
   arguments = term_of v r (take (argument_count r) m.arguments) ∷ drop (argument_count r) m.arguments;
   predicates = m.predicates;
@@ -157,15 +168,15 @@ AreClausePositions ts sorts values = map (λ a. tree_at ts a.node) values ≡ tr
 abbrev pub made_trees : List Tree → Vec GenericArg → List Tree
 made_trees ts made = map (λ a. tree_at ts a.node) (reverse made.items)
 
--- that a trait holds for its arguments, under its binder, whose variables are kept from the last to the first
-abbrev pub trait_statement : List Tree → BoundTrait → BoundStatement
-trait_statement ts b = record { binds = reverse b.binds.items; statement = tree_of_clause ts (clause_kind.Trait b.trait_ref) }
+-- what is stated under a binder, whose variables are kept from the last to the first
+abbrev pub clause_statement : List Tree → BoundClause → BoundStatement
+clause_statement ts b = record { binds = reverse b.binds.items; statement = tree_of_clause ts b.clause }
 
-abbrev pub statements : List Tree → List BoundTrait → List BoundStatement
-statements ts traits = map (trait_statement ts) traits
+abbrev pub statements : List Tree → List BoundClause → List BoundStatement
+statements ts clauses = map (clause_statement ts) clauses
 
--- the last trait binds one variable more, before the others that it binds
-abbrev pub BindsFirst : Sort → List BoundTrait → List BoundTrait → Type 0
+-- the last predicate binds one variable more, before the others that it binds
+abbrev pub BindsFirst : Sort → List BoundClause → List BoundClause → Type 0
 BindsFirst s old new = (ts : List Tree) → statements ts (reverse new) ≡ binding_first s (statements ts (reverse old))
 
 -- so many arguments are taken from the end, here and in each later store
@@ -179,15 +190,34 @@ TakesArguments ts old new count args =
 abbrev pub MakesArgument : List Tree → LineVariables → List GenericArg → Resolved → Vec GenericArg → Vec GenericArg → GenericArg → Type 0
 MakesArgument ts variables values (nodes.Binds s) old new a = ⊥
 MakesArgument ts variables values (nodes.Trait i n) old new a = ⊥
+MakesArgument ts variables values nodes.TypeOutlives old new a = ⊥
+MakesArgument ts variables values nodes.RegionOutlives old new a = ⊥
 MakesArgument ts variables values r old new a =
     (us : List Tree) → Extends ts us
     → (tree_at us a.node ≡ term_of (values_in us variables values) r (take (argument_count r) (made_trees us old)))
     × (made_trees us new ≡ drop (argument_count r) (made_trees us old))
 
--- traits are what nodes say, here and in each later store
-abbrev pub AreSaid : List Tree → LineVariables → List GenericArg → List Resolved → List BoundTrait → Type 0
-AreSaid ts variables values rs traits =
-    (us : List Tree) → Extends ts us → statements us traits ≡ (nodes_meaning (values_in us variables values) rs).predicates
+-- the argument that was made last is taken
+abbrev pub TakesLast : Vec GenericArg → Vec GenericArg → NodeId → Type 0
+TakesLast old new n = (us : List Tree) → made_trees us old ≡ tree_at us n ∷ made_trees us new
+
+-- a predicate is stated, of the arguments that were made last, here and in each later store
+abbrev pub StatesOf : List Tree → Resolved → Vec GenericArg → Vec GenericArg → ClauseKind → Type 0
+StatesOf ts r old new c =
+    (us : List Tree) (v : Values) → Extends ts us
+    → (tree_of_clause us c ≡ term_of v r (take (argument_count r) (made_trees us old)))
+    × (made_trees us new ≡ drop (argument_count r) (made_trees us old))
+
+abbrev pub MakesStatement : List Tree → Resolved → Vec GenericArg → Vec GenericArg → ClauseKind → Type 0
+MakesStatement ts (nodes.Trait i n) old new c = StatesOf ts (nodes.Trait i n) old new c
+MakesStatement ts nodes.TypeOutlives old new c = StatesOf ts nodes.TypeOutlives old new c
+MakesStatement ts nodes.RegionOutlives old new c = StatesOf ts nodes.RegionOutlives old new c
+MakesStatement ts r old new c = ⊥
+
+-- predicates are what nodes say, here and in each later store
+abbrev pub AreSaid : List Tree → LineVariables → List GenericArg → List Resolved → List BoundClause → Type 0
+AreSaid ts variables values rs clauses =
+    (us : List Tree) → Extends ts us → statements us clauses ≡ (nodes_meaning (values_in us variables values) rs).predicates
 
 abbrev pub empty_environment : Tree
 empty_environment = node (label.List list.Env) empty
@@ -221,8 +251,8 @@ IsEnvironmentOf ts rs e = tree_at ts e.node ≡ environment_tree (map predicate_
 abbrev pub IsEnvironmentFor : List Tree → List Resolved → ParamEnv → Type 0
 IsEnvironmentFor ts rs e = (us : List Tree) → Extends ts us → IsEnvironmentOf us rs e
 
-abbrev pub States : List Tree → BoundTrait → Predicate → Type 0
-States ts b p = (us : List Tree) → Extends ts us → tree_at us p.node ≡ predicate_tree (trait_statement us b)
+abbrev pub States : List Tree → BoundClause → Predicate → Type 0
+States ts b p = (us : List Tree) → Extends ts us → tree_at us p.node ≡ predicate_tree (clause_statement us b)
 
 -- predicates are what nodes say, here and in each later store
 abbrev pub AreConditions : List Tree → LineVariables → List GenericArg → List Resolved → List Predicate → Type 0

@@ -2,9 +2,10 @@
 ghost use Rattle.std.specs.Prelude.{◌≡◌, All, IsTrue, IfOk, IfSome, OnOk, Some, List, reverse, slice_get};
 ghost use Rattle.nts_model.specs.Terms.Trees.{Tree};
 ghost use Rattle.nts_store.specs.Growth.{Extends, tree_at};
-ghost use Rattle.nts_terms.specs.Kinds.{tree_of_ty};
+ghost use Rattle.nts_terms.specs.Kinds.{tree_of_ty, ClauseFits};
+ghost use Rattle.nts_terms.specs.Signatures.{StatementIsDeclared};
 ghost use Rattle.nts_terms.specs.declared.kinds.TyKind.TheVariants as ty;
-ghost use Rattle.nts_wording.specs.Meaning.{tree_at_place, BindsFirst, TakesArguments, MakesArgument, AreSaid, States, AreClausePositions};
+ghost use Rattle.nts_wording.specs.Meaning.{tree_at_place, BindsFirst, TakesArguments, TakesLast, MakesArgument, MakesStatement, AreSaid, States, AreClausePositions};
 ghost use Rattle.nts_terms.specs.Handles.{HoldsArg, HoldsArgs, HoldsPredicate};
 ghost use Rattle.nts_terms.specs.Rest.{Grows};
 
@@ -12,8 +13,8 @@ use crate::status::Stop;
 use crate::variables::LineVariables;
 use nts_model::{BoundVarIndexKind, Sort};
 use nts_terms::{
-    Binder, BoundRegion, BoundTy, ClauseKind, CtorId, Cx, DefId, GenericArg, GenericArgs,
-    Predicate, PredicateKind, RegionKind, TraitId, TraitRef, TyKind,
+    Binder, BoundRegion, BoundTy, ClauseKind, CtorId, Cx, DefId, GenericArg, GenericArgKind,
+    GenericArgs, Predicate, PredicateKind, Region, RegionKind, TraitId, TraitRef, Ty, TyKind,
 };
 use nts_text::{Refusal, Resolved};
 use std::alloc::{AllocError, Global};
@@ -51,12 +52,12 @@ impl Terms<'_> {
     }
 }
 
-/// A trait with its arguments, under a binder.
+/// What a predicate states, under a binder: a trait with its arguments, or what outlives a region.
 #[derive(Drop)]
-pub struct BoundTrait {
+pub struct BoundClause {
     /// The sorts of the variables that the binder binds, the last one first.
     pub binds: Vec<Sort>,
-    pub trait_ref: TraitRef,
+    pub clause: ClauseKind,
 }
 
 /// What is answered where terms don't fit, though the names of the line do.
@@ -69,13 +70,13 @@ fn parameter(number: usize) -> Result<u32, Stop>
     u32::try_from(number).map_err(|_| Stop::Memory)
 }
 
-/// The traits that these nodes name, with their arguments and binders, in order.
+/// What the predicates of these nodes state, with their binders, in order.
 #[tactic(auto, using(crate::proofs::Stores::growing))]
-pub fn bound_traits(
+pub fn bound_clauses(
     cx: &mut Cx,
     nodes: &[Resolved],
     terms: Terms<'_>,
-) -> Result<Vec<BoundTrait>, Stop>
+) -> Result<Vec<BoundClause>, Stop>
     ensures said { IfOk result (λ rs. AreSaid cx.new.nodes terms.entry.variables.now
         terms.entry.values.now nodes.now rs.items) }
     ensures grows { Grows cx.old cx.new }
@@ -87,20 +88,17 @@ pub fn bound_traits(
     let mut at = nodes.len();
     while at > 0 {
         at -= 1;
-        match nodes[at] {
-            Resolved::Trait { number, arguments } => {
-                let args = take_args(cx, &mut made, arguments)?;
-                let trait_ref = TraitRef {
-                    def_id: TraitId { number },
-                    args,
-                };
-                found.push(BoundTrait {
+        let node = nodes[at];
+        match node {
+            Resolved::Binds(sort) => bind_first(&mut found, sort)?,
+            Resolved::Trait { .. } | Resolved::TypeOutlives | Resolved::RegionOutlives => {
+                let clause = statement(cx, &mut made, node)?;
+                found.push(BoundClause {
                     binds: Vec::new(alloc),
-                    trait_ref,
+                    clause,
                 })?;
             }
-            Resolved::Binds(sort) => bind_first(&mut found, sort)?,
-            node => {
+            _ => {
                 let argument = argument(cx, &mut made, terms, node)?;
                 made.push(argument)?;
             }
@@ -110,8 +108,62 @@ pub fn bound_traits(
     Ok(found)
 }
 
-/// Binds a variable more by the binder of the last trait, before the others that it binds.
-fn bind_first(found: &mut Vec<BoundTrait>, sort: Sort) -> Result<(), Stop>
+/// What a predicate states, whose arguments were made last.
+#[tactic(auto, using(crate::proofs::Stores::growing))]
+fn statement(cx: &mut Cx, made: &mut Vec<GenericArg>, node: Resolved) -> Result<ClauseKind, Stop>
+    ensures makes { IfOk result (MakesStatement cx.new.nodes node made.old made.new) }
+    ensures grows { Grows cx.old cx.new }
+{
+    match node {
+        Resolved::Trait { number, arguments } => {
+            let args = take_args(cx, made, arguments)?;
+            let def_id = TraitId { number };
+            Ok(ClauseKind::Trait(TraitRef { def_id, args }))
+        }
+        Resolved::TypeOutlives => {
+            let ty = take_type(cx, made)?;
+            let region = take_region(cx, made)?;
+            Ok(ClauseKind::TypeOutlives(ty, region))
+        }
+        Resolved::RegionOutlives => {
+            let longer = take_region(cx, made)?;
+            let shorter = take_region(cx, made)?;
+            Ok(ClauseKind::RegionOutlives(longer, shorter))
+        }
+        _ => Err(MISFIT),
+    }
+}
+
+/// The argument that was made last, which is a type.
+fn take_type(cx: &Cx, made: &mut Vec<GenericArg>) -> Result<Ty, Stop>
+    ensures { IfOk result (λ t. TakesLast made.old made.new t.node) }
+{
+    let last = made.pop().ok_or(MISFIT)?;
+    if !cx.holds(last) {
+        return Err(MISFIT);
+    }
+    match last.kind(cx) {
+        GenericArgKind::Type(ty) => Ok(ty),
+        _ => Err(MISFIT),
+    }
+}
+
+/// The argument that was made last, which is a region.
+fn take_region(cx: &Cx, made: &mut Vec<GenericArg>) -> Result<Region, Stop>
+    ensures { IfOk result (λ r. TakesLast made.old made.new r.node) }
+{
+    let last = made.pop().ok_or(MISFIT)?;
+    if !cx.holds(last) {
+        return Err(MISFIT);
+    }
+    match last.kind(cx) {
+        GenericArgKind::Lifetime(region) => Ok(region),
+        _ => Err(MISFIT),
+    }
+}
+
+/// Binds a variable more by the binder of the last predicate, before the others that it binds.
+fn bind_first(found: &mut Vec<BoundClause>, sort: Sort) -> Result<(), Stop>
     ensures { OnOk result (BindsFirst sort found.old.items found.new.items) }
 {
     let Some(mut last) = found.pop() else {
@@ -135,7 +187,10 @@ fn argument(
     ensures grows { Grows cx.old cx.new }
 {
     match node {
-        Resolved::Binds(_) | Resolved::Trait { .. } => Err(MISFIT),
+        Resolved::Binds(_)
+        | Resolved::Trait { .. }
+        | Resolved::TypeOutlives
+        | Resolved::RegionOutlives => Err(MISFIT),
         Resolved::BoundType(var) => {
             let kind = TyKind::Bound(BoundVarIndexKind::Bound(0), BoundTy { var });
             Ok(cx.mk_ty(kind)?.into())
@@ -209,20 +264,36 @@ fn in_order(alloc: Global, binds: &[Sort]) -> Result<Vec<Sort>, AllocError>
     binds.iter().rev().copied().collect(alloc)
 }
 
-/// The predicate that a trait holds for its arguments, under its binder.
+/// Whether a statement is of this store, and a trait's arguments are of the sorts that were declared.
+fn clause_fits(cx: &Cx, clause: ClauseKind) -> bool
+    ensures parts { IsTrue result → ClauseFits cx.now.nodes clause }
+    ensures declared { IsTrue result → StatementIsDeclared cx.now.declarations cx.now.nodes
+        (PredicateKind.Clause clause) }
+{
+    match clause {
+        ClauseKind::Trait(trait_ref) => {
+            cx.holds(trait_ref.args) && cx.fits(DefId::Trait(trait_ref.def_id), trait_ref.args)
+        }
+        ClauseKind::TypeOutlives(ty, region) => cx.holds(ty) && cx.holds(region),
+        ClauseKind::RegionOutlives(longer, shorter) => cx.holds(longer) && cx.holds(shorter),
+        // No text says anything else.
+        _ => false,
+    }
+}
+
+/// The predicate that states this, under its binder.
 #[tactic(auto, using(crate::proofs::Stores::growing))]
-pub fn predicate_of(cx: &mut Cx, bound: &BoundTrait) -> Result<Predicate, Stop>
+pub fn predicate_of(cx: &mut Cx, bound: &BoundClause) -> Result<Predicate, Stop>
     ensures states { IfOk result (States cx.new.nodes bound.now) }
     ensures holds { IfOk result (λ p. HoldsPredicate cx.new.nodes p) }
     ensures grows { Grows cx.old cx.new }
 {
     let sorts = in_order(cx.alloc, &bound.binds)?;
     let vars = cx.mk_bound_vars(&sorts)?;
-    let trait_ref = bound.trait_ref;
-    if !cx.holds(trait_ref.args) || !cx.fits(DefId::Trait(trait_ref.def_id), trait_ref.args) {
+    if !clause_fits(cx, bound.clause) {
         return Err(MISFIT);
     }
-    let value = PredicateKind::Clause(ClauseKind::Trait(trait_ref));
+    let value = PredicateKind::Clause(bound.clause);
     Ok(cx.mk_predicate(Binder { vars, value })?)
 }
 

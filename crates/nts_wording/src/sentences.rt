@@ -6,11 +6,11 @@ ghost use Rattle.nts_terms.specs.Handles.{HoldsEnv, HoldsGoal, HoldsPredicate};
 ghost use Rattle.nts_terms.specs.Rest.{Grows};
 ghost use Rattle.nts_wording.specs.Meaning.{AreConditions, IsGivenEnvironment, IsEnvironmentFor, IsGoalFor, IsRuleFor};
 
-use crate::build::{MISFIT, Terms, bound_traits, positions, predicate_of};
+use crate::build::{MISFIT, Terms, bound_clauses, positions, predicate_of};
 use crate::status::Stop;
 use crate::variables::LineVariables;
 use nts_delegate::Clause;
-use nts_terms::{Cx, Goal, ParamEnv, Predicate};
+use nts_terms::{ClauseKind, Cx, Goal, ParamEnv, Predicate};
 use nts_text::Resolved;
 
 /// The goal that these nodes say, in this environment, or in the empty one.
@@ -26,7 +26,7 @@ pub fn goal_of(
     ensures holds { IfOk result (λ g. HoldsGoal cx.new.nodes g) }
     ensures grows { Grows cx.old cx.new }
 {
-    let found = bound_traits(cx, nodes, terms)?;
+    let found = bound_clauses(cx, nodes, terms)?;
     let [bound] = found.as_slice() else {
         return Err(MISFIT);
     };
@@ -95,18 +95,21 @@ pub fn clause_of(cx: &mut Cx, head: &[Resolved], body: &[Resolved]) -> Result<Cl
         variables: &variables,
         values: &values,
     };
-    let heads = bound_traits(cx, head, terms)?;
+    let heads = bound_clauses(cx, head, terms)?;
     let [head] = heads.as_slice() else {
         return Err(MISFIT);
     };
     if !head.binds.is_empty() {
         return Err(MISFIT);
     }
+    let ClauseKind::Trait(trait_ref) = head.clause else {
+        return Err(MISFIT);
+    };
     let body = conditions(cx, body, terms)?;
     Ok(Clause {
         fresh: variables.sorts,
-        trait_id: head.trait_ref.def_id,
-        head: head.trait_ref.args,
+        trait_id: trait_ref.def_id,
+        head: trait_ref.args,
         body,
     })
 }
@@ -118,9 +121,9 @@ fn conditions(cx: &mut Cx, body: &[Resolved], terms: Terms<'_>) -> Result<Vec<Pr
         terms.entry.values.now body.now ps.items) }
     ensures grows { Grows cx.old cx.new }
 {
-    let traits = bound_traits(cx, body, terms)?;
+    let found = bound_clauses(cx, body, terms)?;
     let mut predicates = Vec::new(cx.alloc);
-    for bound in &traits {
+    for bound in &found {
         predicates.push(predicate_of(cx, bound)?)?;
     }
     Ok(predicates)

@@ -1,22 +1,29 @@
-use Rattle.std.proofs.Common.{◌≡◌, ◌+◌, ◌++◌, ◌∷◌, inr, suc, true, false, is_some, map, filter, take, drop, refl, sym, ap, ◌∙◌, arith}
+use Rattle.std.proofs.Common.{◌≡◌, ◌+◌, ◌++◌, ◌∷◌, inr, suc, true, false, is_some, take, drop, refl, sym, ap, ◌∙◌, arith}
 use Rattle.std.proofs.lemmas.Grind.{common_steps}
-use Rattle.nts_text.specs.Predicates.{is_word, are_predicates, written_nodes}
+use Rattle.nts_text.specs.Predicates.{are_predicates, written_nodes}
 use Rattle.nts_text.specs.declared.predicates.Wanted.TheVariants as wanted
 use Rattle.nts_text.proofs.ArrowLemmas.{parts_at, says_no_fact, says_no_rule}
-use Rattle.nts_text.proofs.NodeLemmas.{inside_nodes_take, inside_nodes_drop}
+use Rattle.nts_text.proofs.NodeLemmas.{inside_nodes, none_inside}
+use Rattle.nts_text.proofs.WordLemmas.{of_nodes}
+use Rattle.std.proofs.lemmas.List.Elements.{All-take, All-drop}
+use Rattle.nts_text.specs.Tokens.{IsInside}
 use Rattle.nts_text.proofs.parser.impl_line.Goals as goal
 
 -- the tokens before the arrow and those behind it are inside, so their nodes are
 pub returns-clause-inside : goal.returns-clause-inside
 returns-clause-inside c =
+    let line = c.args.line.now in
     let tokens = c.args.tokens.now in
-    let head : map (λ n. n.token) c.in-Some-3.head.items ≡ filter (λ t. is_word t.kind) (take c.in-Some.at tokens) =
-    grind (arith, c.in_ok-head-2.ensures.words, c.in-Some-3.is) in
-    let body : map (λ n. n.token) c.in-Some-4.body.items ≡ filter (λ t. is_word t.kind) (drop (c.in-Some.at + 1) tokens) =
-    grind (arith, common_steps, c.in_ok-body.ensures.words, c.in-Some-4.is) in (
-      inside_nodes_take c.args.line.now c.in-Some-3.head.items tokens c.in-Some.at head c.requires,
-      inside_nodes_drop c.args.line.now c.in-Some-4.body.items tokens (c.in-Some.at + 1) body c.requires,
+    let body : c.in-Some-4.body.items ≡ written_nodes (drop (c.in-Some.at + 1) tokens) = grind (arith, common_steps, c.in_ok-body.ensures.nodes, c.in-Some-4.is) in (
+      inside_nodes line c.in-Some-3.head.items (take c.in-Some.at tokens) (rw c.in-Some-3.is at c.in_ok-head-2.ensures.tokens) (All-take (IsInside line) c.in-Some.at tokens c.requires),
+      rw body (of_nodes (IsInside line) (drop (c.in-Some.at + 1) tokens) (All-drop (IsInside line) (c.in-Some.at + 1) tokens c.requires)),
     )
+
+pub returns-in-Some-2-clause-inside : goal.returns-in-Some-2-clause-inside
+returns-in-Some-2-clause-inside c = (
+  inside_nodes c.args.line.now c.in-Some-2.head.items c.args.tokens.now (rw c.in-Some-2.is at c.in_ok-head.ensures.tokens) c.requires,
+  none_inside c.args.line.now c.new.result.items c.new.ensures.items,
+)
 
 -- no arrow, and no predicate
 pub returns-in-None-clause-none : goal.returns-in-None-clause-none

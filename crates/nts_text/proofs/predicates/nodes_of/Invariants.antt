@@ -1,6 +1,6 @@
-use Rattle.std.proofs.Common.{◌≡◌, ℕ, ◌+◌, ◌≤◌, ◌∷◌, length, drop, reverse, sum, true, vec_len}
-use Rattle.nts_text.specs.Predicates.{is_forest, arguments_behind, is_binding, open_brackets, written_nodes}
-use Rattle.nts_text.proofs.CountLemmas.{AreCounts}
+use Rattle.std.proofs.Common.{◌≡◌, ◌+◌, ◌≤◌, ◌∷◌, length, drop, reverse, sum, vec_len}
+use Rattle.nts_text.specs.Predicates.{arguments_behind, is_binding, next_colon, open_brackets, written_nodes}
+use Rattle.nts_text.proofs.CountLemmas.{AreCounts, IsForestUpTo, pending}
 use Rattle.nts_text.proofs.predicates.nodes_of.Given as goal
 
 abbrev pub invariant-loop-at : goal.invariant-loop-at
@@ -11,8 +11,9 @@ invariant-loop-at l = record {
   behind : l.arguments ≡ arguments_behind (drop l.at l.tokens);
   binding : l.binding ≡ is_binding (drop l.at l.tokens);
   unclosed : length l.outer.items ≡ open_brackets (drop l.at l.tokens);
-  forest : (k : ℕ) → k ≤ sum l.outer.items + l.count + l.arguments → is_forest k (reverse l.nodes.items) ≡ true;
-  small : sum l.outer.items + l.count + l.arguments ≤ vec_len l.nodes;
+  colon : l.colon ≡ next_colon (drop l.at l.tokens);
+  forest : IsForestUpTo (sum l.outer.items + l.count + l.arguments + pending l.colon) (reverse l.nodes.items);
+  small : sum l.outer.items + l.count + l.arguments + pending l.colon ≤ vec_len l.nodes;
 }
 
 abbrev pub decreases-loop-at : goal.decreases-loop-at

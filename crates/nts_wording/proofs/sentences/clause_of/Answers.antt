@@ -15,5 +15,5 @@ returns-clause-rule c = λ us later.
     let said = rw c.deref-2.ensures.value at c.in_ok-heads.ensures.said in
     let conditions = rw c.deref-2.ensures.value at c.in_ok-body.ensures.conditions in
     let counted : vec_len c.head-item.result.binds ≡ length c.head-item.result.binds.items = grind (arith, common_steps) in
-    rule_of c.bound_traits.new.cx.nodes c.conditions.new.cx.nodes us c.see-2.new.self c.in_ok-values.values.items c.args.head.now c.args.body.now c.in_ok-heads.heads.items c.head-item.result _
-    own (all_placed _ _ c.args.head.now c.in_ok-see-2.ensures.kept c.in_ok-see.ensures.placed, c.in_ok-see-2.ensures.placed) refl (none_bound c.head-item.result.binds.items (vec_len c.head-item.result.binds) counted (sym c.is_empty.ensures ∙ c.if-not-is_empty.false)) refl refl placed said (sym c.as_slice.ensures.value ∙ one_item c.as_slice.result.now _ c.in-len1.len_at_least c.in-len1.len_below ∙ ap (λ b. b ∷ []) (sym c.head-item.is)) after conditions later
+    rule_of c.bound_clauses.new.cx.nodes c.conditions.new.cx.nodes us c.see-2.new.self c.in_ok-values.values.items c.args.head.now c.args.body.now c.in_ok-heads.heads.items c.head-item.result _
+    own (all_placed _ _ c.args.head.now c.in_ok-see-2.ensures.kept c.in_ok-see.ensures.placed, c.in_ok-see-2.ensures.placed) refl (none_bound c.head-item.result.binds.items (vec_len c.head-item.result.binds) counted (sym c.is_empty.ensures ∙ c.if-not-is_empty.false)) c.in-Trait.is placed said (sym c.as_slice.ensures.value ∙ one_item c.as_slice.result.now _ c.in-len1.len_at_least c.in-len1.len_below ∙ ap (λ b. b ∷ []) (sym c.head-item.is)) after conditions later

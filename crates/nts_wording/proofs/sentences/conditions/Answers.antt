@@ -20,6 +20,6 @@ loop-bound-preserved c =
 pub returns-clause-conditions : goal.returns-clause-conditions
 returns-clause-conditions c =
     let i = c.loop-bound.invariant in
-    let traits = c.deref-bound-items.result.now in
-    conditions_said c.bound_traits.new.cx.nodes c.loop-bound.cx.nodes c.args.terms.variables.now c.args.terms.values.now c.args.body.now traits c.loop-bound.predicates.items
-    (rw c.deref-bound-items.ensures.value c.in_ok-traits.ensures.said) i.since (rw (take_all c.loop-bound.bound-index traits c.loop-bound-test.false) at i.stated)
+    let clauses = c.deref-bound-items.result.now in
+    conditions_said c.bound_clauses.new.cx.nodes c.loop-bound.cx.nodes c.args.terms.variables.now c.args.terms.values.now c.args.body.now clauses c.loop-bound.predicates.items
+    (rw c.deref-bound-items.ensures.value c.in_ok-found.ensures.said) i.since (rw (take_all c.loop-bound.bound-index clauses c.loop-bound-test.false) at i.stated)

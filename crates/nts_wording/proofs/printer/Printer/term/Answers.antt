@@ -1,6 +1,5 @@
 use Rattle.std.proofs.Common.{◌≡◌, [], ◌∷◌, reverse, sym, ap, subst, ◌∙◌, arith}
 use Rattle.std.proofs.lemmas.Grind.{common_steps}
-use Rattle.nts_wording.specs.declared.printer.Printer.{Printer}
 use Rattle.nts_wording.specs.declared.printer.Piece.TheVariants as pieces
 use Rattle.nts_wording.specs.Pieces.{lexicon_of, seen_by, Completes}
 use Rattle.nts_wording.proofs.Printed.{Completes-refl, finished, reverse_pushed}

@@ -1,4 +1,4 @@
-use Rattle.std.proofs.Common.{◌+◌, ◌<◌, Some, None, [], get_or, length, take, refl, sym, subst}
+use Rattle.std.proofs.Common.{◌<◌, Some, None, [], get_or, length, take, refl, sym, subst}
 use Rattle.std.specs.Prelude.{slice_get}
 use Rattle.std.specs.List.{zip}
 use Rattle.nts_text.specs.Spelled.{type_names}

@@ -1,7 +1,7 @@
 use Rattle.std.proofs.Common.{◌≡◌}
 use Rattle.nts_wording.specs.Growing.{Begins}
 use Rattle.nts_declaring.specs.Held.{Says, IsAny}
-use Rattle.nts_declaring.proofs.wording.Wording.trait_goal.Given as goal
+use Rattle.nts_declaring.proofs.wording.Wording.all_pieces.Given as goal
 
 abbrev pub invariant-turns : goal.invariant-turns
 invariant-turns g l = record {

@@ -2,7 +2,7 @@ use Rattle.std.proofs.Common.{◌≤◌, length, drop}
 use Rattle.nts_store.specs.Growth.{Extends}
 use Rattle.nts_terms.specs.Rest.{KeepsRest}
 use Rattle.nts_wording.proofs.Meant.{IsMade}
-use Rattle.nts_wording.proofs.build.bound_traits.Given as goal
+use Rattle.nts_wording.proofs.build.bound_clauses.Given as goal
 
 abbrev pub invariant-loop-at : goal.invariant-loop-at
 invariant-loop-at l = record {
