@@ -68,7 +68,7 @@ module _ (h : Handler) (law : IsLawfulHandler h) (mode : Mode) (n : ℕ) (k : Bo
       let holds = posed.holds in
       let tree = formed_before a b up formed g.predicate.node holds.predicate.within in
       let can = can_be_opened h mode n (start a t) (tree_at a g.param_env.node) (tree_at a g.predicate.node) k level tree shut.binds_some d in
-      elim shut.why [ inl s ↦ s can.statement | inr c ↦ c can.closed ]
+      shut.escapes can.closed
 
   -- once it is
   module _ {u : Table} (o : Goal) (opened : IsOpenedTo a b t u g o) (there : IsPosed b u o) where

@@ -67,6 +67,7 @@ fn explain_here<H: GoalHandler>(
     cx.terms_are_formed();
     let opened = match goal_row(cx, opened) {
         GoalRow::Unopened => return Ok(Vec::new(cx.alloc)),
+        GoalRow::Outlives(_, _) => return Ok(Vec::new(cx.alloc)),
         GoalRow::Unanswered(_) => return Ok(Vec::new(cx.alloc)),
         GoalRow::Candidates(opened) => opened,
     };

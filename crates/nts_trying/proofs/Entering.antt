@@ -9,7 +9,7 @@ use Rattle.nts_model.specs.declared.labels.ClauseHead.TheVariants as clause
 use Rattle.nts_model.specs.declared.labels.ListHead.TheVariants as list
 use Rattle.nts_model.specs.declared.labels.Label.{Label}
 use Rattle.nts_model.specs.declared.labels.Label.TheVariants as label
-use Rattle.nts_model.specs.Terms.Trees.{Tree, empty, more, node, children, IsRow, row_length, binders, IsBoundBelow, IsClosed, IsClosedUnder, IsFormed}
+use Rattle.nts_model.specs.Terms.Trees.{row_at, Tree, empty, more, node, children, IsRow, row_length, binders, IsBoundBelow, IsClosed, IsClosedUnder, IsFormed}
 use Rattle.nts_model.specs.Tables.Contents.{Content, in_universe}
 use Rattle.nts_model.specs.Tables.Resolving.{Knows}
 use Rattle.nts_model.specs.Derivations.Related.{unbound}
@@ -123,10 +123,10 @@ opened_is_closed f c d (more a b) e h = (opened_is_closed f c d a e h.0, opened_
 opened_is_closed f c d (node l t) e h =
     label_closed f c l (opened f (c + binders l) t) (subst (λ z. IsBoundBelow z l) e h.0) (opened_is_closed f (c + binders l) (d + binders l) t (omega (arith, e)) h.1)
 
--- the predicate of a trait, of closed arguments that a table knows
-pub knows_trait : (c : Content) (i : ℕ) (t : Tree) → IsClosed t → Knows c t → Knows c (unbound (node (label.Clause (clause.Trait i)) (more t empty)))
-knows_trait c i t closed h =
-    ((tt, tt, refl), (((tt, tt, refl), tt, tt), (((tt, tt, refl), (h, tt), tt), tt)), (closed_listed empty 0 (more (unsorted) (more (node (label.Clause (clause.Trait i)) (more t empty)) empty)) ((tt, tt), ((tt, (closed, tt)), tt))))
+-- a predicate that binds nothing and states something closed that a table knows
+pub knows_unbound : (c : Content) (t : Tree) → IsClosed t → Knows c t → Knows c (unbound t)
+knows_unbound c t closed h =
+    ((tt, tt, refl), (((tt, tt, refl), tt, tt), (h, tt)), (closed_listed empty 0 (more (unsorted) (more t empty)) ((tt, tt), (closed, tt))))
   where
     unsorted : Tree
     unsorted = node (label.List list.Sorts) empty
@@ -174,13 +174,12 @@ some_listed empty s h e = absurd (e refl)
 some_listed (more a b) s h e = refl
 some_listed (node l c) s h e = absurd h
 
--- a trait goal that was opened
-pub trait_opened : {a b : List Tree} {t u : Table} {g : Goal} (q : Predicate) (v x : Tree) (i : ℕ) → tree_at a g.predicate.node ≡ node (label.List list.Binder) (more v (more (node (label.Clause (clause.Trait i)) (more x empty)) empty)) → v ≡ node (label.List list.Sorts) (children v) → IsRow (children v) → (row_length (children v) ≡ 0 → ⊥)
-    → IsClosed (tree_at a g.predicate.node) → IsTable a t → Extends a b → u.entries ≡ moved t.entries (t.entries.universe + 1) → tree_at b q.node ≡ unbound (node (label.Clause (clause.Trait i)) (more (opened (placeholder_in (t.entries.universe + 1)) 0 x) empty)) → IsOpenedTo a b t u g (record { param_env = g.param_env; predicate = q })
-trait_opened {a} {b} {t} {u} {g} q v x i is sorts row some closed w e moves says =
+-- a goal that was opened
+pub goal_opened : {a b : List Tree} {t u : Table} {g : Goal} (q : Predicate) (v s : Tree) → tree_at a g.predicate.node ≡ node (label.List list.Binder) (more v (more s empty)) → v ≡ node (label.List list.Sorts) (children v) → IsRow (children v) → (row_length (children v) ≡ 0 → ⊥)
+    → IsClosed (tree_at a g.predicate.node) → IsTable a t → Extends a b → u.entries ≡ moved t.entries (t.entries.universe + 1) → tree_at b q.node ≡ unbound (opened (placeholder_in (t.entries.universe + 1)) 0 s) → IsOpenedTo a b t u g (record { param_env = g.param_env; predicate = q })
+goal_opened {a} {b} {t} {u} {g} q v s is sorts row some closed w e moves says =
     let c = content_of a t.entries in
     let p = tree_at a g.predicate.node in
-    let s = node (label.Clause (clause.Trait i)) (more x empty) in
     let bound : binds p ≡ true = ap binds (is ∙ ap (λ z. node (label.List list.Binder) (more z (more s empty))) sorts) ∙ some_listed (children v) s row some in
     let enters : entered_table c p ≡ in_universe c (c.universe + 1) = ap (λ z. if z then in_universe c (c.universe + 1) else c) bound in
     let opens : opened_in c p ≡ unbound (opened (placeholder_in (c.universe + 1)) 0 (statement_of p)) = ap (λ z. if z then unbound (opened (placeholder_in (c.universe + 1)) 0 (statement_of p)) else p) bound in
@@ -192,25 +191,20 @@ trait_opened {a} {b} {t} {u} {g} q v x i is sorts row some closed w e moves says
       predicate = says ∙ sym (opens ∙ ap (λ z. unbound (opened (placeholder_in (c.universe + 1)) 0 z)) states);
     }
 
--- what a closed trait goal says is closed one binder deeper
-pub arguments_closed : (p v x : Tree) (i : ℕ) → p ≡ node (label.List list.Binder) (more v (more (node (label.Clause (clause.Trait i)) (more x empty)) empty)) → IsClosed p → IsClosedUnder 1 x
-arguments_closed p v x i is h = (let z : IsClosed (node (label.List list.Binder) (more v (more (node (label.Clause (clause.Trait i)) (more x empty)) empty))) = subst IsClosed is h in z.1.1.0.1.0)
+-- what a predicate states is its second part
+pub statement_tree : (ts : List Tree) (b : Binder PredicateKind) (p s : Tree) → p ≡ tree_of_predicate ts b → s ≡ row_at (children p) 1 → p ≡ node (label.List list.Binder) (more (tree_at ts b.vars.node) (more s empty))
+statement_tree ts b p s is at = is ∙ ap (λ z. node (label.List list.Binder) (more (tree_at ts b.vars.node) (more z empty))) (sym (at ∙ ap (λ z. row_at (children z) 1) is))
 
--- the tree of a trait goal, by its kind
-pub trait_tree : (ts : List Tree) (b : Binder PredicateKind) {p : Tree} {k : ClauseKind} {r : TraitRef} → p ≡ tree_of_predicate ts b → b.value ≡ predicate.Clause k → k ≡ clause_of.Trait r → p ≡ node (label.List list.Binder) (more (tree_at ts b.vars.node) (more (node (label.Clause (clause.Trait r.def_id.number)) (more (tree_at ts r.args.node) empty)) empty))
-trait_tree ts b {p} {k} {r} is x y =
-    let says : tree_of_statement ts b.value ≡ node (label.Clause (clause.Trait r.def_id.number)) (more (tree_at ts r.args.node) empty) = ap (tree_of_statement ts) (x ∙ ap predicate.Clause y) in
-    is ∙ ap (λ z. node (label.List list.Binder) (more (tree_at ts b.vars.node) (more z empty))) says
+-- what a closed goal states is closed one binder deeper
+pub statement_closed : (p v s : Tree) → p ≡ node (label.List list.Binder) (more v (more s empty)) → IsClosed p → IsClosedUnder 1 s
+statement_closed p v s is h = (let z : IsClosed (node (label.List list.Binder) (more v (more s empty))) = subst IsClosed is h in z.1.1.0)
 
--- a goal that lists what it binds, and is no trait's or no closed one
+-- a goal that lists what it binds, and is not closed
 pub cannot_open : (ts : List Tree) (b : Binder PredicateKind) (p : Tree) → p ≡ tree_of_predicate ts b → tree_at ts b.vars.node ≡ node (label.List list.Sorts) (children (tree_at ts b.vars.node)) → IsRow (children (tree_at ts b.vars.node)) → (row_length (children (tree_at ts b.vars.node)) ≡ 0 → ⊥)
-    → (IsTraitStatement (tree_of_statement ts b.value) → ⊥) ⊎ (IsClosed p → ⊥) → CannotOpen p
+    → (IsClosed p → ⊥) → CannotOpen p
 cannot_open ts b p is sorts row some why =
     let s = tree_of_statement ts b.value in
     record {
       binds_some = ap binds (is ∙ ap (λ z. node (label.List list.Binder) (more z (more s empty))) sorts) ∙ some_listed (children (tree_at ts b.vars.node)) s row some;
-      why = elim why [
-        | inl n ↦ inl (λ h. n (subst (λ t. IsTraitStatement (statement_of t)) is h))
-        | inr n ↦ inr n
-      ];
+      escapes = why;
     }

@@ -14,3 +14,4 @@ pub mod LeftOut
 pub mod Instances
 pub mod Unasked
 pub mod Outliving
+mod OutlivesExamples

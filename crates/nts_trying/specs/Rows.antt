@@ -12,6 +12,6 @@ use Rattle.nts_trying.specs.declared.kinds.GoalRow.TheVariants as row
 -- constraint does exactly if it says that something outlives a region
 abbrev pub IsRowOf : List Tree → Option Goal → GoalRow → Type 0
 IsRowOf ts opened (row.Candidates g) = (opened ≡ Some g) × IsAskedGoal ts g
-IsRowOf ts opened (row.Outlives g x) = (opened ≡ Some g) × IsOutlivesGoal ts g x
+IsRowOf ts opened (row.Outlives g x) = (opened ≡ Some g) × IsOutlivesGoal ts g x × (IsAskedGoal ts g → ⊥)
 IsRowOf ts opened (row.Unanswered g) = (opened ≡ Some g) × (IsAskedGoal ts g → ⊥) × ((x : Constraint) → OutlivesIn ts g x → ⊥)
 IsRowOf ts opened row.Unopened = opened ≡ None

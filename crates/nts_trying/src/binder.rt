@@ -1,30 +1,52 @@
 //! Goals that bind variables.
-ghost use Rattle.std.specs.Prelude.{◌≡◌, ◌+◌, IfOk, OnOk, IfSome, IsNone, Err};
-ghost use Rattle.nts_model.specs.declared.labels.ClauseHead.TheVariants as clause;
-ghost use Rattle.nts_model.specs.declared.labels.Label.TheVariants as label;
-ghost use Rattle.nts_model.specs.Terms.Trees.{node, more, empty, IsClosedUnder};
+ghost use Rattle.std.specs.Prelude.{◌≡◌, ◌+◌, IfOk, OnOk, IfSome, IsNone, IsOkUnless, Err};
+ghost use Rattle.nts_model.specs.Terms.Trees.{IsClosedUnder};
 ghost use Rattle.nts_model.specs.Tables.Resolving.{Knows};
 ghost use Rattle.nts_model.specs.Derivations.Related.{unbound};
 ghost use Rattle.nts_model.specs.Derivations.Rules.{opened};
 ghost use Rattle.nts_model.specs.Refutation.Opening.{placeholder_in};
 ghost use Rattle.nts_store.specs.Growth.{tree_at};
-ghost use Rattle.nts_terms.specs.Handles.{HoldsArgs, HoldsPredicate};
+ghost use Rattle.nts_terms.specs.Handles.{Holds, HoldsPredicate};
 ghost use Rattle.nts_terms.specs.Rest.{Grows};
 ghost use Rattle.nts_unify.specs.Entries.{moved};
 ghost use Rattle.nts_unify.specs.Reading.{content_of};
-ghost use Rattle.nts_table.specs.Tables.{IsTable};
+ghost use Rattle.nts_table.specs.Tables.{IsTable, IsTermIn};
 ghost use Rattle.nts_meaning.specs.Evaluation.{Goes, IsPosed};
-ghost use Rattle.nts_trying.specs.Opening.{IsOpenedTo, CannotOpen};
+ghost use Rattle.nts_trying.specs.Opening.{a_statement, IsOpenedTo, CannotOpen};
 
-use nts_model::{ClauseHead, Label, ListHead};
+use nts_model::{Label, ListHead};
 use nts_placeholder::BoundVarReplacer;
-use nts_store::Fault;
+use nts_store::{Fault, NodeId};
 use nts_table::InferCtxt;
-use nts_terms::{ClauseKind, Cx, GenericArgs, Goal, Predicate, PredicateKind, TraitRef};
+use nts_terms::{Cx, Goal, Predicate, Stored};
 
-/// A trait goal with placeholders of a new universe in place of the variables that it binds; a goal that
-/// binds nothing as it is. `None` for other goals: the table is as before. After an error the table may be of a
-/// new universe, and is else as before.
+/// What a predicate states, behind its binder.
+#[derive(Clone, Copy)]
+struct Statement {
+    node: NodeId,
+}
+
+impl Stored for Statement {
+    ghost place = { a_statement };
+
+    ghost id = { λ s. s.node };
+
+    fn node(self) -> NodeId {
+        self.node
+    }
+
+    fn from_node(node: NodeId) -> Statement {
+        Statement { node }
+    }
+
+    fn may_have(label: Label) -> bool {
+        matches!(label, Label::Clause(_) | Label::Predicate(_))
+    }
+}
+
+/// A goal with placeholders of a new universe in place of the variables that it binds; one that binds nothing as it is. `None`
+/// where a variable escapes from it: the table is as before. After an error the table may be of a new universe, and is else as
+/// before.
 #[inline(never)]
 pub fn enter_forall(table: &mut InferCtxt, cx: &mut Cx, goal: Goal) -> Result<Option<Goal>, Fault>
     requires posed { IsPosed cx.old.nodes table.old goal }
@@ -43,17 +65,15 @@ pub fn enter_forall(table: &mut InferCtxt, cx: &mut Cx, goal: Goal) -> Result<Op
     if predicate.vars.len(cx) == 0 {
         return Ok(Some(goal));
     }
-    let PredicateKind::Clause(clause) = predicate.value else {
-        return Ok(None);
-    };
-    let ClauseKind::Trait(trait_ref) = clause else {
-        return Ok(None);
-    };
     // A goal of which a variable escapes is answered nowhere.
     if cx.nodes.flags(goal.predicate.node).escaping.is_some() {
         return Ok(None);
     }
-    let opened = open_trait(table, cx, trait_ref)?;
+    let statement = Statement {
+        node: cx.nodes.child(goal.predicate.node, 1),
+    };
+    let statement = open_statement(table, cx, statement)?;
+    let opened = without_binder(table, cx, statement)?;
     cx.terms_are_formed();
     Ok(Some(Goal {
         param_env: goal.param_env,
@@ -61,49 +81,45 @@ pub fn enter_forall(table: &mut InferCtxt, cx: &mut Cx, goal: Goal) -> Result<Op
     }))
 }
 
-/// The predicate that binds nothing and says of placeholders of a new universe what was said of bound
-/// variables.
-fn open_trait(table: &mut InferCtxt, cx: &mut Cx, trait_ref: TraitRef) -> Result<Predicate, Fault>
-    requires table { IsTable cx.old.nodes table.old }
-    requires holds { HoldsArgs cx.old.nodes trait_ref.args }
-    requires levels { IsClosedUnder 1 (tree_at cx.old.nodes trait_ref.args.node) }
-    requires knows { Knows (content_of cx.old.nodes table.old.entries) (tree_at cx.old.nodes
-        trait_ref.args.node) }
+/// The predicate that binds nothing and states this.
+fn without_binder(table: &InferCtxt, cx: &mut Cx, statement: Statement) -> Result<Predicate, Fault>
+    requires table { IsTable cx.old.nodes table.now }
+    requires holds { Holds a_statement cx.old.nodes statement.node }
+    requires knows { Knows (content_of cx.old.nodes table.now.entries) (tree_at cx.old.nodes
+        statement.node) }
+    requires closed { IsClosedUnder 0 (tree_at cx.old.nodes statement.node) }
     ensures grows { Grows cx.old cx.new }
-    ensures goes { Goes cx.old.nodes cx.new.nodes table.old table.new }
-    ensures entries { OnOk result (table.new.entries ≡ moved table.old.entries
-        (table.old.entries.universe + 1)) }
-    ensures tree { IfOk result (λ p. tree_at cx.new.nodes p.node ≡ unbound (node (label.Clause
-        (clause.Trait trait_ref.def_id.number)) (more (opened (placeholder_in
-        (table.old.entries.universe + 1)) 0 (tree_at cx.old.nodes trait_ref.args.node)) empty))) }
+    ensures tree { IfOk result (λ p. tree_at cx.new.nodes p.node ≡ unbound (tree_at cx.old.nodes
+        statement.node)) }
     ensures holds { IfOk result (HoldsPredicate cx.new.nodes) }
-    ensures knows { IfOk result (λ p. Knows (content_of cx.new.nodes table.new.entries) (tree_at
+    ensures knows { IfOk result (λ p. Knows (content_of cx.new.nodes table.now.entries) (tree_at
         cx.new.nodes p.node)) }
-    ensures full { result ≡ Err Fault.Full → table.old.entries.universe ≡ u32.MAX }
+    ensures memory { IsOkUnless result Fault.Memory }
 {
-    let args = open_args(table, cx, trait_ref.args)?;
     let vars = cx.mk_bound_vars(&[])?;
-    let head = Label::Clause(ClauseHead::Trait(trait_ref.def_id.number));
-    let statement = cx.nodes.make(head, &[args.node])?;
-    let children = [vars.node, statement];
+    let children = [vars.node, statement.node];
     let node = cx.nodes.make(Label::List(ListHead::Binder), &children)?;
     Ok(Predicate { node })
 }
 
-/// The arguments with placeholders of a new universe in place of the variables of the binder around them.
-fn open_args(table: &mut InferCtxt, cx: &mut Cx, args: GenericArgs) -> Result<GenericArgs, Fault>
+/// What a predicate states with placeholders of a new universe in place of the variables of the binder around it.
+fn open_statement(
+    table: &mut InferCtxt,
+    cx: &mut Cx,
+    statement: Statement,
+) -> Result<Statement, Fault>
     requires table { IsTable cx.old.nodes table.old }
-    requires holds { HoldsArgs cx.old.nodes args }
-    requires levels { IsClosedUnder 1 (tree_at cx.old.nodes args.node) }
+    requires holds { Holds a_statement cx.old.nodes statement.node }
+    requires levels { IsClosedUnder 1 (tree_at cx.old.nodes statement.node) }
     requires knows { Knows (content_of cx.old.nodes table.old.entries) (tree_at cx.old.nodes
-        args.node) }
+        statement.node) }
     ensures grows { Grows cx.old cx.new }
     ensures goes { Goes cx.old.nodes cx.new.nodes table.old table.new }
     ensures entries { OnOk result (table.new.entries ≡ moved table.old.entries
         (table.old.entries.universe + 1)) }
     ensures tree { IfOk result (λ r. tree_at cx.new.nodes r.node ≡ opened (placeholder_in
-        (table.old.entries.universe + 1)) 0 (tree_at cx.old.nodes args.node)) }
-    ensures holds { IfOk result (HoldsArgs cx.new.nodes) }
+        (table.old.entries.universe + 1)) 0 (tree_at cx.old.nodes statement.node)) }
+    ensures holds { IfOk result (λ r. Holds a_statement cx.new.nodes r.node) }
     ensures knows { IfOk result (λ r. Knows (content_of cx.new.nodes table.new.entries) (tree_at
         cx.new.nodes r.node)) }
     ensures full { result ≡ Err Fault.Full → table.old.entries.universe ≡ u32.MAX }
@@ -112,6 +128,6 @@ fn open_args(table: &mut InferCtxt, cx: &mut Cx, args: GenericArgs) -> Result<Ge
     let universe = table.create_next_universe()?;
     let mut universes = Vec::new(cx.alloc);
     universes.push(Some(universe))?;
-    let (opened, _) = BoundVarReplacer::replace_bound_vars(table, cx, &mut universes, args)?;
+    let (opened, _) = BoundVarReplacer::replace_bound_vars(table, cx, &mut universes, statement)?;
     Ok(opened)
 }

@@ -14,6 +14,11 @@ use Rattle.nts_explaining.proofs.candidates.explain_here.Goals as goal
 pub returns-in-Unopened-clause-reasons : goal.returns-in-Unopened-clause-reasons
 returns-in-Unopened-clause-reasons g c = (let o = c.in_ok-opened.ensures in unopened_reasons _ (search rules) ((rw c.in-Unopened.ensures at o.unopened) (search rules)))
 
+pub returns-in-Outlives-clause-reasons : goal.returns-in-Outlives-clause-reasons
+returns-in-Outlives-clause-reasons g c =
+    let o = c.in_ok-opened.ensures in
+    unasked_reasons _ (search rules) c.enter_forall.new.cx.nodes c.enter_forall.new.table _ (rw c.in-Outlives.ensures.0 at o.opened) c.in-Outlives.ensures.2
+
 pub returns-in-Unanswered-clause-reasons : goal.returns-in-Unanswered-clause-reasons
 returns-in-Unanswered-clause-reasons g c =
     let o = c.in_ok-opened.ensures in
