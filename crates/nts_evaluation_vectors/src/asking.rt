@@ -4,7 +4,7 @@ ghost use Rattle.nts_table.specs.Tables.{IsTable};
 ghost use Rattle.nts_terms.specs.Handles.{HoldsArg, HoldsGoal};
 ghost use Rattle.nts_terms.specs.Rest.{Grows};
 
-use crate::steps::{Of, predicate_of};
+use crate::steps::{Of, outlives_of, predicate_of};
 use nts_asking::GoalStalledOn;
 use nts_certainty::{Certainty, HasChanged};
 use nts_delegate::{Clauses, GoalHandler};
@@ -26,6 +26,8 @@ pub enum Wanted {
     EachRegion(Of),
     /// That a trait holds, where just that is assumed.
     Assumed(Of),
+    /// That the first term outlives the second one, in an empty environment.
+    Outlives(Name, Name),
 }
 
 /// What a goal is answered.
@@ -58,6 +60,8 @@ pub enum Asked {
     Constructs(Name),
     /// The table has so many variables.
     Variables(usize),
+    /// The table has so many region constraints.
+    Constraints(usize),
 }
 
 /// A doubt that nothing else is known of.
@@ -107,6 +111,7 @@ fn ask<H: GoalHandler>(
         Asked::Resolves(x, y) => resolves(table, cx, names, x, y),
         Asked::Constructs(x) => constructs(table, cx, names, x),
         Asked::Variables(count) => Ok(table.variable_count() == *count),
+        Asked::Constraints(count) => Ok(table.constraint_count() == *count),
     }
 }
 
@@ -156,6 +161,7 @@ fn goal_of(cx: &mut Cx, names: &Names, wanted: Wanted) -> Result<Goal, EvalError
     let predicate = match wanted {
         Wanted::Plain(of) | Wanted::Assumed(of) => predicate_of(cx, names, &[], of)?,
         Wanted::EachRegion(of) => predicate_of(cx, names, &[Sort::Region], of)?,
+        Wanted::Outlives(left, right) => outlives_of(cx, names, left, right)?,
     };
     let param_env = match wanted {
         Wanted::Assumed(_) => cx.mk_env(&[predicate])?,

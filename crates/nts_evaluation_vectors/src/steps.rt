@@ -16,7 +16,8 @@ use nts_model::Sort;
 use nts_store::EvalError;
 use nts_table::InferCtxt;
 use nts_terms::{
-    Binder, ClauseKind, Cx, DefId, Predicate, PredicateKind, TraitId, TraitRef, TypingMode,
+    Binder, ClauseKind, Cx, DefId, GenericArgKind, Predicate, PredicateKind, TraitId, TraitRef,
+    TypingMode,
 };
 use std::alloc::Global;
 use std::process::Abort;
@@ -200,5 +201,33 @@ pub fn predicate_of(
         return Err(EvalError::NoSolution);
     }
     let value = PredicateKind::Clause(ClauseKind::Trait(TraitRef { def_id, args }));
+    Ok(cx.mk_predicate(Binder { vars, value })?)
+}
+
+/// That the first term outlives the second one, which is a region.
+pub fn outlives_of(
+    cx: &mut Cx,
+    names: &Names,
+    left: &str,
+    right: &str,
+) -> Result<Predicate, EvalError>
+    ensures holds { IfOk result (HoldsPredicate cx.new.nodes) }
+    ensures grows { Grows cx.old cx.new }
+{
+    let (left, right) = (names.term(left)?, names.term(right)?);
+    if !cx.holds(left) || !cx.holds(right) {
+        return Err(EvalError::NoSolution);
+    }
+    let outlives = match (left.kind(cx), right.kind(cx)) {
+        (GenericArgKind::Type(ty), GenericArgKind::Lifetime(region)) => {
+            ClauseKind::TypeOutlives(ty, region)
+        }
+        (GenericArgKind::Lifetime(a), GenericArgKind::Lifetime(b)) => {
+            ClauseKind::RegionOutlives(a, b)
+        }
+        _ => return Err(EvalError::NoSolution),
+    };
+    let vars = cx.mk_bound_vars(&[])?;
+    let value = PredicateKind::Clause(outlives);
     Ok(cx.mk_predicate(Binder { vars, value })?)
 }
