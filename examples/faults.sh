@@ -51,7 +51,7 @@ say() {
     echo "faults: $1"
     failed=1
 }
-[ $# -gt 0 ] || set -- fact condition refused relate equate canonicalize instantiate apply open hide context
+[ $# -gt 0 ] || set -- fact condition refused outlives relate equate canonicalize instantiate apply open hide context
 # Runs a row, with so many allocations refused from that one on.
 run() {
     : > "$work/reached"

@@ -1,5 +1,5 @@
 //! Goals asked of two rules: the one trait holds for `u32` alone, and the other for the constructor over each type for
-//! which the first one does.
+//! which the first one does. And one that no rule is for.
 ghost use Rattle.std.specs.Prelude.{OnOk, IfOk};
 ghost use Rattle.nts_terms.specs.Handles.{HoldsArg, HoldsGoal};
 ghost use Rattle.nts_delegate.specs.Clauses.{AreClausesReady};
@@ -12,7 +12,10 @@ use nts_fault_rows::{Called, content_of};
 use nts_fixtures::Fixture;
 use nts_model::{BoundVarIndexKind, Sort, UintTy};
 use nts_store::EvalError;
-use nts_terms::{BoundTy, CtorId, Cx, DefId, GenericArg, Goal, Predicate, Span, TraitId, TyKind};
+use nts_terms::{
+    Binder, BoundTy, ClauseKind, CtorId, Cx, DefId, GenericArg, GenericArgKind, Goal, Predicate,
+    PredicateKind, RegionKind, Span, TraitId, TyKind,
+};
 
 /// The traits that goals are about.
 #[derive(Clone, Copy)]
@@ -130,6 +133,28 @@ pub fn goal_of(cx: &mut Cx, trait_id: TraitId, argument: GenericArg) -> Result<G
     })
 }
 
+/// The goal that a type outlives `'static`.
+fn outlives_of(cx: &mut Cx, argument: GenericArg) -> Result<Goal, EvalError>
+    ensures holds { IfOk result (λ g. HoldsGoal cx.new.nodes g) }
+    ensures grows { Grows cx.old cx.new }
+{
+    let region = cx.mk_region(RegionKind::ReStatic)?;
+    let vars = cx.mk_bound_vars(&[])?;
+    let param_env = cx.mk_env(&[])?;
+    if !cx.holds(argument) {
+        return Err(EvalError::NoSolution);
+    }
+    let GenericArgKind::Type(ty) = argument.kind(cx) else {
+        return Err(EvalError::NoSolution);
+    };
+    let value = PredicateKind::Clause(ClauseKind::TypeOutlives(ty, region));
+    let predicate = cx.mk_predicate(Binder { vars, value })?;
+    Ok(Goal {
+        param_env,
+        predicate,
+    })
+}
+
 /// Evaluates a goal that may be asked.
 #[tactic(auto, using(nts_asking::proofs::Asking::asking))]
 fn evaluate(fixture: &mut Fixture, rules: &Clauses, goal: Goal) -> Result<Called, EvalError>
@@ -163,5 +188,16 @@ pub fn ask(fixture: &mut Fixture, rule: Rule, argument: GenericArg) -> Result<Ca
     };
     let goal = goal_of(&mut fixture.cx, asked, argument)?;
     let rules = rules_of(&mut fixture.cx, traits, fixture.one)?;
+    evaluate(fixture, &rules, goal)
+}
+
+/// Asks that a type outlives `'static`: the table gets a region constraint.
+#[tactic(auto, using(nts_asking::proofs::Asking::asking))]
+pub fn ask_outlives(fixture: &mut Fixture, argument: GenericArg) -> Result<Called, EvalError>
+    requires { IsTable fixture.old.cx.nodes fixture.old.table }
+    ensures { OnOk result (IsTable fixture.new.cx.nodes fixture.new.table) }
+{
+    let goal = outlives_of(&mut fixture.cx, argument)?;
+    let rules = Clauses::new(fixture.cx.alloc);
     evaluate(fixture, &rules, goal)
 }

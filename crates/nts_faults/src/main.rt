@@ -13,7 +13,7 @@ mod context;
 ghost use Rattle.std.specs.Prelude.{OnOk};
 ghost use Rattle.nts_table.specs.Tables.{IsTable};
 
-use asking::{Rule, ask};
+use asking::{Rule, ask, ask_outlives};
 use nts_fault_rows::{Called, content_of, fill};
 use nts_fixtures::Fixture;
 use nts_model::UintTy;
@@ -66,6 +66,7 @@ fn call(fixture: &mut Fixture, row: &str) -> Result<Called, EvalError>
             let wrapped = fixture.wrap(byte)?;
             ask(fixture, Rule::Condition, wrapped)
         }
+        "outlives" => ask_outlives(fixture, variable),
         "relate" => nts_fault_rows::relate(fixture),
         "equate" => nts_fault_rows::equate(fixture),
         "canonicalize" => nts_fault_rows::canonicalize(fixture),
