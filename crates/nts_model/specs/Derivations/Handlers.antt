@@ -1,5 +1,5 @@
 -- What a handler means, the candidates that it offers, and the laws that it keeps.
-use Rattle.std.specs.Prelude.{◌≡◌, ◌⊎◌, ℕ, Bool, false, List, [], ◌∷◌, Option, Some, None, map, slice_get}
+use Rattle.std.specs.Prelude.{◌≡◌, ◌⊎◌, ℕ, Bool, false, IsTrue, List, [], ◌∷◌, Option, Some, None, map, slice_get}
 use Rattle.nts_model.specs.declared.labels.Sort.{Sort}
 use Rattle.nts_model.specs.declared.labels.Sort.TheVariants as sort
 use Rattle.nts_model.specs.declared.labels.Variance.{Variance}
@@ -18,7 +18,7 @@ use Rattle.nts_model.specs.Tables.Recording.{ConstrainsRegion}
 use Rattle.nts_model.specs.Terms.Substitutions.{Occurs, StaysItself, Instance, instance_of, Renaming, rename, IsPlain, filled_under, position_of}
 use Rattle.nts_model.specs.Derivations.Related.{Constraint, pair, unbound}
 use Rattle.nts_model.specs.Lists.{Among}
-use Rattle.nts_model.specs.Derivations.Sequents.{Source, normalize_goal, Premise, Hidden, HasClosedStatements}
+use Rattle.nts_model.specs.Derivations.Sequents.{Source, misc, normalize_goal, Premise, Hidden, HasClosedStatements}
 use Rattle.nts_model.specs.Derivations.Rules.{Mode, Equation, related, alike, Application, Meaning, meaning_of, statement_of, IsHandlers}
 
 -- why an answer is not certain
@@ -117,13 +117,35 @@ renamed_candidate ρ c =
       goals = map (premise_by (rename ρ)) c.goals;
     }
 
--- what a handler means: its rules, what it offers for a goal in an environment, in order, its coinductive traits, and the tables
--- of which its leak check may say that their region constraints can't be met by what a universe names
+-- what a handler judges of goals of the engine's own kinds: of which traits objects can be made, which unstable features an
+-- environment allows, as what it evaluates a const there, and the predicates by which a term is well formed there, if it says so
+pub record Judgements : Type 0 where
+  pub is_dyn_compatible : ℕ → Bool
+  pub allows : Tree → ℕ → Bool
+  pub evaluates : Tree → Tree → Option Tree
+  pub well_formed : Tree → Tree → Option (List Tree)
+
+-- it judges nothing
+abbrev pub no_judgements : Judgements
+no_judgements = record { is_dyn_compatible = λ i. false; allows = λ e f. false; evaluates = λ e c. None; well_formed = λ e t. None }
+
+-- it evaluates a const
+abbrev pub IsEvaluated : Judgements → Tree → Tree → Type 0
+IsEvaluated j e c = (v : Tree) × (j.evaluates e c ≡ Some v)
+
+-- predicates that are to hold in an environment, as goals
+abbrev pub goals_in : Tree → Option (List Tree) → Option (List Premise)
+goals_in e None = None
+goals_in e (Some ps) = Some (map (λ p. record { source = misc; environment = e; predicate = p }) ps)
+
+-- what a handler means: its rules, what it offers for a goal in an environment, in order, its coinductive traits, the tables
+-- of which its leak check may say that their region constraints can't be met by what a universe names, and what it judges
 pub record Handler : Type 1 where
   pub applies : Mode → Application → Type 0
   pub offers : Mode → Tree → Tree → List Candidate
   pub is_coinductive : ℕ → Bool
   pub leaks : Content → ℕ → Type 0
+  pub judges : Judgements
 
 -- no table is called leaky
 abbrev pub never_leaks : Content → ℕ → Type 0
@@ -131,7 +153,13 @@ never_leaks c u = ⊥
 
 -- what a handler means where constructors have declared variances
 abbrev pub meaning : Handler → (ℕ → List Variance) → Meaning
-meaning h variances = meaning_of h.applies h.is_coinductive variances
+meaning h variances =
+    record (meaning_of h.applies h.is_coinductive variances) {
+      is_dyn_compatible = (let j = h.judges in j.is_dyn_compatible);
+      allows = (let j = h.judges in j.allows);
+      evaluates = IsEvaluated h.judges;
+      well_formed_goals = λ e t. (let j = h.judges in goals_in e (j.well_formed e t));
+    }
 
 -- no trait is coinductive
 abbrev pub HasNoCoinductiveTrait : Handler → Type 0
@@ -231,9 +259,18 @@ pub record CandidatesKeep (h : Handler) : Type 0 where
 pub record RulesHaveSources (h : Handler) : Type 0 where
   pub each : (mode : Mode) (a : Application) (q : Premise) → h.applies mode a → Among a.goals q → IsHandlersSource q.source
 
+-- what a handler judges is so of each instance; the predicates that it gives for a term have no leaves but the term's and the
+-- environment's, and are of kinds that it may ask for
+pub record JudgementsAreKept (h : Handler) : Type 0 where
+  pub allows : (e : Tree) (f : ℕ) (ι : Instance) → IsFormed e → (let j = h.judges in IsTrue (j.allows e f) → IsTrue (j.allows (instance_of ι e) f))
+  pub evaluates : (e c v : Tree) (ι : Instance) → IsFormed (pair e c) → (let j = h.judges in j.evaluates e c ≡ Some v → j.evaluates (instance_of ι e) (instance_of ι c) ≡ Some (instance_of ι v))
+  pub well_formed : (e t : Tree) (ps : List Tree) (ι : Instance) → IsFormed (pair e t) → (let j = h.judges in j.well_formed e t ≡ Some ps → j.well_formed (instance_of ι e) (instance_of ι t) ≡ Some (map (instance_of ι) ps))
+  pub goals : (e t : Tree) (ps : List Tree) (p : Tree) → IsFormed (pair e t) → (let j = h.judges in j.well_formed e t ≡ Some ps → Among ps p → IsOver [] e t p × IsEmitted (statement_of p))
+
 -- a handler that keeps the laws, which its sets being fixed is one of: they are functions
 pub record IsLawfulHandler (h : Handler) : Type 0 where
   pub commute : CandidatesCommute h
   pub rules : InstancesAreRules h
   pub sources : RulesHaveSources h
   pub keep : CandidatesKeep h
+  pub judges : JudgementsAreKept h
