@@ -7,6 +7,7 @@ pub mod StackExamples
 pub mod ErasingExamples
 pub mod OpenGoalExample
 pub mod ToldExamples
+pub mod JudgedExamples
 pub mod RecordingExamples
 pub mod RefutationExamples
 pub mod SolutionExamples

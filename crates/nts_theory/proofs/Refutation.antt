@@ -17,6 +17,7 @@ pub mod Opening
 pub mod Readying
 pub mod Outliving
 pub mod Recording
+pub mod Affirming
 pub mod ReachedGoals
 pub mod Queried
 pub mod Begun

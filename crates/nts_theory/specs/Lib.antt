@@ -1,4 +1,5 @@
 pub mod Erased
+pub mod Affirming
 pub mod Outliving
 pub mod Refutation
 pub mod Telling

@@ -29,6 +29,7 @@ use Rattle.nts_model.specs.Searching.Driving.{unconstrained}
 use Rattle.nts_model.specs.Canonical.Inputs.{Input, IsInput, CanonicalInput, PositionKind, type_variable, integer_variable, float_variable, const_variable, region_variable, placeholder, canonical_of, originals}
 use Rattle.nts_model.specs.Answers.Applying.{IsProperContent}
 use Rattle.nts_model.specs.Derivations.Proving.{HoldsTerms, AreConstraintsOf}
+use Rattle.nts_theory.specs.Affirming.{SaysAffirmed, IsDenied}
 use Rattle.nts_theory.specs.Outliving.{IsOutlives}
 use Rattle.nts_model.specs.Answers.Responses.{Findings, AreFindings, Response, response_of, IsResponseTo, Applies, RefusesResponse}
 
@@ -190,7 +191,8 @@ pub record SaysRecorded (x : Constraint) (c : Content) (e g : Tree) (qs : List T
 
 mutual
   -- what a goal is answered in a table, for these terms of an input of these kinds: nothing is told; or the verdict that stands
-  -- for those of the candidates for the goal; or, of a goal that something outlives a region, yes, where the table holds that
+  -- for those of the candidates for the goal; or, of a goal that something outlives a region, yes, where the table holds that; or,
+  -- of a goal that the handler affirms, yes, where the table is as before
   pub data Tells (Q : Queries) (h : Handler) (mode : Mode) : List PositionKind → Content → Tree → Tree → List Tree → Verdict → Type 0 where
     tells_nothing : {ks : List PositionKind} {c : Content} {e g : Tree} {qs : List Tree} {v : Verdict} (d : Content) → (d ≡ c) ⊎ (d ≡ entered_table c g) → v.is_yes ≡ false → IsPlainResponse d qs v.response → Tells Q h mode ks c e g qs v
     says_nothing : {ks : List PositionKind} {c : Content} {e g : Tree} {qs : List Tree} {v : Verdict} → SaysNothing ks v.response → Tells Q h mode ks c e g qs v
@@ -198,10 +200,13 @@ mutual
         → Tells Q h mode ks c e g qs v
     tells_outlives : {ks : List PositionKind} {c : Content} {e g : Tree} {qs : List Tree} {v : Verdict} (x : Constraint) → IsOutlives (opened_in c g) x → SaysRecorded x (entered_table c g) e (opened_in c g) qs v
         → Tells Q h mode ks c e g qs v
+    tells_affirmed : {ks : List PositionKind} {c : Content} {e g : Tree} {qs : List Tree} {v : Verdict} → SaysAffirmed h.judges e (opened_in c g) → v.is_yes ≡ true → IsResponseOf (entered_table c g) qs v.response
+        → Tells Q h mode ks c e g qs v
 
-  -- each candidate fails
+  -- each candidate fails, or the handler denies the goal
   pub data Refutes (Q : Queries) (h : Handler) (mode : Mode) : Content → Tree → Tree → List Tree → Type 0 where
     all_fail : {c : Content} {e g : Tree} {qs : List Tree} → IsReady c e g → Outcomes Q h mode (entered_table c g) e (opened_in c g) qs (h.offers mode e (opened_in c g)) [] → Refutes Q h mode c e g qs
+    is_denied : {c : Content} {e g : Tree} {qs : List Tree} → IsDenied h.judges (statement_of (opened_in c g)) → Refutes Q h mode c e g qs
 
   -- candidate by candidate, it fails or has a verdict
   pub data Outcomes (Q : Queries) (h : Handler) (mode : Mode) : Content → Tree → Tree → List Tree → List Candidate → List Verdict → Type 0 where

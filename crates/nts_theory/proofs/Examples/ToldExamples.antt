@@ -11,7 +11,7 @@ use Rattle.nts_model.specs.declared.labels.Label.TheVariants as label
 use Rattle.nts_model.specs.Terms.Trees.{Tree}
 use Rattle.nts_model.specs.Tables.Contents.{Content}
 use Rattle.nts_model.specs.Lists.{Among}
-use Rattle.nts_model.specs.Derivations.Rules.{Mode}
+use Rattle.nts_model.specs.Derivations.Rules.{Mode, statement_of, IsHandlers}
 use Rattle.nts_model.specs.Derivations.Handlers.{Handler, Candidate, HasNoLeaks}
 use Rattle.nts_model.specs.Derivations.Sequents.{Premise}
 use Rattle.nts_model.specs.Refutation.Choosing.{IsCandidateMet}
@@ -22,7 +22,8 @@ use Rattle.nts_model.specs.Canonical.Inputs.{PositionKind, type_variable, intege
 use Rattle.nts_model.specs.Answers.Responses.{Response}
 use Rattle.nts_model.specs.Terms.Substitutions.{leaf_tree}
 use Rattle.nts_theory.proofs.Refutation.Agreeing.{nothing_is_identity}
-use Rattle.nts_theory.specs.Telling.{Verdict, Queries, IsReady, SaysNothing, ChangesNothing, StandsForAll, goals_with, Refutes, all_fail, Outcomes, no_outcome, then_fails, then_replies, Fails, is_unmet, is_refused, is_leaky, RefusesOne, refuses_one, cuts_one}
+use Rattle.nts_theory.proofs.Refutation.Affirming.{denied_no_handlers}
+use Rattle.nts_theory.specs.Telling.{Verdict, Queries, IsReady, SaysNothing, ChangesNothing, StandsForAll, goals_with, Refutes, all_fail, is_denied, Outcomes, no_outcome, then_fails, then_replies, Fails, is_unmet, is_refused, is_leaky, RefusesOne, refuses_one, cuts_one}
 
 -- the answer without constraints says nothing, in each universe
 unconstrained_says_nothing : (ks : List PositionKind) → SaysNothing ks (unconstrained ks)
@@ -74,8 +75,9 @@ all_failed (then_replies {vs = vs} {v = v} before reply) none x i = absurd (not_
 
 -- so a query does not refute a goal for which a candidate without constraints and goals is met: a handler that offers a fact
 pub fact_is_not_refuted : (Q : Queries) (h : Handler) (mode : Mode) (c : Content) (e g : Tree) (qs : List Tree) (x : Candidate) → HasNoLeaks h → Among (h.offers mode e (opened_in c g)) x → IsCandidateMet (entered_table c g) x → x.constraints ≡ [] → x.goals ≡ []
-    → Refutes Q h mode c e g qs → ⊥
-fact_is_not_refuted Q h mode c e g qs x tight offered met constraints goals (all_fail ready all) = fact_never_fails Q h mode (entered_table c g) x tight met constraints goals (all_failed all refl x offered)
+    → IsHandlers (statement_of (opened_in c g)) → Refutes Q h mode c e g qs → ⊥
+fact_is_not_refuted Q h mode c e g qs x tight offered met constraints goals is (is_denied d) = denied_no_handlers h.judges (statement_of (opened_in c g)) d is
+fact_is_not_refuted Q h mode c e g qs x tight offered met constraints goals is (all_fail ready all) = fact_never_fails Q h mode (entered_table c g) x tight met constraints goals (all_failed all refl x offered)
 
 -- and it refutes one for which nothing is offered
 pub no_candidate_is_refuted : (Q : Queries) (h : Handler) (mode : Mode) (c : Content) (e g : Tree) (qs : List Tree) → IsReady c e g → h.offers mode e (opened_in c g) ≡ [] → Refutes Q h mode c e g qs

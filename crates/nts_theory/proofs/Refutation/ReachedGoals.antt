@@ -35,6 +35,7 @@ use Rattle.nts_theory.proofs.Refutation.UsedRules.{uses_unbound, uses_binding}
 use Rattle.nts_theory.proofs.Derivations.ProofInstances.{HasOneSide-under as one_side_under}
 use Rattle.nts_theory.specs.Refutation.Refutation.{HasNoAliases}
 use Rattle.nts_theory.proofs.Refutation.Outliving.{rule_holds, rule_holds_opened}
+use Rattle.nts_theory.proofs.Refutation.Affirming.{rule_denied}
 
 normal_handlers : (f : ℕ → Bool) (s : Tree) → statement_kind f s ≡ normalization → IsHandlers s
 normal_handlers f (node (label.Predicate (predicate.NormalizesTo i)) ts) e = tt
@@ -257,6 +258,8 @@ module _ (h : Handler) (V : ℕ → List Variance) (truth : Truth) (none : HasNo
             uses_binding h (strictly m) truth Proves (λ a y. y) no_alias_goal (Settled e) (GrantsAt r.node r.at) (HidesAt r.node r.at) (RestsOnAt m r.node r.at) (granted_true p.of_proof r.node r.at r.reached) (rests_proved p.of_proof r.node r.at r.reached) e x xs s i (goal_rule e (binding x xs s) p));
         outlives = λ e s x p says closed. (let r = p.reached in
             granted_true p.of_proof r.node r.at r.reached x (rule_holds (strictly m) coherence (Settled e) (GrantsAt r.node r.at) (HidesAt r.node r.at) (RestsOnAt m r.node r.at) e s x says closed (goal_rule e (unbound s) p)));
+        denies = λ e g p d. (let r = p.reached in
+            rule_denied (strictly m) h.judges (λ i. refl) coherence (Settled e) (GrantsAt r.node r.at) (HidesAt r.node r.at) (RestsOnAt m r.node r.at) e g d (goal_rule e g p));
         outlives_opened = λ e x xs s p. (let r = p.reached in
             rule_holds_opened (strictly m) coherence (Settled e) (GrantsAt r.node r.at) (HidesAt r.node r.at) (RestsOnAt m r.node r.at) truth (granted_true p.of_proof r.node r.at r.reached) e x xs s (goal_rule e (binding x xs s) p));
       }

@@ -21,13 +21,15 @@ use Rattle.nts_model.specs.Tables.Passing.{AllLabels}
 use Rattle.nts_model.specs.Terms.Substitutions.{leaf_tree, put, Occurs, StaysItself, leaf_sort, Renaming, rename}
 use Rattle.nts_model.specs.Derivations.Related.{Constraint, pair, unbound}
 use Rattle.nts_model.specs.Lists.{Among}
-use Rattle.nts_model.specs.Derivations.Rules.{coherence, Equation, related, alike, opened, opened_at, AreFresh, IsHandlers}
+use Rattle.nts_model.specs.Derivations.Rules.{coherence, statement_of, Equation, related, alike, opened, opened_at, AreFresh, IsHandlers}
 use Rattle.nts_model.specs.Canonical.Numbered.{seen, AreDistinct}
 use Rattle.nts_model.specs.Refutation.Opening.{placeholder_in}
 use Rattle.nts_model.specs.Refutation.Choosing.{left_of, right_of}
 use Rattle.nts_model.specs.Derivations.Handlers.{Handler, equation_by, constraint_by, premise_by, application_under, InstancesAreRules}
 use Rattle.nts_model.specs.Refutation.Containing.{Truth, IsTrueBy, IsGroundLabel}
+use Rattle.nts_theory.specs.Affirming.{IsDenied}
 use Rattle.nts_theory.specs.Outliving.{SaysOutlives}
+use Rattle.nts_theory.proofs.Refutation.Affirming.{denied_replaced}
 use Rattle.nts_theory.proofs.Refutation.Outliving.{outlives_renamed, sides_formed, true_again, opened_says, says_opened, sides_moved}
 use Rattle.nts_theory.specs.Refutation.Refutation.{IsCarrying, IsFair, UsesClause, UsesNamed, binding, AreUsed, IsTheory}
 use Rattle.nts_model.proofs.Terms.Substituting.{replace-equal, replace-leaf}
@@ -737,6 +739,13 @@ module _ (h : Handler) (truth : Truth) (Proves : Tree → Tree → Type 0) (rule
       let known : IsTrueBy truth r (rename σ (opened v.fresh 0 (rename b o.before.left))) (rename σ (opened v.fresh 0 (rename b o.before.right))) = true_renamed truth fair σ kσ r _ _ there in
       subst (λ z. IsTrueBy truth z.relation z.left z.right) (sym o.same) (subst (λ z. IsTrueBy truth r (opened p 0 o.before.left) z) moved.1 (subst (λ z. IsTrueBy truth r z (rename σ (opened v.fresh 0 (rename b o.before.right)))) moved.0 known))
 
+  -- nothing is carried that the handler denies
+  denies_later : (e g : Tree) → Later e g → IsDenied h.judges (statement_of g) → ⊥
+  denies_later e g c d =
+      let back = back_to c.by in
+      let there = denied_replaced h.judges (λ l. leaf_tree (back.to l)) g d in
+      used.denies c.environment c.predicate c.proved (subst (λ z. IsDenied h.judges (statement_of z)) (sym (before e g c)) there)
+
   -- what is carried is a theory
   pub carried_theory : IsTheory h truth Later
   carried_theory =
@@ -746,5 +755,6 @@ module _ (h : Handler) (truth : Truth) (Proves : Tree → Tree → Type 0) (rule
         plain = plain_named;
         opened = opened_named;
         outlives = outlives_later;
+        denies = denies_later;
         outlives_opened = outlives_opened_later;
       }

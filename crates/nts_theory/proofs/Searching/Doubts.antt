@@ -9,7 +9,7 @@ use Rattle.nts_model.specs.Derivations.Handlers.{Handler, Candidate}
 use Rattle.nts_model.specs.Canonical.Inputs.{PositionKind}
 use Rattle.nts_model.specs.Answers.Responses.{Response, recorded_by, positioned, own_leaves}
 use Rattle.nts_model.proofs.Lists.{contains_none}
-use Rattle.nts_theory.specs.Telling.{Verdict, Queries, IsPlainResponse, SaysOf, Tells, tells_nothing, says_nothing, tells_one, tells_outlives, Outcomes, no_outcome, then_fails, then_replies, replies}
+use Rattle.nts_theory.specs.Telling.{Verdict, Queries, IsPlainResponse, SaysOf, Tells, tells_nothing, says_nothing, tells_one, tells_outlives, tells_affirmed, Outcomes, no_outcome, then_fails, then_replies, replies}
 use Rattle.nts_theory.proofs.Refutation.Answered.{among_split}
 
 none_in : (xs : List Recorded) → ((x : Recorded) → Contains xs x → ⊥) → xs ≡ []
@@ -46,3 +46,4 @@ doubt_leaves_none (says_nothing says) n = ap (λ (z : Response). (let y = z.find
 doubt_leaves_none {v = v} (tells_one vs ready all (i, inl same)) n = (let z : true ≡ false = sym same.certain ∙ n in cc z)
 doubt_leaves_none {v = v} (tells_one vs ready all (i, inr same)) n = outcome_leaves_none all v i n
 doubt_leaves_none (tells_outlives x is r) n = (let z : true ≡ false = sym r.sure ∙ n in cc z)
+doubt_leaves_none (tells_affirmed is sure says) n = (let z : true ≡ false = sym sure ∙ n in cc z)

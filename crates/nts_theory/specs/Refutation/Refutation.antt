@@ -11,7 +11,7 @@ use Rattle.nts_model.specs.Terms.Substitutions.{Instance, Renaming, rename, IsPl
 use Rattle.nts_model.specs.Derivations.Related.{Constraint, pair, unbound}
 use Rattle.nts_model.specs.Lists.{Among}
 use Rattle.nts_model.specs.Derivations.Sequents.{Premise}
-use Rattle.nts_model.specs.Derivations.Rules.{Mode, coherence, Meaning, goal_kind, normalization, AreFresh, Equation, Application, IsHandlers, opened, bound}
+use Rattle.nts_model.specs.Derivations.Rules.{Mode, coherence, Meaning, statement_of, goal_kind, normalization, AreFresh, Equation, Application, IsHandlers, opened, bound}
 use Rattle.nts_model.specs.Refutation.Opening.{placeholder_in}
 use Rattle.nts_model.specs.Refutation.Choosing.{left_of, right_of}
 use Rattle.nts_model.specs.Derivations.Handlers.{Handler, meaning}
@@ -20,6 +20,7 @@ use Rattle.nts_model.specs.Tables.Worlds.{World, inst, Agrees}
 use Rattle.nts_model.specs.declared.labels.Variance.{Variance}
 use Rattle.nts_model.specs.Refutation.Containing.{Truth, IsTrueBy, IsSolution, IsGroundLabel, AreGround}
 use Rattle.nts_model.specs.Tables.Passing.{AllLabels}
+use Rattle.nts_theory.specs.Affirming.{IsDenied}
 use Rattle.nts_theory.specs.Outliving.{SaysOutlives}
 use Rattle.nts_variance_model.specs.Variances.SettledProofs.{HasSettledProof}
 
@@ -61,11 +62,12 @@ binding x xs s = bound (more x xs) s
 
 -- what is proved: terms without region variables. Names of constants and regions play no part, and each goal of the handler
 -- follows by a use of a clause, as it stands or with the placeholders of a new universe for what it binds. What is proved to
--- outlive a region does
+-- outlive a region does, and nothing is proved that the handler denies
 pub record IsTheory (h : Handler) (truth : Truth) (Proves : Tree → Tree → Type 0) : Type 0 where
   pub ground : AreGround Proves
   pub kept : (ρ : Renaming) → IsCarrying ρ → (e g : Tree) → Proves e g → Proves (rename ρ e) (rename ρ g)
   pub outlives : (e s : Tree) (y : Constraint) → Proves e (unbound s) → SaysOutlives y s → IsClosed s → IsTrueBy truth y.relation y.left y.right
+  pub denies : (e g : Tree) → Proves e g → IsDenied h.judges (statement_of g) → ⊥
   pub outlives_opened : (u : ℕ) (e x xs s : Tree) (y : Constraint) → Proves e (binding x xs s) → SaysOutlives y (opened (placeholder_in (u + 1)) 0 s) → NamesAll leaf_level u (pair e s) → IsTrueBy truth y.relation y.left y.right
   pub plain : (u : ℕ) (e s : Tree) → Proves e (unbound s) → IsHandlers s → IsClosed s → NamesAll leaf_level u (pair e s) → UsesNamed h truth Proves u e s
   pub opened : (u : ℕ) (e x xs s : Tree) → Proves e (binding x xs s) → IsHandlers (opened (placeholder_in (u + 1)) 0 s) → IsFormed (opened (placeholder_in (u + 1)) 0 s) → NamesAll leaf_level u (pair e s)
@@ -84,12 +86,13 @@ pub record UsesOpened (h : Handler) (truth : Truth) (Proves : Tree → Tree → 
   pub uses : UsesClause h truth Proves e (opened fresh 0 s)
 
 -- proved goals are terms without region variables, each goal of the handler follows by a use of a clause from proved goals, and
--- what is proved to outlive a region does
+-- what is proved to outlive a region does, and nothing is proved that the handler denies
 pub record AreUsed (h : Handler) (truth : Truth) (Proves : Tree → Tree → Type 0) : Type 0 where
   pub ground : AreGround Proves
   pub plain : (e s : Tree) → Proves e (unbound s) → IsHandlers s → IsClosed s → UsesClause h truth Proves e s
   pub opened : (e x xs s : Tree) → Proves e (binding x xs s) → IsHandlers s → UsesOpened h truth Proves e (binding x xs s) s
   pub outlives : (e s : Tree) (y : Constraint) → Proves e (unbound s) → SaysOutlives y s → IsClosed s → IsTrueBy truth y.relation y.left y.right
+  pub denies : (e g : Tree) → Proves e g → IsDenied h.judges (statement_of g) → ⊥
   pub outlives_opened : (e x xs s : Tree) → Proves e (binding x xs s) → OutlivesOpened truth e (binding x xs s) s
 
 -- an instance that leaves no region variable: each has been assigned a free region
