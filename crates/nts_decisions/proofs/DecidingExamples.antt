@@ -10,7 +10,7 @@ use Rattle.nts_model.specs.Lists.{Among}
 use Rattle.nts_model.specs.Derivations.Sequents.{impl_where_bound, Premise}
 use Rattle.nts_model.specs.Derivations.Rules.{coherence, Equation, related, statement_of}
 use Rattle.nts_model.specs.Terms.Substitutions.{filled}
-use Rattle.nts_model.specs.Derivations.Handlers.{Handler, never_leaks, Candidate, certain, never, IsAsked}
+use Rattle.nts_model.specs.Derivations.Handlers.{Handler, never_leaks, no_judgements, Candidate, certain, never, IsAsked}
 use Rattle.nts_model.specs.Refutation.Choosing.{left_of, right_of}
 use Rattle.nts_decisions.specs.Deciding.{blurred, blurred_candidate, MeetsBlurred, IsPlainGoal, IsFormedCandidate, IsUniform, IsDecided, by_candidates, none_left, then_fails, then_holds, is_met, all_yes, one_no}
 use Rattle.nts_theory.proofs.Examples.InputExamples.{no_clauses as nowhere}
@@ -55,7 +55,7 @@ offered_by (Some (label.Clause (clause.Trait zero))) g = by_goal ∷ fact g ∷ 
 offered_by l g = []
 
 abbrev pub two_rules : Handler
-two_rules = record { applies = λ mode a. ⊥; offers = λ mode e g. offered_by (label_of (statement_of (blurred g))) (blurred g); is_coinductive = λ i. false; leaks = never_leaks }
+two_rules = record { applies = λ mode a. ⊥; offers = λ mode e g. offered_by (label_of (statement_of (blurred g))) (blurred g); is_coinductive = λ i. false; leaks = never_leaks; judges = no_judgements }
 
 uniform_one : IsUniform two_rules coherence nowhere (list_goal 1) []
 uniform_one =

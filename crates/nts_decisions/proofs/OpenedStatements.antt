@@ -14,12 +14,14 @@ use Rattle.nts_model.specs.Terms.Trees.{Tree, empty, more, node, kind_of, one_so
 use Rattle.nts_model.specs.Tables.Contents.{Content}
 use Rattle.nts_model.specs.Terms.Substitutions.{leaf_tree}
 use Rattle.nts_model.specs.Derivations.Related.{Constraint, pair, unbound}
-use Rattle.nts_model.specs.Derivations.Rules.{Mode, statement_of, statement_kind, coinductive_trait, other_goal, normalization, opened, opened_at, bound}
-use Rattle.nts_model.specs.Derivations.Handlers.{Handler}
+use Rattle.nts_model.specs.Derivations.Rules.{Mode, statement_of, statement_kind, coinductive_trait, other_goal, normalization, opened, opened_at, IsHandlers, bound}
+use Rattle.nts_model.specs.Derivations.Handlers.{Handler, Judgements}
 use Rattle.nts_model.specs.Refutation.Opening.{binds, placeholder_in, opened_in}
 use Rattle.nts_model.proofs.Terms.Substituting.{leaf_alone, no_children}
 use Rattle.nts_theory.specs.Outliving.{SaysOutlives, region_outlives, type_outlives, IsOutlives}
+use Rattle.nts_theory.specs.Affirming.{SaysAffirmed, IsDenied}
 use Rattle.nts_theory.specs.Telling.{IsTraitStatement}
+use Rattle.nts_theory.proofs.Refutation.Affirming.{affirmed_no_handlers, denied_no_handlers}
 use Rattle.nts_decisions.specs.Deciding.{blurred, blurred_environment, IsDecidable, IsPlainGoal, top_level, opened_next, IsGoalDecided}
 use Rattle.nts_decisions.proofs.BlurredWorlds.{merged_leaf}
 use Rattle.nts_decisions.proofs.Deciding.{decided_by}
@@ -55,6 +57,17 @@ says_not_both s x t type_outlives = t
 
 pub trait_outlives_nothing : (g : Tree) (x : Constraint) → IsTraitStatement (statement_of g) → IsOutlives g x → ⊥
 trait_outlives_nothing g x t o = says_not_both o.statement x (subst (λ z. IsTraitStatement (statement_of z)) o.binds_nothing t) o.says
+
+-- .. and no handler affirms or denies it
+trait_handlers : (s : Tree) → IsTraitStatement s → IsHandlers s
+trait_handlers (node (label.Clause (clause.Trait i)) ts) t = tt
+trait_handlers s t = absurd t
+
+pub trait_not_affirmed : (j : Judgements) (e g : Tree) → IsTraitStatement (statement_of g) → SaysAffirmed j e g → ⊥
+trait_not_affirmed j e g t a = affirmed_no_handlers j e a.statement a.affirmed (trait_handlers a.statement (subst (λ z. IsTraitStatement (statement_of z)) a.binds_nothing t))
+
+pub trait_not_denied : (j : Judgements) (g : Tree) → IsTraitStatement (statement_of g) → IsDenied j (statement_of g) → ⊥
+trait_not_denied j g t d = denied_no_handlers j (statement_of g) d (trait_handlers (statement_of g) t)
 
 -- .. is not about an alias
 by_test : (b : Bool) → (if b then coinductive_trait else other_goal) ≢ normalization

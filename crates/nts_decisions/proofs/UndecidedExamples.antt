@@ -5,7 +5,7 @@ use Rattle.nts_model.specs.Terms.Trees.{Tree}
 use Rattle.nts_model.specs.Derivations.Sequents.{impl_where_bound, Premise}
 use Rattle.nts_model.specs.Derivations.Rules.{coherence}
 use Rattle.nts_model.specs.Terms.Substitutions.{filled}
-use Rattle.nts_model.specs.Derivations.Handlers.{Handler, never_leaks, Candidate, certain, never}
+use Rattle.nts_model.specs.Derivations.Handlers.{Handler, never_leaks, no_judgements, Candidate, certain, never}
 use Rattle.nts_decisions.specs.Deciding.{blurred, blurred_candidate, blurred_premise, MeetsBlurred, IsPlainGoal, IsUniform, opened_next, IsDecided, by_candidates, OneHolds, none_left, then_fails, then_holds, CandidateIs, is_unmet, is_met, GoalsAre, all_yes, one_yes, one_no}
 use Rattle.nts_decisions.proofs.DecidingExamples.{list_goal, plain}
 use Rattle.nts_theory.proofs.Examples.InputExamples.{no_clauses as nowhere}
@@ -18,7 +18,7 @@ abbrev by_itself : Candidate
 by_itself = record { fresh = []; equations = []; constraints = []; hidden = []; goals = itself ∷ []; certainty = certain; accesses = never }
 
 abbrev pub one_circle : Handler
-one_circle = record { applies = λ mode a. ⊥; offers = λ mode e g. by_itself ∷ []; is_coinductive = λ i. false; leaks = never_leaks }
+one_circle = record { applies = λ mode a. ⊥; offers = λ mode e g. by_itself ∷ []; is_coinductive = λ i. false; leaks = never_leaks; judges = no_judgements }
 
 meets_itself : MeetsBlurred (blurred_candidate by_itself) []
 meets_itself = record { values = tt; equal = λ q i. absurd i }
