@@ -4,6 +4,7 @@ pub mod ByParts
 pub mod ByRelating
 pub mod ChosenValues
 pub mod BuiltIn
+pub mod ByEngine
 pub mod WithCandidate
 pub mod SettledGoals
 pub mod RelatedRows
