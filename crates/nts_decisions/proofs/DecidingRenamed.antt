@@ -209,6 +209,7 @@ handlers_renamed f t h = absurd h
 
 decidable_clause : (f : Leaf → Tree) (l : Label) (c d : Tree) → IsDecidable (node l c) → IsDecidable (put f l d)
 decidable_clause f (label.Clause (clause.Trait i)) c d h = tt
+decidable_clause f (label.Clause (clause.HostEffect i)) c d h = tt
 decidable_clause f l c d h = absurd h
 
 decidable_renamed : (f : Leaf → Tree) (t : Tree) → IsDecidable t → IsDecidable (replace f t)

@@ -141,6 +141,7 @@ predicate_from ρ s t f e = ap (by_leaves ρ.from) (sym e) ∙ there_and_back ρ
 
 trait_renamed : (f : Leaf → Tree) (t : Tree) → IsTraitStatement t → IsTraitStatement (replace f t)
 trait_renamed f (node (label.Clause (clause.Trait i)) ts) h = tt
+trait_renamed f (node (label.Clause (clause.HostEffect i)) ts) h = tt
 trait_renamed f t h = absurd h
 
 static_kinds : KeepsKinds blurred_but_static

@@ -32,10 +32,12 @@ use Rattle.nts_decisions.proofs.AskedGoals.{by_leaves, unbound_raw}
 -- what a trait says, before and after
 trait_blurred : (t : Tree) → IsDecidable (by_leaves merged_leaf t) → IsTraitStatement t
 trait_blurred (node (label.Clause (clause.Trait i)) ts) h = tt
+trait_blurred (node (label.Clause (clause.HostEffect i)) ts) h = tt
 trait_blurred t h = absurd h
 
 trait_opened : (f : Sort → ℕ → Leaf) (t : Tree) → IsTraitStatement (opened f 0 t) → IsTraitStatement t
 trait_opened f (node (label.Clause (clause.Trait i)) ts) h = tt
+trait_opened f (node (label.Clause (clause.HostEffect i)) ts) h = tt
 trait_opened f (node (label.Bound s (index.Bound d) n) ts) h = absurd (not_bound (d == 0) h)
   where
     not_bound : (b : Bool) → IsTraitStatement (if b then leaf_tree (f s n) else node (label.Bound s (index.Bound d) n) (opened f 0 ts)) → ⊥
@@ -61,6 +63,7 @@ trait_outlives_nothing g x t o = says_not_both o.statement x (subst (λ z. IsTra
 -- .. and no handler affirms or denies it
 trait_handlers : (s : Tree) → IsTraitStatement s → IsHandlers s
 trait_handlers (node (label.Clause (clause.Trait i)) ts) t = tt
+trait_handlers (node (label.Clause (clause.HostEffect i)) ts) t = tt
 trait_handlers s t = absurd t
 
 pub trait_not_affirmed : (j : Judgements) (e g : Tree) → IsTraitStatement (statement_of g) → SaysAffirmed j e g → ⊥
@@ -76,6 +79,7 @@ by_test false e = cc
 
 pub trait_is_plain : (is_coinductive : ℕ → Bool) (s : Tree) → IsTraitStatement s → statement_kind is_coinductive s ≢ normalization
 trait_is_plain is_coinductive (node (label.Clause (clause.Trait i)) ts) h = by_test (is_coinductive i)
+trait_is_plain is_coinductive (node (label.Clause (clause.HostEffect i)) ts) h = λ e. cc e
 trait_is_plain is_coinductive t h = absurd h
 
 -- what is closed once it is opened is closed but for one binder

@@ -91,6 +91,7 @@ module _ (Q : Queries) (h : Handler) (law : IsLawfulHandler h) (mode : Mode) (ti
   -- it says of nothing that it outlives a region
   still_trait : (s : Tree) → IsTraitStatement s → IsTraitStatement (filled (map leaf_tree u) (numbered no_leaf (after_environment i) s))
   still_trait (node (label.Clause (clause.Trait j)) ts) h = tt
+  still_trait (node (label.Clause (clause.HostEffect j)) ts) h = tt
   still_trait s h = absurd h
 
   is_trait : IsTraitStatement (statement_of g')

@@ -52,6 +52,7 @@ FixesGoals x = (vs us : List Tree) (p : Premise) → MeetsBlurred x vs → Meets
 -- a trait goal, without aliases and without variables of types, numbers and consts
 abbrev pub IsDecidable : Tree → Type 0
 IsDecidable (node (label.Clause (clause.Trait i)) ts) = Unit {0}
+IsDecidable (node (label.Clause (clause.HostEffect i)) ts) = Unit {0}
 IsDecidable t = ⊥
 
 pub record IsPlainGoal (e g : Tree) : Type 0 where

@@ -145,9 +145,10 @@ pub record CanAsk (c : Content) : Type 0 where
   pub sound : IsSound c
   pub current : AreCurrent c
 
--- what a trait says of its arguments
+-- what is said of a trait's arguments: that the trait holds for them, or that it holds as an effect of the host
 abbrev pub IsTraitStatement : Tree → Type 0
 IsTraitStatement (node (label.Clause (clause.Trait i)) ts) = Unit {0}
+IsTraitStatement (node (label.Clause (clause.HostEffect i)) ts) = Unit {0}
 IsTraitStatement t = ⊥
 
 -- a trait goal in whose terms no alias stands
