@@ -89,12 +89,14 @@ passed coinductive A = map put_behind A
 passed k A = A
 
 -- derivations relative to assumed sequents: trees of rules, each premise served by an instance of what is derived, or of
--- an assumption that is behind a coinductive step
+-- an assumption that is behind a coinductive step. A ranked proof may stand in the place of a part of the tree
 mutual
   pub data Derives (m : Meaning) (mode : Mode) : List Assumed → Sequent → Type 0 where
     by_rule : {A : List Assumed} {s : Sequent} (ps : List Premise) → IsOfTerms s
         → IsRule m mode (λ t. Unit {0}) (Grants s) (Hides s) (λ p. Among ps p ⊎ (IsNormalization m s.predicate × Among s.open_goals p)) s.environment s.predicate
         → DerivesAll m mode A s ps ps → Derives m mode A s
+    -- a node of a ranked proof is derived
+    by_ranked : {A : List Assumed} (nodes : List Node) (first : Node) → IsRankedProof m mode nodes → Among nodes first → Derives m mode A first.sequent
     -- a goal may be assumed in its own derivation
     by_cycle : {A : List Assumed} {s : Sequent} → Derives m mode (record { sequent = s; is_behind = false } ∷ A) s → Derives m mode A s
 
@@ -107,11 +109,12 @@ mutual
         → slice_get (passed (proof_kind (goal_kind m s.predicate) p.source) A) i ≡ Some a → IsTrue a.is_behind → Serves s (Among all) ι a.sequent p
         → DerivesAll m mode A s all ps → DerivesAll m mode A s all (p ∷ ps)
 
--- a derivation without cycles and assumptions
+-- a derivation without cycles, assumptions and ranked proofs
 abbrev mutual
   pub IsTree : {m : Meaning} {mode : Mode} {A : List Assumed} {s : Sequent} → Derives m mode A s → Type 0
   IsTree (by_rule ps terms r all) = AreTrees all
   IsTree (by_cycle d) = ⊥
+  IsTree (by_ranked nodes first r i) = ⊥
 
   pub AreTrees : {m : Meaning} {mode : Mode} {A : List Assumed} {s : Sequent} {all ps : List Premise} → DerivesAll m mode A s all ps → Type 0
   AreTrees all_derived = Unit {0}
