@@ -7,7 +7,7 @@ use Rattle.nts_model.specs.Derivations.Related.{Constraint}
 use Rattle.nts_model.specs.Lists.{Among}
 use Rattle.nts_model.specs.Derivations.Sequents.{PathKind, coinductive, unknown, inductive, forced_ambiguity, Premise, Hidden, Sequent, AreOneBy, Grants, Hides, constraint_under, hidden_under, premise_under, IsInstance}
 use Rattle.nts_model.specs.Derivations.Rules.{Meaning, Mode, goal_kind, proof_kind}
-use Rattle.nts_model.specs.Derivations.Proofs.{Serves, reopened, Assumed, put_behind, passed, Derives, DerivesAll, by_rule, by_cycle, all_derived, by_derivation, by_assumption}
+use Rattle.nts_model.specs.Derivations.Proofs.{Serves, reopened, Assumed, put_behind, passed, Derives, DerivesAll, by_rule, by_cycle, by_ranked, all_derived, by_derivation, by_assumption}
 use Rattle.nts_model.specs.Searching.Stacks.{IsUsable, IsDerivedFrom}
 use Rattle.nts_model.proofs.Terms.Composing.{after, instance_of-after}
 use Rattle.nts_model.proofs.Terms.Identified.{one_trans, one_under}
@@ -96,6 +96,7 @@ module _ {m : Meaning} {mode : Mode} where
     pub derives_more : {A B : List Assumed} {s : Sequent} → Covers A B → Derives m mode A s → Derives m mode B s
     derives_more f (by_rule ps terms r all) = by_rule ps terms r (derives_all_more f all)
     derives_more {A = A} {B = B} {s = s} f (by_cycle d) = by_cycle (derives_more (covers_more (record { sequent = s; is_behind = false }) A B f) d)
+    derives_more f (by_ranked nodes first r i) = by_ranked nodes first r i
 
     pub derives_all_more : {A B : List Assumed} {s : Sequent} {all ps : List Premise} → Covers A B → DerivesAll m mode A s all ps → DerivesAll m mode B s all ps
     derives_all_more f all_derived = all_derived

@@ -1,12 +1,12 @@
 -- A derivation without assumptions gives a ranked proof: a node for each rule, whose rank is the height of its part of the
--- tree, and higher the more coinductive steps lead to it.
+-- tree, and higher the more coinductive steps lead to it. A ranked proof in the place of a part of the tree gives its nodes.
 use Rattle.std.specs.Prelude.{◌≡◌, ◌⊎◌, ℕ, zero, suc, ◌+◌, ◌*◌, ◌<◌, ◌≤◌, max, List, [], ◌∷◌, Some, None, slice_get, map, IsTrue, false, refl}
 use Rattle.std.proofs.Common.{inl, inr, ap, sym, ◌∙◌, arith, subst}
 use Rattle.nts_model.specs.Terms.Substitutions.{Instance}
 use Rattle.nts_model.specs.Lists.{Among}
 use Rattle.nts_model.specs.Derivations.Sequents.{PathKind, coinductive, unknown, inductive, forced_ambiguity, Premise, Sequent, IsInstance}
 use Rattle.nts_model.specs.Derivations.Rules.{Meaning, Mode, proof_kind, goal_kind}
-use Rattle.nts_model.specs.Derivations.Proofs.{Name, Step, Node, RestsOn, IsNormalization, Serves, IsSoundStep, IsJustified, HasProof, Assumed, put_behind, passed, Derives, DerivesAll, by_rule, by_cycle, all_derived, by_derivation, by_assumption}
+use Rattle.nts_model.specs.Derivations.Proofs.{Name, Step, Node, RestsOn, IsNormalization, Serves, IsSoundStep, IsJustified, IsRankedProof, HasProof, Assumed, put_behind, passed, Derives, DerivesAll, by_rule, by_cycle, by_ranked, all_derived, by_derivation, by_assumption}
 use Rattle.nts_theory.proofs.Derivations.Monotone.{rule_more}
 
 abbrev pub joined : {X : Type 0} → List X → List X → List X
@@ -36,6 +36,19 @@ name_at [] j = []
 name_at (x ∷ M) zero = x
 name_at (x ∷ M) (suc j) = name_at M j
 
+-- the nodes of a ranked proof in the place of a part of a tree: behind a name, above a rank
+abbrev pub below_name : Name → Name → Name
+below_name π x = joined x (0 ∷ π)
+
+abbrev pub moved_step : Name → Step → Step
+moved_step π s = record s { target = below_name π s.target }
+
+abbrev pub moved_node : Name → Name → ℕ → Node → Node
+moved_node π name r n = record { name = name; sequent = n.sequent; rank = r + n.rank; steps = map (moved_step π) n.steps }
+
+abbrev pub moved_nodes : Name → ℕ → List Node → List Node
+moved_nodes π r ns = map (λ n. moved_node π (below_name π n.name) r n) ns
+
 abbrev pub next_level : PathKind → ℕ → ℕ
 next_level coinductive c = suc c
 next_level k c = c
@@ -45,6 +58,7 @@ module _ {m : Meaning} {mode : Mode} where
     pub height : {A : List Assumed} {s : Sequent} → Derives m mode A s → ℕ
     height (by_rule ps terms r all) = suc (heights all)
     height (by_cycle d) = height d
+    height (by_ranked nodes first r i) = first.rank
 
     pub heights : {A : List Assumed} {s : Sequent} {all ps : List Premise} → DerivesAll m mode A s all ps → ℕ
     heights all_derived = 0
@@ -61,6 +75,7 @@ module _ {m : Meaning} {mode : Mode} where
     nodes_of {s = s} (by_rule ps terms r all) π M c B =
         record { name = π; sequent = s; rank = c * B + suc (heights all); steps = steps_of all 0 π M } ∷ nodes_of_all all 0 π M c B
     nodes_of (by_cycle d) π M c B = nodes_of d π (π ∷ M) c B
+    nodes_of (by_ranked nodes first r i) π M c B = moved_node π π (c * B) first ∷ moved_nodes π (c * B) nodes
 
     pub nodes_of_all : {A : List Assumed} {s : Sequent} {all ps : List Premise} → DerivesAll m mode A s all ps → ℕ → Name → List Name → ℕ → ℕ → List Node
     nodes_of_all all_derived i π M c B = []
@@ -73,6 +88,7 @@ module _ {m : Meaning} {mode : Mode} where
       → (n : Node) × Among (nodes_of d π M c B) n × (n.name ≡ π) × (n.sequent ≡ s) × (n.rank ≡ c * B + height d)
   first_of (by_rule ps terms r all) π M c B = (_, inl refl, refl, refl, refl)
   first_of (by_cycle d) π M c B = first_of d π (π ∷ M) c B
+  first_of (by_ranked nodes first r i) π M c B = (_, inl refl, refl, refl, refl)
 
 -- the nodes of the assumed sequents stand in the list, at their names, below what the level allows
 abbrev pub Stand : List Assumed → List Name → ℕ → ℕ → List Node → Type 0
@@ -184,6 +200,45 @@ either f g (inr y) = g y
 le_self : (a : ℕ) → a ≤ a
 le_self a = omega arith
 
+-- what stands in a mapped list
+image_among : {X Y : Type 0} (f : X → Y) (xs : List X) (x : X) → Among xs x → Among (map f xs) (f x)
+image_among f [] x h = elim h [ ]
+image_among f (y ∷ xs) x (inl e) = inl (ap f e)
+image_among f (y ∷ xs) x (inr h) = inr (image_among f xs x h)
+
+among_images : {X Y : Type 0} (f : X → Y) (xs : List X) (y : Y) → Among (map f xs) y → (x : X) × Among xs x × (y ≡ f x)
+among_images f [] y h = elim h [ ]
+among_images f (x ∷ xs) y (inl e) = (x, inl refl, e)
+among_images f (x ∷ xs) y (inr h) = (let r = among_images f xs y h in (r.0, inr r.1, r.2))
+
+-- the nodes of a ranked proof are good where they are moved to
+module _ (m : Meaning) (mode : Mode) (nodes : List Node) (ranked : IsRankedProof m mode nodes) (π : Name) (r : ℕ) (F : List Node) (within : (n : Node) → Among (moved_nodes π r nodes) n → Among F n) where
+  moved_rests : (name : Name) (n : Node) (p : Premise) → RestsOn m n p → RestsOn m (moved_node π name r n) p
+  moved_rests name n p (inl (s, i, e)) = inl (moved_step π s, image_among (moved_step π) n.steps s i, e)
+  moved_rests name n p (inr o) = inr o
+
+  moved_down : (k : Type 0) (a b : ℕ) → k ⊎ (a < b) → k ⊎ (r + a < r + b)
+  moved_down k a b (inl x) = inl x
+  moved_down k a b (inr l) = inr (omega (arith, l))
+
+  moved_sound : (name : Name) (n : Node) (s : Step) → IsSoundStep m nodes n s → IsSoundStep m F (moved_node π name r n) (moved_step π s)
+  moved_sound name n s x =
+      let v = x.serves in
+      record {
+        node = moved_node π (below_name π x.node.name) r x.node;
+        found = within _ (image_among (λ y. moved_node π (below_name π y.name) r y) nodes x.node x.found);
+        named = ap (below_name π) x.named;
+        serves = record { environment = v.environment; predicate = v.predicate; constraints = v.constraints; hidden = v.hidden; open_goals = λ g i. moved_rests name n _ (v.open_goals g i) };
+        descends = moved_down _ x.node.rank n.rank x.descends;
+      }
+
+  pub moved_good : (name : Name) (n : Node) → Among nodes n → IsGood m mode F (moved_node π name r n)
+  moved_good name n i =
+      let j = ranked.justified n i in (
+        record { terms = j.terms; rule = rule_more (moved_rests name n) _ _ j.rule },
+        λ s k. (let z = among_images (moved_step π) n.steps s k in subst (IsSoundStep m F (moved_node π name r n)) (sym z.2) (moved_sound name n z.0 (ranked.steps n z.0 i z.1))),
+      )
+
 module _ {m : Meaning} {mode : Mode} where
   pub steps_sound : {A : List Assumed} {s : Sequent} {all ps : List Premise} (rest : DerivesAll m mode A s all ps) (i : ℕ) (π : Name) (M : List Name) (c B : ℕ) (F : List Node)
       (name : Name) (r : ℕ) (ss : List Step)
@@ -245,6 +300,12 @@ module _ {m : Meaning} {mode : Mode} where
         sound d π (π ∷ M) c B F low
         (stand_head A s M c B F π x (within x found) named sequent (subst (λ y. y < suc c * B) (sym rank) (rank_in_level c B (height d) low)) stand)
         within n h
+
+    sound (by_ranked nodes first ranked i) π M c B F low stand within n (inl e) =
+        subst (IsGood m mode F) (sym e) (moved_good m mode nodes ranked π (c * B) F (λ x j. within x (inr j)) π first i)
+    sound (by_ranked nodes first ranked i) π M c B F low stand within n (inr h) =
+        let z = among_images (λ y. moved_node π (below_name π y.name) (c * B) y) nodes n h in
+        subst (IsGood m mode F) (sym z.2) (moved_good m mode nodes ranked π (c * B) F (λ x j. within x (inr j)) (below_name π z.0.name) z.0 z.1)
 
     pub sound_all : {A : List Assumed} {s : Sequent} {all ps : List Premise} (rest : DerivesAll m mode A s all ps) (i : ℕ) (π : Name) (M : List Name) (c B : ℕ) (F : List Node)
         → heights rest < B → Stand A M c B F → ((n : Node) → Among (nodes_of_all rest i π M c B) n → Among F n)
