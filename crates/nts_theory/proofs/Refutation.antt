@@ -16,6 +16,8 @@ pub mod Offering
 pub mod Opening
 pub mod Readying
 pub mod Outliving
+pub mod Saying
+pub mod OpenedTerms
 pub mod Recording
 pub mod Affirming
 pub mod ReachedGoals

@@ -16,7 +16,7 @@ use Rattle.nts_model.specs.Tables.Holding.{Continues}
 use Rattle.nts_model.specs.Terms.Substitutions.{leaf_tree, instance_of}
 use Rattle.nts_model.specs.Derivations.Related.{pair, unbound, alias}
 use Rattle.nts_model.specs.Derivations.Sequents.{Premise, IsOfTerms, HasClosedStatement, HasClosedStatements}
-use Rattle.nts_model.specs.Derivations.Rules.{Meaning, Mode, opened, AreFresh, bound, IsBuiltIn, allowed, dyn_compatible, constant_evaluated, value_evaluated, error_evaluated, alias_evaluated}
+use Rattle.nts_model.specs.Derivations.Rules.{Meaning, Mode, opened, AreFresh, bound, IsBuiltIn, allowed, dyn_compatible, constant_evaluated, value_evaluated, error_evaluated, alias_evaluated, error_typed}
 use Rattle.nts_model.specs.Derivations.Handlers.{Handler, meaning, IsEvaluated, JudgementsAreKept}
 use Rattle.nts_model.specs.Derivations.Proofs.{Assumed}
 use Rattle.nts_model.specs.Derivations.Proving.{HoldsTerms, AreConstraintsOf, IsTermOf, sequent_at}
@@ -28,7 +28,7 @@ use Rattle.nts_model.proofs.Tables.Open.{Knows-deeply_resolved}
 use Rattle.nts_model.proofs.Terms.Unpositioned.{known_no_positions, known_well_bound, pair_no_positions}
 use Rattle.nts_model.proofs.Tables.TableInstances.{reading_of, instance_of-reading, reading-leaf}
 use Rattle.nts_model.proofs.Terms.Composing.{IsClosed-instance}
-use Rattle.nts_theory.specs.Affirming.{evaluatable, IsAffirmed, feature_allowed, has_objects, named_const, value_const, error_const, evaluated_const, SaysAffirmed}
+use Rattle.nts_theory.specs.Affirming.{evaluatable, IsAffirmed, feature_allowed, has_objects, named_const, value_const, error_const, error_type, evaluated_const, SaysAffirmed}
 use Rattle.nts_theory.proofs.Derivations.ByCandidate.{IsGranted}
 use Rattle.nts_theory.proofs.Derivations.Served.{IsClosedEnvironment}
 use Rattle.nts_theory.proofs.Derivations.ClosedStatements.{closed_unbound, closed_statements_instance, one_statement}
@@ -122,6 +122,7 @@ module _ (h : Handler) (V : ℕ → List Variance) (law : JudgementsAreKept h) (
   affirmed_given u n f (named_const {c = a}) P = subst (λ z. IsBuiltIn m (λ y. Unit {0}) (IsGranted c) P there (evaluatable z)) (sym (constant_read a)) constant_evaluated
   affirmed_given u n f value_const P = value_evaluated
   affirmed_given u n f error_const P = error_evaluated
+  affirmed_given u n f error_type P = error_typed (inl (refl, λ i. tt))
   affirmed_given u n f (evaluated_const {i = i} {ts = ts} {v = v} q) P = alias_evaluated (subst (λ z. IsEvaluated h.judges z (instance_of (reading_of c s t) (alias (alias_of.Const i) ts))) is_there (instance_of (reading_of c s t) v, law.evaluates e (alias (alias_of.Const i) ts) v (reading_of c s t) (ke.formed, (f.1.0, tt)) q))
 
 -- so the goal is proved

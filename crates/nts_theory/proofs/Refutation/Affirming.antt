@@ -18,7 +18,7 @@ use Rattle.nts_model.specs.Derivations.Rules.{Mode, Meaning, goal_kind, Stands, 
 use Rattle.nts_model.specs.Derivations.Rules.{region_lives, type_lives, subtyped, coerced, const_typed, error_typed, allowed, dyn_compatible, formed, constant_evaluated, value_evaluated, error_evaluated, alias_evaluated, aliases_relate}
 use Rattle.nts_model.specs.Derivations.Handlers.{Judgements}
 use Rattle.nts_model.specs.Refutation.Opening.{binds, placeholder_in, opened_in}
-use Rattle.nts_theory.specs.Affirming.{IsAffirmed, feature_allowed, has_objects, named_const, value_const, error_const, evaluated_const, IsDenied}
+use Rattle.nts_theory.specs.Affirming.{IsAffirmed, feature_allowed, has_objects, named_const, value_const, error_const, error_type, evaluated_const, IsDenied}
 
 -- no rule of a handler is about such statements
 pub affirmed_no_handlers : (j : Judgements) (e s : Tree) → IsAffirmed j e s → IsHandlers s → ⊥
@@ -27,6 +27,7 @@ affirmed_no_handlers j e s (has_objects x) h = h
 affirmed_no_handlers j e s named_const h = h
 affirmed_no_handlers j e s value_const h = h
 affirmed_no_handlers j e s error_const h = h
+affirmed_no_handlers j e s error_type h = h
 affirmed_no_handlers j e s (evaluated_const x) h = h
 
 pub denied_no_handlers : (j : Judgements) (s : Tree) → IsDenied j s → IsHandlers s → ⊥

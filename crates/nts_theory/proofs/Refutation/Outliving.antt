@@ -17,47 +17,17 @@ use Rattle.nts_model.specs.Derivations.Rules.{Mode, Meaning, goal_kind, Stands, 
 use Rattle.nts_model.specs.Derivations.Handlers.{constraint_by}
 use Rattle.nts_model.specs.Refutation.Containing.{Truth, IsTrueBy}
 use Rattle.nts_theory.specs.Outliving.{SaysOutlives, region_outlives, type_outlives}
-use Rattle.nts_theory.specs.Refutation.Refutation.{IsCarrying, IsFair, OutlivesOpened, binding}
-use Rattle.nts_theory.proofs.Derivations.ClosedStatements.{opened_closed, one_statement as unbound_statement}
+use Rattle.nts_theory.specs.Refutation.Refutation.{IsCarrying, IsFair}
 use Rattle.nts_theory.proofs.Refutation.Carriers.{back_to, back_carrying}
 
 -- no rule of a handler says so, and that of the engine has the constraint
-no_handlers : (x : Constraint) (s : Tree) → SaysOutlives x s → IsHandlers s → ⊥
+pub no_handlers : (x : Constraint) (s : Tree) → SaysOutlives x s → IsHandlers s → ⊥
 no_handlers x s region_outlives h = h
 no_handlers x s type_outlives h = h
 
-built_in_holds : (m : Meaning) (G : Tree → Type 0) (H : Constraint → Type 0) (P : Premise → Type 0) (e s : Tree) (x : Constraint) → SaysOutlives x s → IsBuiltIn m G H P e s → H x
+pub built_in_holds : (m : Meaning) (G : Tree → Type 0) (H : Constraint → Type 0) (P : Premise → Type 0) (e s : Tree) (x : Constraint) → SaysOutlives x s → IsBuiltIn m G H P e s → H x
 built_in_holds m G H P e s x region_outlives (region_lives i j k) = k
 built_in_holds m G H P e s x type_outlives (type_lives i k) = k
-
-bound_statement : (sorts s t : Tree) → unbound s ≡ bound sorts t → s ≡ t
-bound_statement sorts s t e = cc e
-
-plain_holds : (m : Meaning) (mode : Mode) (G : Tree → Type 0) (H : Constraint → Type 0) (D : Hidden → Type 0) (P : Premise → Type 0) (e s : Tree) (x : Constraint) → SaysOutlives x s → IsPlainRule m mode G H D P e s → H x
-plain_holds m mode G H D P e s x says (inl (h, a)) = absurd (no_handlers x s says h)
-plain_holds m mode G H D P e s x says (inr b) = built_in_holds m G H (Stands G P (goal_kind m (unbound s))) e s x says b
-
-pub rule_holds : (m : Meaning) (mode : Mode) (G : Tree → Type 0) (H : Constraint → Type 0) (D : Hidden → Type 0) (P : Premise → Type 0) (e s : Tree) (x : Constraint) → SaysOutlives x s → IsClosed s → IsRule m mode G H D P e (unbound s) → H x
-rule_holds m mode G H D P e s x says c (inl (t, is, plain)) = plain_holds m mode G H D P e s x says (subst (IsPlainRule m mode G H D P e) (sym (unbound_statement s t is)) plain)
-rule_holds m mode G H D P e s x says c (inr (sorts, t, f, is, fresh, plain)) =
-    plain_holds m mode G H D P e s x says (subst (IsPlainRule m mode G H D P e) (ap (opened f 0) (sym (bound_statement sorts s t is)) ∙ opened_closed f 0 s c) plain)
-
--- .. of one that binds variables, with the fresh placeholders of the rule
-not_unbound : (x xs s t : Tree) → binding x xs s ≡ unbound t → ⊥
-not_unbound x xs s t e = let z : more x xs ≡ empty = cc e in cc z
-
-binding_statement : (x xs s y t : Tree) → binding x xs s ≡ bound y t → s ≡ t
-binding_statement x xs s y t e = cc e
-
-pub rule_holds_opened : (m : Meaning) (mode : Mode) (G : Tree → Type 0) (H : Constraint → Type 0) (D : Hidden → Type 0) (P : Premise → Type 0) (truth : Truth) (granted : (x : Constraint) → H x → IsTrueBy truth x.relation x.left x.right) (e x xs s : Tree)
-    → IsRule m mode G H D P e (binding x xs s) → OutlivesOpened truth e (binding x xs s) s
-rule_holds_opened m mode G H D P truth granted e x xs s (inl (t, is, plain)) = absurd (not_unbound x xs s t is)
-rule_holds_opened m mode G H D P truth granted e x xs s (inr (sorts, t, f, is, fresh, plain)) =
-    record {
-      fresh = f;
-      are_fresh = fresh;
-      holds = λ y says. granted y (plain_holds m mode G H D P e (opened f 0 s) y says (subst (λ z. IsPlainRule m mode G H D P e (opened f 0 z)) (sym (binding_statement x xs s sorts t is)) plain));
-    }
 
 -- what a statement says once it is opened, it says of bound variables before
 pub record OpenedSays (f : Sort → ℕ → Leaf) (s : Tree) (y : Constraint) : Type 0 where

@@ -1,5 +1,5 @@
 -- The goals that a settled proof reaches follow by uses of clauses, where no rule of the handler normalizes an alias.
-use Rattle.std.proofs.Common.{◌≡◌, inl, inr, ℕ, Bool, List, [], refl, sym, ap, subst, ◌∙◌}
+use Rattle.std.proofs.Common.{◌≡◌, inl, inr, ℕ, Bool, List, [], ◌∷◌, refl, sym, ap, subst, ◌∙◌}
 use Rattle.std.specs.Prelude.{◌⊎◌}
 use Rattle.nts_model.specs.declared.labels.Sort.{Sort}
 use Rattle.nts_model.specs.declared.labels.Variance.{Variance}
@@ -13,17 +13,18 @@ use Rattle.nts_model.specs.declared.labels.ClauseHead.TheVariants as clause
 use Rattle.nts_model.specs.declared.labels.PredicateHead.TheVariants as predicate
 use Rattle.nts_model.specs.declared.labels.Label.{Label}
 use Rattle.nts_model.specs.declared.labels.Label.TheVariants as label
-use Rattle.nts_model.specs.Terms.Trees.{Tree, empty, more, node, IsFormed}
+use Rattle.nts_model.specs.Terms.Trees.{Tree, empty, more, node, IsClosed, IsFormed}
 use Rattle.nts_model.specs.Tables.Passing.{AllLabels}
 use Rattle.nts_model.specs.Terms.Substitutions.{put, replace, Instance, instance_of}
 use Rattle.nts_model.specs.Derivations.Related.{Constraint, pair, unbound, alias_goal, alias, IsAlias}
 use Rattle.nts_model.specs.Lists.{Among}
-use Rattle.nts_model.specs.Derivations.Sequents.{Premise, Hidden, HasOneSide, constraint_under}
+use Rattle.nts_model.specs.Derivations.Sequents.{misc, Premise, Hidden, HasOneSide, constraint_under}
 use Rattle.nts_model.specs.Derivations.Rules.{coherence, Application, Meaning, GoalKind, normalization, strictly, statement_kind, goal_kind, Stands, relating, opened, IsHandlers, normalization_goal, IsResult, IsBuiltIn, IsPlainRule, bound, IsRule}
 use Rattle.nts_model.specs.Derivations.Rules.{region_lives, type_lives, subtyped, coerced, const_typed, error_typed, allowed, dyn_compatible, formed, constant_evaluated, value_evaluated, error_evaluated, alias_evaluated, aliases_relate}
 use Rattle.nts_model.specs.Derivations.Proofs.{Node}
 use Rattle.nts_variance_model.specs.Variances.SettledProofs.{StandsForItself, IsSettledIn, IsReached, start, onward, GrantsAt, HidesAt, RestsOnAt, SettledNode}
-use Rattle.nts_model.specs.Derivations.Handlers.{Handler, meaning}
+use Rattle.nts_theory.specs.Affirming.{goals_there}
+use Rattle.nts_model.specs.Derivations.Handlers.{Handler, meaning, goals_in}
 use Rattle.nts_model.specs.Refutation.Containing.{Truth, IsTrueBy, IsGroundLabel}
 use Rattle.nts_theory.specs.Refutation.Refutation.{AreUsed, binding, IsGroundInstance}
 use Rattle.nts_model.proofs.Terms.Composing.{after, instance_of-after, IsFormed-instance}
@@ -31,10 +32,10 @@ use Rattle.nts_model.proofs.Terms.Identified.{one_at}
 use Rattle.nts_theory.proofs.Derivations.ClosedStatements.{opened_closed}
 use Rattle.nts_theory.proofs.Refutation.Covering.{not_built_in}
 use Rattle.nts_variance_model.specs.Variances.Judging.{AllStand}
-use Rattle.nts_theory.proofs.Refutation.UsedRules.{uses_unbound, uses_binding}
+use Rattle.nts_theory.proofs.Refutation.UsedRules.{uses_unbound, uses_binding, EngineOpened, engine_unbound, engine_binding, formed_proved, said_true}
 use Rattle.nts_theory.proofs.Derivations.ProofInstances.{HasOneSide-under as one_side_under}
 use Rattle.nts_theory.specs.Refutation.Refutation.{HasNoAliases}
-use Rattle.nts_theory.proofs.Refutation.Outliving.{rule_holds, rule_holds_opened}
+use Rattle.nts_theory.proofs.Refutation.Saying.{said_no_handlers}
 use Rattle.nts_theory.proofs.Refutation.Affirming.{rule_denied}
 
 normal_handlers : (f : ℕ → Bool) (s : Tree) → statement_kind f s ≡ normalization → IsHandlers s
@@ -248,6 +249,29 @@ module _ (h : Handler) (V : ℕ → List Variance) (truth : Truth) (none : HasNo
       subst (λ z. IsRule (strictly m) coherence (Settled z) (GrantsAt r.node r.at) (HidesAt r.node r.at) (RestsOnAt m r.node r.at) z g) r.environment
       (subst (IsRule (strictly m) coherence (Settled (instance_of r.at r.node.sequent.environment)) (GrantsAt r.node r.at) (HidesAt r.node r.at) (RestsOnAt m r.node r.at) (instance_of r.at r.node.sequent.environment)) r.predicate (w.settled r.node r.at r.reached))
 
+  -- the rule of the engine by which one follows that is not the handler's
+  by_engine : (e s : Tree) (p : Proves e (unbound s)) → (IsHandlers s → ⊥) → IsClosed s
+      → (let r = p.reached in IsBuiltIn (strictly m) (Settled e) (GrantsAt r.node r.at) (Stands (Settled e) (RestsOnAt m r.node r.at) (goal_kind (strictly m) (unbound s))) e s)
+  by_engine e s p n closed =
+      (let r = p.reached in
+      engine_unbound h (strictly m) truth Proves (λ a y. y) no_alias_goal (Settled e) (GrantsAt r.node r.at) (HidesAt r.node r.at) (RestsOnAt m r.node r.at) (granted_true p.of_proof r.node r.at r.reached) (rests_proved p.of_proof r.node r.at r.reached) e s n closed
+      (goal_rule e (unbound s) p))
+
+  opened_engine : (e x xs s : Tree) (p : Proves e (binding x xs s))
+      → (let r = p.reached in EngineOpened h (strictly m) truth Proves (λ a y. y) no_alias_goal (Settled e) (GrantsAt r.node r.at) (HidesAt r.node r.at) (RestsOnAt m r.node r.at) (granted_true p.of_proof r.node r.at r.reached) (rests_proved p.of_proof r.node r.at r.reached) e x xs s)
+  opened_engine e x xs s p =
+      (let r = p.reached in
+      engine_binding h (strictly m) truth Proves (λ a y. y) no_alias_goal (Settled e) (GrantsAt r.node r.at) (HidesAt r.node r.at) (RestsOnAt m r.node r.at) (granted_true p.of_proof r.node r.at r.reached) (rests_proved p.of_proof r.node r.at r.reached) e x xs s
+      (goal_rule e (binding x xs s) p))
+
+  abbrev asked_there : Tree → Tree → Premise
+  asked_there e q = record { source = misc; environment = e; predicate = q }
+
+  asked_among : (e : Tree) (ps : List Tree) (q : Tree) → Among ps q → Among (goals_there e ps) (asked_there e q)
+  asked_among e [] q i = absurd i
+  asked_among e (p ∷ ps) q (inl same) = inl (ap (asked_there e) same)
+  asked_among e (p ∷ ps) q (inr i) = inr (asked_among e ps q i)
+
   pub settled_used : AreUsed h truth Proves
   settled_used =
       record {
@@ -256,12 +280,33 @@ module _ (h : Handler) (V : ℕ → List Variance) (truth : Truth) (none : HasNo
             uses_unbound h (strictly m) truth Proves (λ a x. x) no_alias_goal (Settled e) (GrantsAt r.node r.at) (HidesAt r.node r.at) (RestsOnAt m r.node r.at) (granted_true p.of_proof r.node r.at r.reached) (rests_proved p.of_proof r.node r.at r.reached) e s i c (goal_rule e (unbound s) p));
         opened = λ e x xs s p i. (let r = p.reached in
             uses_binding h (strictly m) truth Proves (λ a y. y) no_alias_goal (Settled e) (GrantsAt r.node r.at) (HidesAt r.node r.at) (RestsOnAt m r.node r.at) (granted_true p.of_proof r.node r.at r.reached) (rests_proved p.of_proof r.node r.at r.reached) e x xs s i (goal_rule e (binding x xs s) p));
-        outlives = λ e s x p says closed. (let r = p.reached in
-            granted_true p.of_proof r.node r.at r.reached x (rule_holds (strictly m) coherence (Settled e) (GrantsAt r.node r.at) (HidesAt r.node r.at) (RestsOnAt m r.node r.at) e s x says closed (goal_rule e (unbound s) p)));
+        says = λ e s x p says closed. (let r = p.reached in
+            let b = by_engine e s p (said_no_handlers x s says) closed in
+            said_true h (strictly m) truth Proves (λ a y. y) no_alias_goal (Settled e) (GrantsAt r.node r.at) (HidesAt r.node r.at) (RestsOnAt m r.node r.at) (granted_true p.of_proof r.node r.at r.reached) (rests_proved p.of_proof r.node r.at r.reached) e s x b says);
+        formed = λ e s p closed t ps is given q i. (let r = p.reached in
+            let b = by_engine e s p (λ z. subst IsHandlers is z) closed in
+            formed_proved h (strictly m) truth Proves (λ a y. y) no_alias_goal (Settled e) (GrantsAt r.node r.at) (HidesAt r.node r.at) (RestsOnAt m r.node r.at) (granted_true p.of_proof r.node r.at r.reached) (rests_proved p.of_proof r.node r.at r.reached)
+            e s t (goals_there e ps) b is (ap (goals_in e) given) (asked_there e q) (asked_among e ps q i));
+        formed_opened = λ e x xs s p. (let r = p.reached in
+            let o = opened_engine e x xs s p in
+            record {
+              fresh = o.fresh;
+              are_fresh = o.are_fresh;
+              goals = λ t ps is given q i.
+                  formed_proved h (strictly m) truth Proves (λ a y. y) no_alias_goal (Settled e) (GrantsAt r.node r.at) (HidesAt r.node r.at) (RestsOnAt m r.node r.at) (granted_true p.of_proof r.node r.at r.reached) (rests_proved p.of_proof r.node r.at r.reached)
+                  e (opened o.fresh 0 s) t (goals_there e ps) (o.follows (λ z. subst IsHandlers is z)) is (ap (goals_in e) given) (asked_there e q) (asked_among e ps q i);
+            });
         denies = λ e g p d. (let r = p.reached in
             rule_denied (strictly m) h.judges (λ i. refl) coherence (Settled e) (GrantsAt r.node r.at) (HidesAt r.node r.at) (RestsOnAt m r.node r.at) e g d (goal_rule e g p));
-        outlives_opened = λ e x xs s p. (let r = p.reached in
-            rule_holds_opened (strictly m) coherence (Settled e) (GrantsAt r.node r.at) (HidesAt r.node r.at) (RestsOnAt m r.node r.at) truth (granted_true p.of_proof r.node r.at r.reached) e x xs s (goal_rule e (binding x xs s) p));
+        says_opened = λ e x xs s p. (let r = p.reached in
+            let o = opened_engine e x xs s p in
+            record {
+              fresh = o.fresh;
+              are_fresh = o.are_fresh;
+              holds = λ y says.
+                  said_true h (strictly m) truth Proves (λ a z. z) no_alias_goal (Settled e) (GrantsAt r.node r.at) (HidesAt r.node r.at) (RestsOnAt m r.node r.at) (granted_true p.of_proof r.node r.at r.reached) (rests_proved p.of_proof r.node r.at r.reached)
+                  e (opened o.fresh 0 s) y (o.follows (said_no_handlers y (opened o.fresh 0 s) says)) says;
+            });
       }
 
   -- a goal that has such a proof is reached

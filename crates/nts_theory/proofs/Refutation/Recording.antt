@@ -12,11 +12,12 @@ use Rattle.nts_model.specs.Refutation.Opening.{binds, placeholder_in, entered_ta
 use Rattle.nts_model.specs.Refutation.Containing.{Truth, IsSolution, IsTrueBy}
 use Rattle.nts_model.specs.Refutation.Coherence.{RulesAreOffered}
 use Rattle.nts_model.proofs.Tables.Fitting.{IsClosed-inst}
-use Rattle.nts_theory.specs.Outliving.{SaysOutlives, IsOutlives}
+use Rattle.nts_theory.specs.Outliving.{IsOutlives}
+use Rattle.nts_theory.specs.Affirming.{SaysOfTwo, outlives_it}
 use Rattle.nts_theory.specs.Refutation.Refutation.{binding, IsTheory}
 use Rattle.nts_theory.proofs.Derivations.ClosedStatements.{one_statement as same_statement}
 use Rattle.nts_theory.proofs.Refutation.OpenedGoals.{inst_opened}
-use Rattle.nts_theory.proofs.Refutation.Outliving.{outlives_inst}
+use Rattle.nts_theory.proofs.Refutation.Saying.{said_inst}
 use Rattle.nts_theory.proofs.Refutation.Readying.{IsBinding, binding_shape, names_image, themselves}
 
 module _ (h : Handler) (truth : Truth) (Proves : Tree → Tree → Type 0) (theory : IsTheory h truth Proves) (lawful : IsLawfulHandler h) (law : RulesAreOffered h) (c : Content) (e g : Tree) (w : World) (s : IsSolution truth 0 c w) (current : AreCurrent c) (known : Knows c (pair e g))
@@ -30,7 +31,7 @@ module _ (h : Handler) (truth : Truth) (Proves : Tree → Tree → Type 0) (theo
       let fitting = (let z = s.solves in z.fitting) in
       let there : Knows c (unbound is.statement) = subst (Knows c) is.binds_nothing known.1.0 in
       let p : Proves (inst w e) (inst w (unbound is.statement)) = subst (λ z. Proves (inst w e) (inst w z)) is.binds_nothing proved in
-      theory.outlives (inst w e) (inst w is.statement) (constraint_by (inst w) x) p (outlives_inst w x is.statement is.says) (IsClosed-inst c w 0 is.statement fitting there.1.1.0 is.closed)
+      theory.says (inst w e) (inst w is.statement) (constraint_by (inst w) x) p (said_inst w x is.statement (outlives_it is.says)) (IsClosed-inst c w 0 is.statement fitting there.1.1.0 is.closed)
 
   -- .. and one that binds variables
   true_binding : IsBinding g → IsOutlives (unbound (opened (placeholder_in (c.universe + 1)) 0 (statement_of g))) x → IsTrueThere
@@ -42,8 +43,8 @@ module _ (h : Handler) (truth : Truth) (Proves : Tree → Tree → Type 0) (theo
       let fitting = (let z = s.solves in z.fitting) in
       let says : is.statement ≡ opened p 0 t = sym (same_statement (opened p 0 (statement_of g)) is.statement is.binds_nothing) ∙ ap (λ z. opened p 0 (statement_of z)) b.is in
       let image : inst w is.statement ≡ opened p 0 (inst w t) = ap (inst w) says ∙ inst_opened c w fitting p (themselves h truth Proves theory lawful law c w s) 0 t kt in
-      theory.outlives_opened c.universe (inst w e) (inst w b.first) (inst w b.rest) (inst w t) (constraint_by (inst w) x) (subst (Proves (inst w e)) (ap (inst w) b.is) proved)
-      (subst (SaysOutlives (constraint_by (inst w) x)) image (outlives_inst w x is.statement is.says)) (names_image truth 0 c w s current e known.0, (names_image truth 0 c w s current t kt, tt))
+      theory.says_opened c.universe (inst w e) (inst w b.first) (inst w b.rest) (inst w t) (constraint_by (inst w) x) (subst (Proves (inst w e)) (ap (inst w) b.is) proved)
+      (subst (SaysOfTwo (constraint_by (inst w) x)) image (said_inst w x is.statement (outlives_it is.says))) (names_image truth 0 c w s current e known.0, (names_image truth 0 c w s current t kt, tt))
 
   -- what is recorded is true in each world in which the goal is proved
   pub recorded_true : IsOutlives (opened_in c g) x → IsTrueThere

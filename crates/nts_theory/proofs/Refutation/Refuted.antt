@@ -30,13 +30,13 @@ module _ (Q : Queries) (begins : BeginsEach Q) (h : Handler) (V : ℕ → List V
   Proves = Carried (InSettledProof (meaning h V) Holds)
 
   pub theory : IsTheory h truth Proves
-  theory = carried_theory h truth (InSettledProof (meaning h V) Holds) lawful.rules fair (settled_used h V truth none)
+  theory = carried_theory h truth (InSettledProof (meaning h V) Holds) lawful.rules lawful.judges fair (settled_used h V truth none)
 
   proved : (e g : Tree) → HasMetProof (meaning h V) truth e g → Proves e g
   proved e g x =
       let p = x.proof.proves in
       let w = ground_proof (meaning h V) Holds p.proof x.ground in
-      let q = carried_itself h truth (InSettledProof (meaning h V) Holds) lawful.rules fair (settled_used h V truth none) _ _ (root_reached h V truth none w) in
+      let q = carried_itself h truth (InSettledProof (meaning h V) Holds) lawful.rules lawful.judges fair (settled_used h V truth none) _ _ (root_reached h V truth none w) in
       subst (λ z. Proves z g) p.environment (subst (Proves _) p.predicate q)
 
   -- the root: no solution of the caller's table gives the goal a settled proof

@@ -25,13 +25,14 @@ use Rattle.nts_model.specs.Derivations.Rules.{coherence, statement_of, Equation,
 use Rattle.nts_model.specs.Canonical.Numbered.{seen, AreDistinct}
 use Rattle.nts_model.specs.Refutation.Opening.{placeholder_in}
 use Rattle.nts_model.specs.Refutation.Choosing.{left_of, right_of}
-use Rattle.nts_model.specs.Derivations.Handlers.{Handler, equation_by, constraint_by, premise_by, application_under, InstancesAreRules}
+use Rattle.nts_model.specs.Derivations.Handlers.{Handler, equation_by, constraint_by, premise_by, application_under, InstancesAreRules, JudgementsAreKept}
 use Rattle.nts_model.specs.Refutation.Containing.{Truth, IsTrueBy, IsGroundLabel}
-use Rattle.nts_theory.specs.Affirming.{IsDenied}
-use Rattle.nts_theory.specs.Outliving.{SaysOutlives}
+use Rattle.nts_theory.specs.Affirming.{IsDenied, SaysOfTwo, is_well_formed}
+use Rattle.nts_theory.proofs.Refutation.OpenedTerms.{opened_formed}
 use Rattle.nts_theory.proofs.Refutation.Affirming.{denied_replaced}
-use Rattle.nts_theory.proofs.Refutation.Outliving.{outlives_renamed, sides_formed, true_again, opened_says, says_opened, sides_moved}
-use Rattle.nts_theory.specs.Refutation.Refutation.{IsCarrying, IsFair, UsesClause, UsesNamed, binding, AreUsed, IsTheory}
+use Rattle.nts_theory.proofs.Refutation.Outliving.{true_again}
+use Rattle.nts_theory.proofs.Refutation.Saying.{was_formed, said_renamed, both_formed, said_before, said_opened, both_moved}
+use Rattle.nts_theory.specs.Refutation.Refutation.{IsCarrying, IsFair, UsesClause, UsesNamed, binding, ProvesFormed, AreUsed, IsTheory}
 use Rattle.nts_model.proofs.Terms.Substituting.{replace-equal, replace-leaf}
 use Rattle.nts_model.proofs.Terms.Composing.{IsFormed-instance, IsClosed-instance}
 use Rattle.nts_model.proofs.Tables.Solving.{NamesAll-more}
@@ -492,6 +493,12 @@ module _ (e s : Tree) (formed : IsFormed (pair e s)) (f p : Sort → ℕ → Lea
       kept_tree (λ l. leaf_tree (swap.to l)) (pair e s) formed
       (λ l i. ap leaf_tree (forward_others (below f count) (below p count) l (below_absent (pair e s) f a count l i) (below_absent (pair e s) p b count l i)))
 
+  swap_environment : rename swap e ≡ e
+  swap_environment = first_of_pair _ _ _ _ swap_keeps
+    where
+      first_of_pair : (x y z w : Tree) → pair x y ≡ pair z w → x ≡ z
+      first_of_pair x y z w q = cc q
+
   swap_brings : (o : Sort) (n : ℕ) → n < count → swap.to (f o n) ≡ p o n
   swap_brings = picked swap.to f p count (map-forward (below f count) (below p count) (below_distinct (pair e s) f a count) (below_distinct (pair e s) p b count) all_sorts)
 
@@ -605,7 +612,7 @@ fewer e x xs s f a = record {
 binding_same : (x xs s y ys t : Tree) → binding x xs s ≡ binding y ys t → s ≡ t
 binding_same x xs s y ys t e = cc e
 
-module _ (h : Handler) (truth : Truth) (Proves : Tree → Tree → Type 0) (rules : InstancesAreRules h) (fair : IsFair truth) (used : AreUsed h truth Proves) where
+module _ (h : Handler) (truth : Truth) (Proves : Tree → Tree → Type 0) (rules : InstancesAreRules h) (judged : JudgementsAreKept h) (fair : IsFair truth) (used : AreUsed h truth Proves) where
   abbrev Later : Tree → Tree → Type 0
   Later = Carried Proves
 
@@ -699,45 +706,61 @@ module _ (h : Handler) (truth : Truth) (Proves : Tree → Tree → Type 0) (rule
       uses_named h truth Later rules fair carried_kept (u + 1) e (opened (placeholder_in (u + 1)) 0 s) (f.0, (fo, tt)) (up.0, (named_opened (u + 1) 0 s up.1.0, tt))
       (opened_before e x xs s (placeholder_in (u + 1)) c i fresh)
 
-  -- what outlives a region before does so later
-  outlives_later : (e s : Tree) (x : Constraint) → Later e (unbound s) → SaysOutlives x s → IsClosed s → IsTrueBy truth x.relation x.left x.right
-  outlives_later e s x c says z =
+  -- what is said of two terms before is so later
+  says_later : (e s : Tree) (x : Constraint) → Later e (unbound s) → SaysOfTwo x s → IsClosed s → IsTrueBy truth x.relation x.left x.right
+  says_later e s x c says z =
       let b = back_to c.by in
       let k = back_carrying c.by c.carrying in
       let is : c.predicate ≡ unbound (rename b s) = before e (unbound s) c in
       let f = formed_later e (unbound s) c in
-      let sides = sides_formed x s says (let y = f.1.0 in y.1.1.0) in
+      let sides = both_formed x s says (let y = f.1.0 in y.1.1.0) in
       true_again truth fair c.by c.carrying (forth_again c.by) x.relation x.left x.right sides.0 sides.1
-      (used.outlives c.environment (rename b s) (constraint_by (rename b) x) (subst (Proves c.environment) is c.proved) (outlives_renamed b x s says) (IsClosed-instance (instance_by b k) s z))
+      (used.says c.environment (rename b s) (constraint_by (rename b) x) (subst (Proves c.environment) is c.proved) (said_renamed b x s says) (IsClosed-instance (instance_by b k) s z))
 
-  -- .. and with placeholders of the next universe
-  outlives_opened_later : (u : ℕ) (e x xs s : Tree) (y : Constraint) → Later e (binding x xs s) → SaysOutlives y (opened (placeholder_in (u + 1)) 0 s) → NamesAll leaf_level u (pair e s) → IsTrueBy truth y.relation y.left y.right
-  outlives_opened_later u e x xs s y c says n =
+  -- what a goal says with the fresh placeholders of its rule, moved to those of the next universe
+  record Moves (u : ℕ) (e x xs s : Tree) (c : Later e (binding x xs s)) (f : Sort → ℕ → Leaf) : Type 0 where
+    pub by : Renaming
+    pub carries : IsCarrying by
+    pub environment : rename by c.environment ≡ e
+    pub whole : rename by (opened f 0 (rename (back_to c.by) s)) ≡ opened (placeholder_in (u + 1)) 0 s
+
+  moves_to : (u : ℕ) (e x xs s : Tree) (c : Later e (binding x xs s)) (f : Sort → ℕ → Leaf) → (let b = back_to c.by in AreFresh (pair c.environment (binding (rename b x) (rename b xs) (rename b s))) f) → NamesAll leaf_level u (pair e s) → Moves u e x xs s c f
+  moves_to u e x xs s c g are n =
       let p = placeholder_in (u + 1) in
       let a = absent_fresh (pair e s) p (fresh_in u (u + 1) (pair e s) (omega arith) n) in
       let b = back_to c.by in
-      let k = back_carrying c.by c.carrying in
       let t = rename b s in
-      let is : c.predicate ≡ binding (rename b x) (rename b xs) t = before e (binding x xs s) c in
-      let v = used.outlives_opened c.environment (rename b x) (rename b xs) t (subst (Proves c.environment) is c.proved) in
       let f = formed_later e (binding x xs s) c in
       let fs : IsFormed s = (let z = f.1.0 in z.1.1.0) in
-      let fresh : Sort → ℕ → Leaf = λ o i. c.by.to (v.fresh o i) in
+      let fresh : Sort → ℕ → Leaf = λ o i. c.by.to (g o i) in
       let back : rename c.by t ≡ s = forth_again c.by s fs in
-      let q : rename c.by (opened v.fresh 0 t) ≡ opened fresh 0 s = rename_opened c.by v.fresh 0 t ∙ ap (opened fresh 0) back in
-      let old : AreAbsent (pair c.environment t) v.fresh = fewer c.environment (rename b x) (rename b xs) t v.fresh (absent_fresh (pair c.environment (binding (rename b x) (rename b xs) t)) v.fresh v.are_fresh) in
+      let q : rename c.by (opened g 0 t) ≡ opened fresh 0 s = rename_opened c.by g 0 t ∙ ap (opened fresh 0) back in
+      let old : AreAbsent (pair c.environment t) g = fewer c.environment (rename b x) (rename b xs) t g (absent_fresh (pair c.environment (binding (rename b x) (rename b xs) t)) g are) in
       let new : AreAbsent (pair e s) fresh =
-      subst (λ z. AreAbsent (pair z s) fresh) c.is_environment (subst (λ z. AreAbsent (pair (rename c.by c.environment) z) fresh) back (absent_renamed c.by c.carrying (pair c.environment t) v.fresh old)) in
+      subst (λ z. AreAbsent (pair z s) fresh) c.is_environment (subst (λ z. AreAbsent (pair (rename c.by c.environment) z) fresh) back (absent_renamed c.by c.carrying (pair c.environment t) g old)) in
       let w = swap e s (f.0, (fs, tt)) fresh p new a in
-      let σ = then_by c.by w in
-      let kσ = then_carrying c.by w c.carrying (swap_carrying e s (f.0, (fs, tt)) fresh p new a) in
-      let whole : rename σ (opened v.fresh 0 t) ≡ opened p 0 s = sym (rename_then c.by w (opened v.fresh 0 t)) ∙ ap (rename w) q ∙ swap_opened e s (f.0, (fs, tt)) fresh p new a in
-      let o = opened_says p s y fs says in
-      let moved = sides_moved σ b v.fresh p o.before s o.says whole in
-      let there = v.holds _ (says_opened b v.fresh o.before s o.says) in
+      record {
+        by = then_by c.by w;
+        carries = then_carrying c.by w c.carrying (swap_carrying e s (f.0, (fs, tt)) fresh p new a);
+        environment = sym (rename_then c.by w c.environment) ∙ ap (rename w) c.is_environment ∙ swap_environment e s (f.0, (fs, tt)) fresh p new a;
+        whole = sym (rename_then c.by w (opened g 0 t)) ∙ ap (rename w) q ∙ swap_opened e s (f.0, (fs, tt)) fresh p new a;
+      }
+
+  -- .. and with placeholders of the next universe
+  says_opened_later : (u : ℕ) (e x xs s : Tree) (y : Constraint) → Later e (binding x xs s) → SaysOfTwo y (opened (placeholder_in (u + 1)) 0 s) → NamesAll leaf_level u (pair e s) → IsTrueBy truth y.relation y.left y.right
+  says_opened_later u e x xs s y c says n =
+      let p = placeholder_in (u + 1) in
+      let b = back_to c.by in
+      let is : c.predicate ≡ binding (rename b x) (rename b xs) (rename b s) = before e (binding x xs s) c in
+      let v = used.says_opened c.environment (rename b x) (rename b xs) (rename b s) (subst (Proves c.environment) is c.proved) in
+      let f = formed_later e (binding x xs s) c in
+      let m = moves_to u e x xs s c v.fresh v.are_fresh n in
+      let o = said_before p s y (let z = f.1.0 in z.1.1.0) says in
+      let moved = both_moved m.by b v.fresh p o.before s o.says m.whole in
+      let there = v.holds _ (said_opened b v.fresh o.before s o.says) in
       let r = o.before.relation in
-      let known : IsTrueBy truth r (rename σ (opened v.fresh 0 (rename b o.before.left))) (rename σ (opened v.fresh 0 (rename b o.before.right))) = true_renamed truth fair σ kσ r _ _ there in
-      subst (λ z. IsTrueBy truth z.relation z.left z.right) (sym o.same) (subst (λ z. IsTrueBy truth r (opened p 0 o.before.left) z) moved.1 (subst (λ z. IsTrueBy truth r z (rename σ (opened v.fresh 0 (rename b o.before.right)))) moved.0 known))
+      let known : IsTrueBy truth r (rename m.by (opened v.fresh 0 (rename b o.before.left))) (rename m.by (opened v.fresh 0 (rename b o.before.right))) = true_renamed truth fair m.by m.carries r _ _ there in
+      subst (λ z. IsTrueBy truth z.relation z.left z.right) (sym o.same) (subst (λ z. IsTrueBy truth r (opened p 0 o.before.left) z) moved.1 (subst (λ z. IsTrueBy truth r z (rename m.by (opened v.fresh 0 (rename b o.before.right)))) moved.0 known))
 
   -- nothing is carried that the handler denies
   denies_later : (e g : Tree) → Later e g → IsDenied h.judges (statement_of g) → ⊥
@@ -745,6 +768,60 @@ module _ (h : Handler) (truth : Truth) (Proves : Tree → Tree → Type 0) (rule
       let back = back_to c.by in
       let there = denied_replaced h.judges (λ l. leaf_tree (back.to l)) g d in
       used.denies c.environment c.predicate c.proved (subst (λ z. IsDenied h.judges (statement_of z)) (sym (before e g c)) there)
+
+  -- what is well formed before is so later
+  image_among : (f : Tree → Tree) (ps : List Tree) (p : Tree) → Among ps p → Among (map f ps) (f p)
+  image_among f [] p i = absurd i
+  image_among f (q ∷ ps) p (inl e) = inl (ap f e)
+  image_among f (q ∷ ps) p (inr i) = inr (image_among f ps p i)
+
+  formed_carried : (e s : Tree) → Later e (unbound s) → IsClosed s → ProvesFormed h.judges Later e s
+  formed_carried e s c z t ps is given p i =
+      let b = back_to c.by in
+      let k = back_carrying c.by c.carrying in
+      let same : c.predicate ≡ unbound (rename b s) = before e (unbound s) c in
+      let f = formed_later e (unbound s) c in
+      let ft : IsFormed (is_well_formed t) = subst IsFormed is (let y = f.1.0 in y.1.1.0) in
+      let fe : IsFormed (pair e t) = (f.0, (ft.1.0, tt)) in
+      let there = judged.well_formed e t ps (instance_by b k) fe given in
+      let fb = used.ground.formed c.environment c.predicate c.proved in
+      let env : rename b e ≡ c.environment = ap (rename b) (sym c.is_environment) ∙ back_again c.by c.environment fb.0 in
+      let q = used.formed c.environment (rename b s) (subst (Proves c.environment) same c.proved) (IsClosed-instance (instance_by b k) s z) (rename b t) (map (rename b) ps) (ap (rename b) is)
+      (subst (λ y. (let j = h.judges in j.well_formed y (rename b t) ≡ Some (map (rename b) ps))) env there) (rename b p) (image_among (rename b) ps p i) in
+      let over = (judged.goals e t ps p fe given i).0 in
+      let l = carried_later c.by c.carrying c.environment (rename b p) q in
+      subst (λ y. Later y p) c.is_environment (subst (Later (rename c.by c.environment)) (forth_again c.by p over.formed) l)
+
+  -- .. and with placeholders of the next universe
+  opened_carried : (u : ℕ) (e x xs s : Tree) → Later e (binding x xs s) → NamesAll leaf_level u (pair e s) → ProvesFormed h.judges Later e (opened (placeholder_in (u + 1)) 0 s)
+  opened_carried u e x xs s c n t ps is given p i =
+      let w = was_formed (placeholder_in (u + 1)) s t is in
+      let b = back_to c.by in
+      let same : c.predicate ≡ binding (rename b x) (rename b xs) (rename b s) = before e (binding x xs s) c in
+      let v = used.formed_opened c.environment (rename b x) (rename b xs) (rename b s) (subst (Proves c.environment) same c.proved) in
+      let m = moves_to u e x xs s c v.fresh v.are_fresh n in
+      let β = back_to m.by in
+      let kβ = back_carrying m.by m.carries in
+      let f = formed_later e (binding x xs s) c in
+      let fs : IsFormed (is_well_formed w.term) = subst IsFormed w.is (let y = f.1.0 in y.1.1.0) in
+      let fw : IsFormed w.term = fs.1.0 in
+      let fresh_in_universe = fresh_in u (u + 1) (pair e s) (omega arith) n in
+      let ft : IsFormed t = subst IsFormed w.opens (opened_formed (placeholder_in (u + 1)) fresh_in_universe.sorts 0 w.term fw) in
+      let there : Tree = opened v.fresh 0 (rename b w.term) in
+      let fb : IsFormed (rename b w.term) = IsFormed-instance (instance_by b (back_carrying c.by c.carrying)) w.term fw in
+      let fo : IsFormed there = opened_formed v.fresh (let a = v.are_fresh in a.sorts) 0 (rename b w.term) fb in
+      let says : opened v.fresh 0 (rename b s) ≡ is_well_formed there = ap (λ y. opened v.fresh 0 (rename b y)) w.is in
+      let whole : rename m.by (is_well_formed there) ≡ is_well_formed t = ap (rename m.by) (sym says) ∙ m.whole ∙ is in
+      let moved : rename m.by there ≡ t = cc whole in
+      let back : rename β t ≡ there = ap (rename β) (sym moved) ∙ back_again m.by there fo in
+      let fe : IsFormed (pair e t) = (f.0, (ft, tt)) in
+      let fc = used.ground.formed c.environment c.predicate c.proved in
+      let env : rename β e ≡ c.environment = ap (rename β) (sym m.environment) ∙ back_again m.by c.environment fc.0 in
+      let known = judged.well_formed e t ps (instance_by β kβ) fe given in
+      let q = v.goals there (map (rename β) ps) says (subst (λ y. (let j = h.judges in j.well_formed y there ≡ Some (map (rename β) ps))) env (subst (λ y. (let j = h.judges in j.well_formed (rename β e) y ≡ Some (map (rename β) ps))) back known)) (rename β p) (image_among (rename β) ps p i) in
+      let over = (judged.goals e t ps p fe given i).0 in
+      let l = carried_later m.by m.carries c.environment (rename β p) q in
+      subst (λ y. Later y p) m.environment (subst (Later (rename m.by c.environment)) (forth_again m.by p over.formed) l)
 
   -- what is carried is a theory
   pub carried_theory : IsTheory h truth Later
@@ -754,7 +831,9 @@ module _ (h : Handler) (truth : Truth) (Proves : Tree → Tree → Type 0) (rule
         kept = carried_kept;
         plain = plain_named;
         opened = opened_named;
-        outlives = outlives_later;
+        says = says_later;
         denies = denies_later;
-        outlives_opened = outlives_opened_later;
+        formed = formed_carried;
+        formed_opened = opened_carried;
+        says_opened = says_opened_later;
       }

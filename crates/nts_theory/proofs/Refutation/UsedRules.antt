@@ -1,5 +1,5 @@
 -- What follows by a rule in coherence, where no aliases are, follows by a use of a clause; and so does what is renamed.
-use Rattle.std.proofs.Common.{◌≡◌, inl, inr, ℕ, ◌+◌, Bool, true, false, refl, sym, subst}
+use Rattle.std.proofs.Common.{◌≡◌, inl, inr, ℕ, ◌+◌, Bool, true, false, Some, List, refl, sym, ap, subst, ◌∙◌}
 use Rattle.std.specs.Prelude.{◌⊎◌, ◌==◌, if◌then◌else◌}
 use Rattle.nts_model.specs.declared.labels.Sort.{Sort}
 use Rattle.nts_model.specs.declared.labels.Variance.TheVariants as variance
@@ -8,17 +8,24 @@ use Rattle.nts_model.specs.declared.labels.Leaf.{Leaf}
 use Rattle.nts_model.specs.declared.labels.BoundVarIndexKind.TheVariants as index
 use Rattle.nts_model.specs.declared.labels.ClauseHead.TheVariants as clause
 use Rattle.nts_model.specs.declared.labels.PredicateHead.TheVariants as predicate
+use Rattle.nts_model.specs.declared.labels.AliasHead.{AliasHead}
+use Rattle.nts_model.specs.declared.labels.AliasHead.TheVariants as alias_of
 use Rattle.nts_model.specs.declared.labels.Label.{Label}
 use Rattle.nts_model.specs.declared.labels.Label.TheVariants as label
 use Rattle.nts_model.specs.Terms.Trees.{Tree, empty, more, node, binders, IsClosed}
 use Rattle.nts_model.specs.Terms.Substitutions.{leaf_tree, put, replace}
-use Rattle.nts_model.specs.Derivations.Related.{Constraint, unbound, alias_goal, IsAlias}
+use Rattle.nts_model.specs.Derivations.Related.{Constraint, pair, unbound, value, alias, alias_goal, IsAlias}
+use Rattle.nts_model.specs.Lists.{Among}
 use Rattle.nts_model.specs.Derivations.Sequents.{Premise, Hidden}
-use Rattle.nts_model.specs.Derivations.Rules.{coherence, Equation, related, alike, Application, Meaning, GoalKind, goal_kind, Replaced, chosen, kept_empty, kept_more, kept_node, choice, Stands, opened, opened_at, relating, IsHandlers, HoldsEquation, IsApplied, IsPlainRule, bound, IsRule}
+use Rattle.nts_model.specs.Derivations.Rules.{coherence, Equation, related, alike, Application, Meaning, GoalKind, goal_kind, Replaced, chosen, kept_empty, kept_more, kept_node, choice, Stands, opened, opened_at, relating, IsHandlers, HoldsEquation, IsApplied, AreFresh, HasConstType, of_value, of_alias, of_constant, IsConstResult, const_error, IsBuiltIn, IsPlainRule, bound, IsRule}
+use Rattle.nts_model.specs.Derivations.Rules.{region_lives, type_lives, subtyped, coerced, const_typed, error_typed, allowed, dyn_compatible, formed, constant_evaluated, value_evaluated, error_evaluated, alias_evaluated, aliases_relate}
 use Rattle.nts_model.specs.Refutation.Choosing.{left_of, right_of}
 use Rattle.nts_model.specs.Derivations.Handlers.{Handler}
 use Rattle.nts_model.specs.Refutation.Containing.{Truth, IsTrueBy}
 use Rattle.nts_theory.specs.Refutation.Refutation.{UsesClause, UsesOpened, binding}
+use Rattle.nts_theory.specs.Affirming.{has_type, is_well_formed, SaysOfTwo, outlives_it, is_its_type}
+use Rattle.nts_theory.proofs.Derivations.ClosedStatements.{opened_closed}
+use Rattle.nts_theory.proofs.Refutation.Outliving.{built_in_holds}
 use Rattle.nts_theory.proofs.Refutation.Covering.{related_equal, alike_equal, not_built_in, applied_by_rule}
 
 -- statements of a handler, by their labels
@@ -142,3 +149,101 @@ module _ (h : Handler) (m : Meaning) (truth : Truth) (Proves : Tree → Tree →
         are_fresh = fresh;
         uses = uses_plain e (opened f 0 s) (handlers_opened f 0 s i) (subst (λ z. IsPlainRule m coherence G H D P e (opened f 0 z)) (sym same) r);
       }
+
+  -- a statement that is not the handler's follows by a rule of the engine
+  abbrev pub Engine : Tree → Tree → Type 0
+  Engine e s = IsBuiltIn m G H (Stands G P (goal_kind m (unbound s))) e s
+
+  engine_plain : (e s : Tree) → (IsHandlers s → ⊥) → IsPlainRule m coherence G H D P e s → Engine e s
+  engine_plain e s n (inl (i, a)) = absurd (n i)
+  engine_plain e s n (inr b) = b
+
+  one_unbound : (s t : Tree) → unbound s ≡ unbound t → s ≡ t
+  one_unbound s t e = cc e
+
+  one_bound : (sorts s t : Tree) → unbound s ≡ bound sorts t → s ≡ t
+  one_bound sorts s t e = cc e
+
+  pub engine_unbound : (e s : Tree) → (IsHandlers s → ⊥) → IsClosed s → IsRule m coherence G H D P e (unbound s) → Engine e s
+  engine_unbound e s n c (inl (t, is, r)) = engine_plain e s n (subst (IsPlainRule m coherence G H D P e) (sym (one_unbound s t is)) r)
+  engine_unbound e s n c (inr (sorts, t, f, is, fresh, r)) = engine_plain e s n (subst (IsPlainRule m coherence G H D P e) (ap (opened f 0) (sym (one_bound sorts s t is)) ∙ opened_closed f 0 s c) r)
+
+  -- .. with fresh placeholders for what it binds
+  pub record EngineOpened (e x xs s : Tree) : Type 0 where
+    pub fresh : Sort → ℕ → Leaf
+    pub are_fresh : AreFresh (pair e (binding x xs s)) fresh
+    pub follows : (IsHandlers (opened fresh 0 s) → ⊥) → Engine e (opened fresh 0 s)
+
+  pub engine_binding : (e x xs s : Tree) → IsRule m coherence G H D P e (binding x xs s) → EngineOpened e x xs s
+  engine_binding e x xs s (inl (t, is, r)) = absurd (not_unbound x xs s t is)
+  engine_binding e x xs s (inr (y, t, f, is, fresh, r)) =
+      record { fresh = f; are_fresh = fresh; follows = λ n. engine_plain e (opened f 0 s) n (subst (λ z. IsPlainRule m coherence G H D P e (opened f 0 z)) (sym (bound_statement x xs s y t is)) r) }
+
+  -- the type of a value is the one that it has
+  value_no_alias : (b : ℕ) (u : Tree) → IsAlias (value b u) → ⊥
+  value_no_alias b u i = by_kind i.head i.is
+    where
+      by_kind : (a : AliasHead) → value b u ≡ alias a i.parts → ⊥
+      by_kind (alias_of.Ty n) q = cc q
+      by_kind (alias_of.Const n) q = cc q
+
+  value_itself : (e c r : Tree) (k : GoalKind) (b : ℕ) (u : Tree) → IsConstResult G (Stands G P k) e c r → c ≡ value b u → r ≡ value b u
+  value_itself e c r k b u (inl (same, x)) q = same ∙ q
+  value_itself e c r k b u (inr (i, z, x, y)) q = absurd (value_no_alias b u (subst IsAlias q i))
+
+  type_itself : (e r w : Tree) (b : ℕ) (u : Tree) → HasConstType m e r w → r ≡ value b u → w ≡ u
+  type_itself e r w b u of_value q = cc q
+  type_itself e r w b u of_alias q = cc q
+  type_itself e r w b u (of_constant x) q = cc q
+
+  pub typed_equal : (e s : Tree) (b : ℕ) (u t : Tree) → Engine e s → s ≡ has_type (value b u) t → u ≡ t
+  typed_equal e s b u t (const_typed {c = c} {t = z} r w x y rel) q =
+      let k = goal_kind m (unbound s) in
+      let const : c ≡ value b u = cc q in
+      let last : z ≡ t = cc q in
+      let own : w ≡ u = type_itself e r w b u y (value_itself e c r k b u x const) in
+      sym own ∙ related_equal m.variances G H (λ v. Stands G P k (relating e v)) (λ v y v'. holds (record { relation = relation.Equal; left = v; right = y }) v') (stands_apart k e) variance.Invariant w z refl rel ∙ last
+  typed_equal e s b u t (error_typed {c = c} x) q =
+      let const : c ≡ value b u = cc q in
+      let wrong : const_error ≡ value b u = value_itself e c const_error (goal_kind m (unbound s)) b u x const in
+      cc wrong
+  typed_equal e s b u t (region_lives i j x) q = cc q
+  typed_equal e s b u t (type_lives i x) q = cc q
+  typed_equal e s b u t (subtyped x r) q = cc q
+  typed_equal e s b u t (coerced r) q = cc q
+  typed_equal e s b u t (allowed x) q = cc q
+  typed_equal e s b u t (dyn_compatible x) q = cc q
+  typed_equal e s b u t (formed gs x y) q = cc q
+  typed_equal e s b u t constant_evaluated q = cc q
+  typed_equal e s b u t value_evaluated q = cc q
+  typed_equal e s b u t error_evaluated q = cc q
+  typed_equal e s b u t (alias_evaluated x) q = cc q
+  typed_equal e s b u t (aliases_relate r w x y z) q = cc q
+
+  -- what a term is well formed by is proved
+  some_is : (xs ys : List Premise) → Some xs ≡ Some ys → xs ≡ ys
+  some_is xs ys e = cc e
+
+  pub formed_proved : (e s t : Tree) (gs : List Premise) → Engine e s → s ≡ is_well_formed t → m.well_formed_goals e t ≡ Some gs → (g : Premise) → Among gs g → Proves g.environment g.predicate
+  formed_proved e s t gs (formed {t = u} hs given each) q same g i =
+      let one : u ≡ t = cc q in
+      let all : hs ≡ gs = some_is hs gs (sym given ∙ ap (m.well_formed_goals e) one ∙ same) in
+      stands_proved (goal_kind m (unbound s)) g (each g (subst (λ z. Among z g) (sym all) i))
+  formed_proved e s t gs (region_lives i j x) q same g a = cc q
+  formed_proved e s t gs (type_lives i x) q same g a = cc q
+  formed_proved e s t gs (subtyped x r) q same g a = cc q
+  formed_proved e s t gs (coerced r) q same g a = cc q
+  formed_proved e s t gs (const_typed r w x y z) q same g a = cc q
+  formed_proved e s t gs (error_typed x) q same g a = cc q
+  formed_proved e s t gs (allowed x) q same g a = cc q
+  formed_proved e s t gs (dyn_compatible x) q same g a = cc q
+  formed_proved e s t gs constant_evaluated q same g a = cc q
+  formed_proved e s t gs value_evaluated q same g a = cc q
+  formed_proved e s t gs error_evaluated q same g a = cc q
+  formed_proved e s t gs (alias_evaluated x) q same g a = cc q
+  formed_proved e s t gs (aliases_relate r w x y z) q same g a = cc q
+
+  -- what is said of two terms is so
+  pub said_true : (e s : Tree) (x : Constraint) → Engine e s → SaysOfTwo x s → IsTrueBy truth x.relation x.left x.right
+  said_true e s x b (outlives_it says) = holds x (built_in_holds m G H (Stands G P (goal_kind m (unbound s))) e s x says b)
+  said_true e s x b (is_its_type {b = n} {u = u} {t = t}) = typed_equal e s n u t b refl

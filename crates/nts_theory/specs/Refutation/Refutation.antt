@@ -1,5 +1,5 @@
 -- What is proved in coherence, where no aliases are declared.
-use Rattle.std.specs.Prelude.{List, [], length, ◌≡◌, ℕ, ◌+◌}
+use Rattle.std.specs.Prelude.{List, [], length, Some, ◌≡◌, ℕ, ◌+◌}
 use Rattle.nts_model.specs.declared.labels.VariableKind.{VariableKind}
 use Rattle.nts_model.specs.declared.labels.Sort.{Sort}
 use Rattle.nts_model.specs.declared.labels.Leaf.{Leaf}
@@ -14,14 +14,13 @@ use Rattle.nts_model.specs.Derivations.Sequents.{Premise}
 use Rattle.nts_model.specs.Derivations.Rules.{Mode, coherence, Meaning, statement_of, goal_kind, normalization, AreFresh, Equation, Application, IsHandlers, opened, bound}
 use Rattle.nts_model.specs.Refutation.Opening.{placeholder_in}
 use Rattle.nts_model.specs.Refutation.Choosing.{left_of, right_of}
-use Rattle.nts_model.specs.Derivations.Handlers.{Handler, meaning}
+use Rattle.nts_model.specs.Derivations.Handlers.{Handler, Judgements, meaning}
 use Rattle.nts_model.specs.Tables.Contents.{Content}
 use Rattle.nts_model.specs.Tables.Worlds.{World, inst, Agrees}
 use Rattle.nts_model.specs.declared.labels.Variance.{Variance}
 use Rattle.nts_model.specs.Refutation.Containing.{Truth, IsTrueBy, IsSolution, IsGroundLabel, AreGround}
 use Rattle.nts_model.specs.Tables.Passing.{AllLabels}
-use Rattle.nts_theory.specs.Affirming.{IsDenied}
-use Rattle.nts_theory.specs.Outliving.{SaysOutlives}
+use Rattle.nts_theory.specs.Affirming.{IsDenied, SaysOfTwo, is_well_formed}
 use Rattle.nts_variance_model.specs.Variances.SettledProofs.{HasSettledProof}
 
 -- no rule of the handler says what an alias normalizes to. Where no alias is declared there is none
@@ -60,24 +59,37 @@ pub record UsesNamed (h : Handler) (truth : Truth) (Proves : Tree → Tree → T
 abbrev pub binding : Tree → Tree → Tree → Tree
 binding x xs s = bound (more x xs) s
 
+-- the predicates that the handler names for a term are proved, where a statement says that the term is well formed
+abbrev pub ProvesFormed : Judgements → (Tree → Tree → Type 0) → Tree → Tree → Type 0
+ProvesFormed j Proves e s = (t : Tree) (ps : List Tree) → s ≡ is_well_formed t → j.well_formed e t ≡ Some ps → (p : Tree) → Among ps p → Proves e p
+
 -- what is proved: terms without region variables. Names of constants and regions play no part, and each goal of the handler
 -- follows by a use of a clause, as it stands or with the placeholders of a new universe for what it binds. What is proved to
--- outlive a region does, and nothing is proved that the handler denies
+-- outlive a region does, and what is a value's type is; what is well formed is so by proved predicates; and nothing is proved that
+-- the handler denies
 pub record IsTheory (h : Handler) (truth : Truth) (Proves : Tree → Tree → Type 0) : Type 0 where
   pub ground : AreGround Proves
   pub kept : (ρ : Renaming) → IsCarrying ρ → (e g : Tree) → Proves e g → Proves (rename ρ e) (rename ρ g)
-  pub outlives : (e s : Tree) (y : Constraint) → Proves e (unbound s) → SaysOutlives y s → IsClosed s → IsTrueBy truth y.relation y.left y.right
+  pub says : (e s : Tree) (y : Constraint) → Proves e (unbound s) → SaysOfTwo y s → IsClosed s → IsTrueBy truth y.relation y.left y.right
   pub denies : (e g : Tree) → Proves e g → IsDenied h.judges (statement_of g) → ⊥
-  pub outlives_opened : (u : ℕ) (e x xs s : Tree) (y : Constraint) → Proves e (binding x xs s) → SaysOutlives y (opened (placeholder_in (u + 1)) 0 s) → NamesAll leaf_level u (pair e s) → IsTrueBy truth y.relation y.left y.right
+  pub says_opened : (u : ℕ) (e x xs s : Tree) (y : Constraint) → Proves e (binding x xs s) → SaysOfTwo y (opened (placeholder_in (u + 1)) 0 s) → NamesAll leaf_level u (pair e s) → IsTrueBy truth y.relation y.left y.right
+  pub formed : (e s : Tree) → Proves e (unbound s) → IsClosed s → ProvesFormed h.judges Proves e s
+  pub formed_opened : (u : ℕ) (e x xs s : Tree) → Proves e (binding x xs s) → NamesAll leaf_level u (pair e s) → ProvesFormed h.judges Proves e (opened (placeholder_in (u + 1)) 0 s)
   pub plain : (u : ℕ) (e s : Tree) → Proves e (unbound s) → IsHandlers s → IsClosed s → NamesAll leaf_level u (pair e s) → UsesNamed h truth Proves u e s
   pub opened : (u : ℕ) (e x xs s : Tree) → Proves e (binding x xs s) → IsHandlers (opened (placeholder_in (u + 1)) 0 s) → IsFormed (opened (placeholder_in (u + 1)) 0 s) → NamesAll leaf_level u (pair e s)
       → UsesNamed h truth Proves (u + 1) e (opened (placeholder_in (u + 1)) 0 s)
 
--- what a goal that binds variables says that outlives what does so with fresh placeholders for them
-pub record OutlivesOpened (truth : Truth) (e c s : Tree) : Type 0 where
+-- what a goal that binds variables says of two terms is so with fresh placeholders for them
+pub record SaysOpened (truth : Truth) (e c s : Tree) : Type 0 where
   pub fresh : Sort → ℕ → Leaf
   pub are_fresh : AreFresh (pair e c) fresh
-  pub holds : (y : Constraint) → SaysOutlives y (opened fresh 0 s) → IsTrueBy truth y.relation y.left y.right
+  pub holds : (y : Constraint) → SaysOfTwo y (opened fresh 0 s) → IsTrueBy truth y.relation y.left y.right
+
+-- a term is well formed with fresh placeholders for what the goal binds
+pub record FormedOpened (h : Handler) (Proves : Tree → Tree → Type 0) (e c s : Tree) : Type 0 where
+  pub fresh : Sort → ℕ → Leaf
+  pub are_fresh : AreFresh (pair e c) fresh
+  pub goals : ProvesFormed h.judges Proves e (opened fresh 0 s)
 
 -- a goal that binds variables follows with fresh placeholders for them
 pub record UsesOpened (h : Handler) (truth : Truth) (Proves : Tree → Tree → Type 0) (e c s : Tree) : Type 0 where
@@ -85,15 +97,17 @@ pub record UsesOpened (h : Handler) (truth : Truth) (Proves : Tree → Tree → 
   pub are_fresh : AreFresh (pair e c) fresh
   pub uses : UsesClause h truth Proves e (opened fresh 0 s)
 
--- proved goals are terms without region variables, each goal of the handler follows by a use of a clause from proved goals, and
--- what is proved to outlive a region does, and nothing is proved that the handler denies
+-- proved goals are terms without region variables, each goal of the handler follows by a use of a clause from proved goals, what is
+-- proved of two terms is so, what is well formed is so by proved predicates, and nothing is proved that the handler denies
 pub record AreUsed (h : Handler) (truth : Truth) (Proves : Tree → Tree → Type 0) : Type 0 where
   pub ground : AreGround Proves
   pub plain : (e s : Tree) → Proves e (unbound s) → IsHandlers s → IsClosed s → UsesClause h truth Proves e s
   pub opened : (e x xs s : Tree) → Proves e (binding x xs s) → IsHandlers s → UsesOpened h truth Proves e (binding x xs s) s
-  pub outlives : (e s : Tree) (y : Constraint) → Proves e (unbound s) → SaysOutlives y s → IsClosed s → IsTrueBy truth y.relation y.left y.right
+  pub says : (e s : Tree) (y : Constraint) → Proves e (unbound s) → SaysOfTwo y s → IsClosed s → IsTrueBy truth y.relation y.left y.right
   pub denies : (e g : Tree) → Proves e g → IsDenied h.judges (statement_of g) → ⊥
-  pub outlives_opened : (e x xs s : Tree) → Proves e (binding x xs s) → OutlivesOpened truth e (binding x xs s) s
+  pub says_opened : (e x xs s : Tree) → Proves e (binding x xs s) → SaysOpened truth e (binding x xs s) s
+  pub formed : (e s : Tree) → Proves e (unbound s) → IsClosed s → ProvesFormed h.judges Proves e s
+  pub formed_opened : (e x xs s : Tree) → Proves e (binding x xs s) → FormedOpened h Proves e (binding x xs s) s
 
 -- an instance that leaves no region variable: each has been assigned a free region
 pub record IsGroundInstance (ι : Instance) : Type 0 where
