@@ -18,6 +18,7 @@ pub mod Readying
 pub mod Outliving
 pub mod Saying
 pub mod OpenedTerms
+pub mod Stating
 pub mod Recording
 pub mod Affirming
 pub mod ReachedGoals
