@@ -8,7 +8,7 @@ use Rattle.nts_model.specs.declared.labels.Leaf.TheVariants as leaf
 use Rattle.nts_model.specs.declared.labels.ClauseHead.TheVariants as clause
 use Rattle.nts_model.specs.declared.labels.Label.{Label}
 use Rattle.nts_model.specs.declared.labels.Label.TheVariants as label
-use Rattle.nts_model.specs.Terms.Trees.{Tree, empty, node, label_of, any_label, is_alias}
+use Rattle.nts_model.specs.Terms.Trees.{Tree, empty, node, label_of, any_label, is_alias, IsFormed}
 use Rattle.nts_model.specs.Tables.Contents.{Content}
 use Rattle.nts_model.specs.Tables.Resolving.{Knows, IsSound, deeply_resolved}
 use Rattle.nts_model.specs.Tables.Levels.{AreCurrent}
@@ -29,7 +29,7 @@ use Rattle.nts_model.specs.Searching.Driving.{unconstrained}
 use Rattle.nts_model.specs.Canonical.Inputs.{Input, IsInput, CanonicalInput, PositionKind, type_variable, integer_variable, float_variable, const_variable, region_variable, placeholder, canonical_of, originals}
 use Rattle.nts_model.specs.Answers.Applying.{IsProperContent}
 use Rattle.nts_model.specs.Derivations.Proving.{HoldsTerms, AreConstraintsOf}
-use Rattle.nts_theory.specs.Affirming.{SaysAffirmed, IsDenied}
+use Rattle.nts_theory.specs.Affirming.{SaysAffirmed, IsDenied, HasOwnWay}
 use Rattle.nts_theory.specs.Outliving.{IsOutlives}
 use Rattle.nts_model.specs.Answers.Responses.{Findings, AreFindings, Response, response_of, IsResponseTo, Applies, RefusesResponse}
 
@@ -181,6 +181,12 @@ SaysOf c found qs v =
     (v.is_yes ≡ true) × IsResponseOf found qs v.response
     ⊎ (v.is_yes ≡ false) × (IsPlainResponse found qs v.response ⊎ IsPlainResponse c qs v.response)
 
+-- a goal of a table that may hold in one way by the engine, opened if it binds variables
+pub record IsOwnWayIn (h : Handler) (c : Content) (e g : Tree) (x : Candidate) : Type 0 where
+  pub way : HasOwnWay h.judges e (opened_in c g) x
+  pub knows : Knows (entered_table c g) (pair e (opened_in c g))
+  pub environment : IsFormed e
+
 -- a yes to a goal of a table that says all of the table in which the constraint was recorded
 pub record SaysRecorded (x : Constraint) (c : Content) (e g : Tree) (qs : List Tree) (v : Verdict) : Type 0 where
   pub knows : Knows c (pair e g)
@@ -193,7 +199,7 @@ pub record SaysRecorded (x : Constraint) (c : Content) (e g : Tree) (qs : List T
 mutual
   -- what a goal is answered in a table, for these terms of an input of these kinds: nothing is told; or the verdict that stands
   -- for those of the candidates for the goal; or, of a goal that something outlives a region, yes, where the table holds that; or,
-  -- of a goal that the handler affirms, yes, where the table is as before
+  -- of a goal that the handler affirms, yes, where the table is as before; or, of one that has one way by the engine, the verdict of that
   pub data Tells (Q : Queries) (h : Handler) (mode : Mode) : List PositionKind → Content → Tree → Tree → List Tree → Verdict → Type 0 where
     tells_nothing : {ks : List PositionKind} {c : Content} {e g : Tree} {qs : List Tree} {v : Verdict} (d : Content) → (d ≡ c) ⊎ (d ≡ entered_table c g) → v.is_yes ≡ false → IsPlainResponse d qs v.response → Tells Q h mode ks c e g qs v
     says_nothing : {ks : List PositionKind} {c : Content} {e g : Tree} {qs : List Tree} {v : Verdict} → SaysNothing ks v.response → Tells Q h mode ks c e g qs v
@@ -203,11 +209,13 @@ mutual
         → Tells Q h mode ks c e g qs v
     tells_affirmed : {ks : List PositionKind} {c : Content} {e g : Tree} {qs : List Tree} {v : Verdict} → SaysAffirmed h.judges e (opened_in c g) → v.is_yes ≡ true → IsResponseOf (entered_table c g) qs v.response
         → Tells Q h mode ks c e g qs v
+    tells_own : {ks : List PositionKind} {c : Content} {e g : Tree} {qs : List Tree} {v : Verdict} (x : Candidate) → IsOwnWayIn h c e g x → Replies Q h mode (entered_table c g) e (opened_in c g) qs x v → Tells Q h mode ks c e g qs v
 
-  -- each candidate fails, or the handler denies the goal
+  -- each candidate fails, or the one way by the engine, or the handler denies the goal
   pub data Refutes (Q : Queries) (h : Handler) (mode : Mode) : Content → Tree → Tree → List Tree → Type 0 where
     all_fail : {c : Content} {e g : Tree} {qs : List Tree} → IsReady c e g → Outcomes Q h mode (entered_table c g) e (opened_in c g) qs (h.offers mode e (opened_in c g)) [] → Refutes Q h mode c e g qs
     is_denied : {c : Content} {e g : Tree} {qs : List Tree} → IsDenied h.judges (statement_of (opened_in c g)) → Refutes Q h mode c e g qs
+    own_fails : {c : Content} {e g : Tree} {qs : List Tree} (x : Candidate) → IsOwnWayIn h c e g x → Fails Q h mode (entered_table c g) x → Refutes Q h mode c e g qs
 
   -- candidate by candidate, it fails or has a verdict
   pub data Outcomes (Q : Queries) (h : Handler) (mode : Mode) : Content → Tree → Tree → List Tree → List Candidate → List Verdict → Type 0 where

@@ -16,9 +16,9 @@ use Rattle.nts_model.specs.Derivations.Related.{Constraint, unbound}
 use Rattle.nts_model.specs.Derivations.Sequents.{Premise, Hidden}
 use Rattle.nts_model.specs.Derivations.Rules.{Mode, Meaning, goal_kind, Stands, statement_of, opened, opened_at, IsHandlers, IsBuiltIn, IsPlainRule, bound, IsRule}
 use Rattle.nts_model.specs.Derivations.Rules.{region_lives, type_lives, subtyped, coerced, const_typed, error_typed, allowed, dyn_compatible, formed, constant_evaluated, value_evaluated, error_evaluated, alias_evaluated, aliases_relate}
-use Rattle.nts_model.specs.Derivations.Handlers.{Judgements}
+use Rattle.nts_model.specs.Derivations.Handlers.{Candidate, Judgements}
 use Rattle.nts_model.specs.Refutation.Opening.{binds, placeholder_in, opened_in}
-use Rattle.nts_theory.specs.Affirming.{IsAffirmed, feature_allowed, has_objects, named_const, value_const, error_const, error_type, evaluated_const, IsDenied}
+use Rattle.nts_theory.specs.Affirming.{IsAffirmed, feature_allowed, has_objects, named_const, value_const, error_const, error_type, evaluated_const, IsDenied, IsOwnWay, by_type, by_goals}
 
 -- no rule of a handler is about such statements
 pub affirmed_no_handlers : (j : Judgements) (e s : Tree) → IsAffirmed j e s → IsHandlers s → ⊥
@@ -32,6 +32,10 @@ affirmed_no_handlers j e s (evaluated_const x) h = h
 
 pub denied_no_handlers : (j : Judgements) (s : Tree) → IsDenied j s → IsHandlers s → ⊥
 denied_no_handlers j s d h = subst IsHandlers d.is h
+
+pub way_no_handlers : (j : Judgements) (e s : Tree) (x : Candidate) → IsOwnWay j e s x → IsHandlers s → ⊥
+way_no_handlers j e s x by_type h = h
+way_no_handlers j e s x (by_goals given) h = h
 
 -- that objects of a trait can be made
 abbrev compatible : ℕ → Tree

@@ -29,7 +29,8 @@ use Rattle.nts_theory.proofs.Refutation.Opening.{CanBegin, added}
 use Rattle.nts_theory.proofs.Refutation.Recording.{recorded_true}
 use Rattle.nts_theory.proofs.Refutation.Readying.{some_begins}
 use Rattle.nts_theory.proofs.Refutation.Affirming.{denied_inst, denied_before}
-use Rattle.nts_theory.specs.Telling.{Verdict, Queries, AreTermsOfKinds, StandsForAll, SaysOf, IsFound, without_constraints, IsPlainResponse, goals_with, Tells, tells_nothing, says_nothing, tells_one, tells_outlives, tells_affirmed, Refutes, all_fail, is_denied, Outcomes, no_outcome, then_fails, then_replies, Replies, replies, Fails, is_unmet, is_refused, is_leaky, Reaches, asks_nothing, then_asks, RefusesOne, refuses_one, cuts_one, Asked, asked_by, Refused, by_query, by_response}
+use Rattle.nts_theory.proofs.Refutation.Stating.{own_begins}
+use Rattle.nts_theory.specs.Telling.{Verdict, Queries, AreTermsOfKinds, StandsForAll, SaysOf, IsFound, without_constraints, IsPlainResponse, goals_with, Tells, tells_nothing, says_nothing, tells_one, tells_outlives, tells_affirmed, tells_own, Refutes, all_fail, is_denied, own_fails, Outcomes, no_outcome, then_fails, then_replies, Replies, replies, Fails, is_unmet, is_refused, is_leaky, Reaches, asks_nothing, then_asks, RefusesOne, refuses_one, cuts_one, Asked, asked_by, Refused, by_query, by_response}
 use Rattle.nts_theory.proofs.Refutation.Queried.{BeginsEach, Leads, Reached, IsSolved, IsQuery, first_query, IsTried, tried, tried_knows, found_table, solution_without, entered_solution, says_contains, says_long}
 use Rattle.nts_theory.proofs.Refutation.Begun.{asked_from, BegunAt, begun_at, asks_more, goal_known, goal_there}
 use Rattle.nts_theory.proofs.Refutation.QueryLabels.{entered_query, query_without}
@@ -107,6 +108,9 @@ module _ (Q : Queries) (begins : BeginsEach Q) (h : Handler) (truth : Truth) (Pr
     tells_contain {ks} {c} {e} {g} {qs} {v} (tells_affirmed is sure says) q ts w s =
         subst (ContainsSolution truth v.response) s.images
         (says_contains truth ks (entered_table c g) qs v.response q.placed (entered_query ks c g qs q.table) says w (entered_solution truth c g w s.solution))
+    tells_contain {ks} {c} {e} {g} {qs} {v} (tells_own x own reply) q ts w s =
+        let begins = own_begins h truth Proves theory lawful law c e g w s.solution q.current q.knows s.proved x own.way own.environment own.knows in
+        subst (ContainsSolution truth v.response) s.images (replies_contain reply (tried ks c e g qs q) w (entered_solution truth c g w s.solution) begins)
 
     pub refutes_none : {ks : List PositionKind} {c : Content} {e g : Tree} {qs : List Tree} → Refutes Q h coherence c e g qs → IsQuery ks c e g qs → (ts : List Tree) (w : World) → IsSolved truth Proves ks c e g qs ts w → ⊥
     refutes_none {ks} {c} {e} {g} {qs} (all_fail ready all) q ts w s =
@@ -114,6 +118,8 @@ module _ (Q : Queries) (begins : BeginsEach Q) (h : Handler) (truth : Truth) (Pr
         let one = outcomes_contain all (tried ks c e g qs q) w x.solution x.candidate x.offered x.begins in
         one.among
     refutes_none {ks} {c} {e} {g} {qs} (is_denied d) q ts w s = theory.denies (inst w e) (inst w g) s.proved (denied_inst h.judges w g (denied_before h.judges c g d))
+    refutes_none {ks} {c} {e} {g} {qs} (own_fails x own fails) q ts w s =
+        fails_never fails w (entered_solution truth c g w s.solution) (own_begins h truth Proves theory lawful law c e g w s.solution q.current q.knows s.proved x own.way own.environment own.knows)
 
     outcomes_contain : {ks : List PositionKind} {c : Content} {e g : Tree} {qs : List Tree} {xs : List Candidate} {vs : List Verdict} → Outcomes Q h coherence c e g qs xs vs → IsTried ks c e g qs
         → (w : World) → IsSolution truth 0 c w → (x : Candidate) → Among xs x → CanBegin truth Proves c w x → OneContains truth vs (map (inst w) qs)
