@@ -15,13 +15,13 @@ use Rattle.nts_model.specs.Tables.Contents.{Content}
 use Rattle.nts_model.specs.Terms.Substitutions.{leaf_tree}
 use Rattle.nts_model.specs.Derivations.Related.{Constraint, pair, unbound}
 use Rattle.nts_model.specs.Derivations.Rules.{Mode, statement_of, statement_kind, coinductive_trait, other_goal, normalization, opened, opened_at, IsHandlers, bound}
-use Rattle.nts_model.specs.Derivations.Handlers.{Handler, Judgements}
+use Rattle.nts_model.specs.Derivations.Handlers.{Handler, Candidate, Judgements}
 use Rattle.nts_model.specs.Refutation.Opening.{binds, placeholder_in, opened_in}
 use Rattle.nts_model.proofs.Terms.Substituting.{leaf_alone, no_children}
 use Rattle.nts_theory.specs.Outliving.{SaysOutlives, region_outlives, type_outlives, IsOutlives}
-use Rattle.nts_theory.specs.Affirming.{SaysAffirmed, IsDenied}
+use Rattle.nts_theory.specs.Affirming.{SaysAffirmed, IsDenied, HasOwnWay}
 use Rattle.nts_theory.specs.Telling.{IsTraitStatement}
-use Rattle.nts_theory.proofs.Refutation.Affirming.{affirmed_no_handlers, denied_no_handlers}
+use Rattle.nts_theory.proofs.Refutation.Affirming.{affirmed_no_handlers, denied_no_handlers, way_no_handlers}
 use Rattle.nts_decisions.specs.Deciding.{blurred, blurred_environment, IsDecidable, IsPlainGoal, top_level, opened_next, IsGoalDecided}
 use Rattle.nts_decisions.proofs.BlurredWorlds.{merged_leaf}
 use Rattle.nts_decisions.proofs.Deciding.{decided_by}
@@ -68,6 +68,9 @@ trait_handlers s t = absurd t
 
 pub trait_not_affirmed : (j : Judgements) (e g : Tree) → IsTraitStatement (statement_of g) → SaysAffirmed j e g → ⊥
 trait_not_affirmed j e g t a = affirmed_no_handlers j e a.statement a.affirmed (trait_handlers a.statement (subst (λ z. IsTraitStatement (statement_of z)) a.binds_nothing t))
+
+pub trait_has_no_way : (j : Judgements) (e g : Tree) (x : Candidate) → IsTraitStatement (statement_of g) → HasOwnWay j e g x → ⊥
+trait_has_no_way j e g x t w = way_no_handlers j e w.statement x w.way (trait_handlers w.statement (subst (λ z. IsTraitStatement (statement_of z)) w.binds_nothing t))
 
 pub trait_not_denied : (j : Judgements) (g : Tree) → IsTraitStatement (statement_of g) → IsDenied j (statement_of g) → ⊥
 trait_not_denied j g t d = denied_no_handlers j (statement_of g) d (trait_handlers (statement_of g) t)
