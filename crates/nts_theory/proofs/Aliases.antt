@@ -5,6 +5,7 @@ pub mod ByRelating
 pub mod ChosenValues
 pub mod BuiltIn
 pub mod ByEngine
+pub mod ByOwnWay
 pub mod WithCandidate
 pub mod SettledGoals
 pub mod RelatedRows

@@ -50,7 +50,7 @@ module _ (m : Meaning) (mode : Mode) (A : List Assumed) (c : Content) (s : IsSou
   pub read_as : (u : Tree) → Knows c u → IsFormed u → read u ≡ deeply_resolved c u
   read_as u n f = instance_of-reading c s t u n f
 
-  read_closed : IsClosedEnvironment (deeply_resolved c e)
+  pub read_closed : IsClosedEnvironment (deeply_resolved c e)
   read_closed =
       let there = Knows-deeply_resolved c e s ke.knows in
       record {
@@ -64,14 +64,14 @@ module _ (m : Meaning) (mode : Mode) (A : List Assumed) (c : Content) (s : IsSou
   abbrev pub IsGiven : Tree → Type 1
   IsGiven u = (P : Premise → Type 0) → IsBuiltIn m (λ z. Unit {0}) (IsGranted c) P (deeply_resolved c e) (read u)
 
-  module _ (o states : Tree) (is : o ≡ unbound states) (closed : IsClosed states) (ko : IsTermOf c o) (given : IsGiven states) where
-    goal_read : deeply_resolved c o ≡ unbound (read states)
+  module _ (o states : Tree) (is : o ≡ unbound states) (closed : IsClosed states) (ko : IsTermOf c o) where
+    pub goal_read : deeply_resolved c o ≡ unbound (read states)
     goal_read = sym (read_as o ko.knows ko.formed) ∙ ap read is
 
     whole_closed : IsClosed o
     whole_closed = rw is (tt, ((tt, tt), (IsClosed-under 1 states closed, tt)))
 
-    terms : IsOfTerms (sequent_at c e o)
+    pub terms : IsOfTerms (sequent_at c e o)
     terms =
         let known = Knows-deeply_resolved c o s ko.knows in
         let here = read_closed in
@@ -85,13 +85,13 @@ module _ (m : Meaning) (mode : Mode) (A : List Assumed) (c : Content) (s : IsSou
         }
 
     -- it binds nothing
-    pub given_plain : IsProvedFrom m mode A c e o
-    given_plain = by_engine m mode A c s t k e o (read states) goal_read terms (given _)
+    pub given_plain : IsGiven states → IsProvedFrom m mode A c e o
+    given_plain given = by_engine m mode A c s t k e o (read states) goal_read terms (given _)
 
     -- .. or it is what another goal states of fresh placeholders for what that binds
-    pub given_binding : (f : Sort → ℕ → Leaf) (v vs u : Tree) → IsTermOf c (bound (more v vs) u) → IsClosed (bound (more v vs) u) → AreFresh (pair (deeply_resolved c e) (deeply_resolved c (bound (more v vs) u))) f → o ≡ unbound (opened f 0 u)
+    pub given_binding : IsGiven states → (f : Sort → ℕ → Leaf) (v vs u : Tree) → IsTermOf c (bound (more v vs) u) → IsClosed (bound (more v vs) u) → AreFresh (pair (deeply_resolved c e) (deeply_resolved c (bound (more v vs) u))) f → o ≡ unbound (opened f 0 u)
         → IsProvedFrom m mode A c e (bound (more v vs) u)
-    given_binding f v vs u kg all fresh same =
+    given_binding given f v vs u kg all fresh same =
         opened_rule m mode A c s t k e ke read_closed v vs u f kg all fresh (read states)
         (ap read (one_statement states (opened f 0 u) (sym is ∙ same)) ∙ statement_reads m mode A c s t k e ke read_closed v vs u f kg all fresh) [] (λ q i. absurd i) (inr (given _))
 

@@ -300,7 +300,6 @@ module _ {m : Meaning} {mode : Mode} where
         sound d π (π ∷ M) c B F low
         (stand_head A s M c B F π x (within x found) named sequent (subst (λ y. y < suc c * B) (sym rank) (rank_in_level c B (height d) low)) stand)
         within n h
-
     sound (by_ranked nodes first ranked i) π M c B F low stand within n (inl e) =
         subst (IsGood m mode F) (sym e) (moved_good m mode nodes ranked π (c * B) F (λ x j. within x (inr j)) π first i)
     sound (by_ranked nodes first ranked i) π M c B F low stand within n (inr h) =

@@ -2,7 +2,8 @@
 use Rattle.std.proofs.Common.{◌≡◌, ℕ, Bool, true, false, List, [], ◌∷◌, None, Some, map, refl, sym, ap, ◌∙◌, subst}
 use Rattle.std.specs.Prelude.{IsTrue, ◌==◌}
 use Rattle.nts_model.specs.declared.labels.VariableKind.TheVariants as kind
-use Rattle.nts_model.specs.declared.labels.FreeRegion.TheVariants as region
+use Rattle.nts_model.specs.declared.labels.Relation.TheVariants as relation
+use Rattle.nts_model.specs.declared.labels.TyHead.TheVariants as ty
 use Rattle.nts_model.specs.declared.labels.Constant.TheVariants as constant
 use Rattle.nts_model.specs.declared.labels.Leaf.{Leaf}
 use Rattle.nts_model.specs.declared.labels.Leaf.TheVariants as leaf
@@ -11,10 +12,11 @@ use Rattle.nts_model.specs.declared.labels.PredicateHead.TheVariants as predicat
 use Rattle.nts_model.specs.declared.labels.ListHead.TheVariants as list
 use Rattle.nts_model.specs.declared.labels.Label.TheVariants as label
 use Rattle.nts_model.specs.Terms.Trees.{Tree, empty, more, node}
-use Rattle.nts_model.specs.Terms.Substitutions.{leaf_tree}
-use Rattle.nts_model.specs.Derivations.Related.{unbound}
-use Rattle.nts_model.specs.Derivations.Handlers.{Judgements, no_judgements}
-use Rattle.nts_theory.specs.Affirming.{evaluatable, IsAffirmed, feature_allowed, has_objects, named_const, value_const, error_const, evaluated_const, SaysAffirmed, IsDenied}
+use Rattle.nts_model.specs.Terms.Substitutions.{leaf_tree, Instance, instance_of}
+use Rattle.nts_model.specs.Derivations.Related.{Constraint, unbound, value}
+use Rattle.nts_model.specs.Derivations.Rules.{related}
+use Rattle.nts_model.specs.Derivations.Handlers.{Handler, Candidate, Judgements, no_judgements, never_leaks, JudgementsAreKept}
+use Rattle.nts_theory.specs.Affirming.{evaluatable, has_type, is_well_formed, SaysOfTwo, outlives_it, is_its_type, plain_way, goals_there, IsOwnWay, by_type, by_goals, HasOwnWay, IsAffirmed, feature_allowed, has_objects, named_const, value_const, error_const, evaluated_const, SaysAffirmed, IsDenied}
 
 -- of the first trait alone objects can be made, and nothing else is so
 abbrev first_alone : Judgements
@@ -57,3 +59,49 @@ parameter_is_affirmed = named_const
 
 variable_is_not_affirmed : (n : ℕ) → IsAffirmed no_judgements nowhere (evaluatable (leaf_tree (leaf.Variable kind.Const n))) → ⊥
 variable_is_not_affirmed n a = elim a [ ]
+
+-- a value has a way to have a type: by its own; a variable of consts has none
+abbrev unit_type : Tree
+unit_type = node (label.Ty ty.Error) empty
+
+value_has_a_way : IsOwnWay no_judgements nowhere (has_type (value 3 unit_type) unit_type) (plain_way (related unit_type unit_type ∷ []) [])
+value_has_a_way = by_type
+
+variable_has_no_way : (n : ℕ) (x : Candidate) → IsOwnWay no_judgements nowhere (has_type (leaf_tree (leaf.Variable kind.Const n)) unit_type) x → ⊥
+variable_has_no_way n x w = elim w [ ]
+
+value_goal_has_a_way : HasOwnWay no_judgements nowhere (unbound (has_type (value 3 unit_type) unit_type)) (plain_way (related unit_type unit_type ∷ []) [])
+value_goal_has_a_way = record { statement = has_type (value 3 unit_type) unit_type; binds_nothing = refl; way = by_type; formed = ((refl, (refl, tt)), (((refl, tt), ((tt, tt), tt)), ((tt, tt), tt))); closed = (tt, ((tt, ((tt, tt), tt)), ((tt, tt), tt))) }
+
+-- a term is well formed by what the handler names; where it names nothing there is no way
+abbrev by_first : Judgements
+by_first = record no_judgements { well_formed = λ e t. Some (unbound (objects_of 0) ∷ []) }
+
+term_has_a_way : (t : Tree) → IsOwnWay by_first nowhere (is_well_formed t) (plain_way [] (goals_there nowhere (unbound (objects_of 0) ∷ [])))
+term_has_a_way t = by_goals refl
+
+term_has_none : (t : Tree) (x : Candidate) → IsOwnWay no_judgements nowhere (is_well_formed t) x → ⊥
+term_has_none t x (by_goals given) = cc given
+
+-- what a value's type is to be is said of it and its own
+type_is_said : SaysOfTwo (record { relation = relation.Equal; left = unit_type; right = nowhere }) (has_type (value 3 unit_type) nowhere)
+type_is_said = is_its_type
+
+objects_say_nothing : (i : ℕ) (x : Constraint) → SaysOfTwo x (objects_of i) → ⊥
+objects_say_nothing i x (outlives_it o) = elim o [ ]
+
+-- a handler that judges nothing keeps the law; one that gives a const the same value whatever stands for its parameters does not
+abbrev judging : Judgements → Handler
+judging j = record { applies = λ mode a. ⊥; offers = λ mode e g. []; is_coinductive = λ i. false; leaks = never_leaks; judges = j }
+
+nothing_given : (ps : List Tree) → None ≡ Some ps → ⊥
+nothing_given ps e = cc e
+
+nothing_is_kept : JudgementsAreKept (judging no_judgements)
+nothing_is_kept = record { allows = λ e f ι k a. a; evaluates = λ e c v ι k q. cc q; well_formed = λ e t ps ι k q. cc q; goals = λ e t ps p k q i. absurd (nothing_given ps q) }
+
+always_parameter : JudgementsAreKept (judging (record no_judgements { evaluates = λ e c. Some parameter })) → (ι : Instance) → ι.value (leaf.ConstConstant (constant.Param 0)) ≡ leaf_tree (leaf.ConstConstant (constant.Param 1)) → ⊥
+always_parameter law ι moves =
+    let same : Some parameter ≡ Some (instance_of ι parameter) = law.evaluates nowhere parameter parameter ι ((tt, tt), ((tt, tt), tt)) refl in
+    let one : parameter ≡ leaf_tree (leaf.ConstConstant (constant.Param 1)) = (let z : parameter ≡ instance_of ι parameter = cc same in z ∙ moves) in
+    cc one

@@ -52,7 +52,7 @@ names_none (label.Clause x) h = refl
 names_none (label.Predicate x) h = refl
 names_none (label.List x) h = refl
 
-no_positions : (t : Tree) → NamesFresh [] t → any_label is_canonical t ≡ false
+pub no_positions : (t : Tree) → NamesFresh [] t → any_label is_canonical t ≡ false
 no_positions empty h = refl
 no_positions (more a b) h = (let x = no_positions a h.0 in let y = no_positions b h.1 in rw (x, y) refl)
 no_positions (node l c) h = (let x = names_none l (h.0, tt) in let y = no_positions c h.1 in rw (x, y) refl)
