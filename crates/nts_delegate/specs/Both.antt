@@ -1,4 +1,5 @@
--- Two handlers as one, over trees: the rules of both, the offers of the first before those of the second, and the leaks of both.
+-- Two handlers as one, over trees: the rules of both, the offers of the first before those of the second, the leaks of both, and what
+-- the second judges.
 use Rattle.std.specs.Prelude.{◌⊎◌, ◌||◌, List, [], ◌∷◌, ◌++◌}
 use Rattle.std.proofs.Common.{inl, inr, sym, ◌∙◌}
 use Rattle.std.proofs.lemmas.List.{map-append}
@@ -6,7 +7,7 @@ use Rattle.nts_model.specs.Terms.Substitutions.{Instance}
 use Rattle.nts_model.specs.Terms.Trees.{Tree}
 use Rattle.nts_model.specs.Lists.{Among}
 use Rattle.nts_model.specs.Derivations.Rules.{Mode, coherence, Application}
-use Rattle.nts_model.specs.Derivations.Handlers.{Handler, Candidate, renamed_candidate, IsLawfulHandler, CandidatesCommute, InstancesAreRules, RulesHaveSources, CandidatesKeep}
+use Rattle.nts_model.specs.Derivations.Handlers.{Handler, Candidate, renamed_candidate, IsLawfulHandler, CandidatesCommute, InstancesAreRules, RulesHaveSources, CandidatesKeep, JudgementsAreKept}
 use Rattle.nts_model.specs.Refutation.Coherence.{Covers, RulesAreOffered}
 use Rattle.nts_delegate.specs.SameHandlers.{MeansSame}
 
@@ -17,6 +18,7 @@ either h k =
       offers = λ mode e g. h.offers mode e g ++ k.offers mode e g;
       is_coinductive = λ i. h.is_coinductive i || k.is_coinductive i;
       leaks = λ c u. h.leaks c u ⊎ k.leaks c u;
+      judges = k.judges;
     }
 
 -- what stands in one of two lists, one behind the other
@@ -66,9 +68,12 @@ sources h k p q =
       ];
     }
 
+judged : (h k : Handler) → JudgementsAreKept k → JudgementsAreKept (either h k)
+judged h k q = record { allows = q.allows; evaluates = q.evaluates; well_formed = q.well_formed; goals = q.goals }
+
 pub IsLawfulHandler-either : (h k : Handler) → IsLawfulHandler h → IsLawfulHandler k → IsLawfulHandler (either h k)
 IsLawfulHandler-either h k p q =
-    record { commute = commute h k p.commute q.commute; rules = rules h k p.rules q.rules; sources = sources h k p.sources q.sources; keep = keep h k p.keep q.keep }
+    record { commute = commute h k p.commute q.commute; rules = rules h k p.rules q.rules; sources = sources h k p.sources q.sources; keep = keep h k p.keep q.keep; judges = judged h k q.judges }
 
 -- what one of them offers for a rule covers it
 pub in_first : {X : Type 0} (xs ys : List X) (x : X) → Among xs x → Among (xs ++ ys) x
@@ -117,6 +122,7 @@ MeansSame-either {h} {l} {k} {m} p q =
       );
       offers = λ mode e g. cc (p.offers mode e g, q.offers mode e g);
       is_coinductive = λ i. cc (p.is_coinductive i, q.is_coinductive i);
+      judges = q.judges;
       leaks = λ c u l. elim l [
         | inl a ↦ inl (p.leaks c u a)
         | inr b ↦ inr (q.leaks c u b)

@@ -1,5 +1,5 @@
 -- The rules that clauses are, and the handler that they make, over trees.
-use Rattle.std.specs.Prelude.{◌≡◌, ℕ, ◌==◌, Bool, List, [], ◌∷◌, Option, Some, None, map}
+use Rattle.std.specs.Prelude.{◌≡◌, ℕ, ◌==◌, Bool, List, [], ◌∷◌, Option, Some, None, map, true}
 use Rattle.std.specs.List.{filter}
 use Rattle.nts_model.specs.declared.labels.Sort.{Sort}
 use Rattle.nts_model.specs.declared.labels.ClauseHead.TheVariants as clause
@@ -11,6 +11,7 @@ use Rattle.nts_model.specs.Derivations.Sequents.{impl_where_bound, Premise}
 use Rattle.nts_model.specs.Derivations.Rules.{Equation, related, Application}
 use Rattle.nts_model.specs.Terms.Substitutions.{filled}
 use Rattle.nts_model.specs.Derivations.Handlers.{Candidate, certain, never, AreValuesOf, Handler, never_leaks}
+use Rattle.nts_delegate.specs.Judging.{objects_alone}
 use Rattle.nts_store.specs.Growth.{tree_at}
 use Rattle.nts_delegate.specs.Clauses.{clauses_of, coinductive_of}
 use Rattle.nts_delegate.specs.Offers.{trait_of}
@@ -90,6 +91,7 @@ handler_by clauses is_coinductive =
       offers = λ mode e g. offers_by clauses e (trait_of g);
       is_coinductive = is_coinductive;
       leaks = never_leaks;
+      judges = objects_alone (λ i. true);
     }
 
 -- the clauses of a store as trees

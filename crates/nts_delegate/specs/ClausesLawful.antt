@@ -145,5 +145,6 @@ MeansSame-kept a b h r e =
       applies = λ mode x. ((λ w. subst (applies_in mode x) same w), λ w. subst (applies_in mode x) (sym same) w);
       offers = λ mode t g. ap (offers_in mode t g) same;
       is_coinductive = λ i. refl;
+      judges = refl;
       leaks = λ c u l. l;
     }

@@ -11,6 +11,7 @@ pub mod ClausesKept
 pub mod ClausesLawful
 pub mod EnvironmentRows
 pub mod HandlerLaws
+pub mod Judging
 pub mod Keeping
 pub mod Offers
 pub mod OwnClauses

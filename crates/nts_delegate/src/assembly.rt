@@ -3,11 +3,14 @@ ghost use Rattle.std.specs.Prelude.{◌≡◌};
 
 use crate::assumptions::Assumptions;
 use crate::both::Both;
-use crate::delegate::GoalHandler;
+use crate::delegate::{FetchEligibleAssocItemResponse, GoalHandler};
 use nts_candidates::CandidateData;
 use nts_store::{EvalError, Fault};
 use nts_table::InferCtxt;
-use nts_terms::{Cx, Goal, TraitId, TypingMode, UniverseIndex};
+use nts_terms::{
+    AliasDefId, AliasTerm, Const, Cx, Goal, ParamEnv, Term, TraitId, TraitRef, TypingMode,
+    UniverseIndex,
+};
 
 /// A handler by which the environment of a goal is assumed: it offers the environment's clauses of the goal's trait, and then
 /// what the other handler offers, as a list of clauses. All else is as in that one.
@@ -62,6 +65,40 @@ impl<C: GoalHandler + Drop> GoalHandler for Assembly<C> {
         self.rules.trait_is_coinductive(id)
     }
 
+    fn trait_is_dyn_compatible(&self, id: TraitId) -> bool {
+        self.rules.trait_is_dyn_compatible(id)
+    }
+
+    fn may_use_unstable_feature(&self, env: ParamEnv, symbol: u32) -> bool {
+        self.rules.may_use_unstable_feature(env, symbol)
+    }
+
+    fn evaluate_const(
+        &self,
+        cx: &mut Cx,
+        env: ParamEnv,
+        uv: AliasTerm,
+    ) -> Result<Option<Const>, Fault> {
+        self.rules.evaluate_const(cx, env, uv)
+    }
+
+    fn well_formed_goals(
+        &self,
+        cx: &mut Cx,
+        env: ParamEnv,
+        term: Term,
+    ) -> Result<Option<Vec<Goal>>, Fault> {
+        self.rules.well_formed_goals(cx, env, term)
+    }
+
+    fn fetch_eligible_assoc_item(
+        &self,
+        trait_ref: TraitRef,
+        def_id: AliasDefId,
+    ) -> FetchEligibleAssocItemResponse {
+        self.rules.fetch_eligible_assoc_item(trait_ref, def_id)
+    }
+
     fn leak_check(
         &self,
         cx: &mut Cx,
@@ -106,6 +143,40 @@ impl<H: GoalHandler> GoalHandler for &H {
 
     fn trait_is_coinductive(&self, id: TraitId) -> bool {
         (**self).trait_is_coinductive(id)
+    }
+
+    fn trait_is_dyn_compatible(&self, id: TraitId) -> bool {
+        (**self).trait_is_dyn_compatible(id)
+    }
+
+    fn may_use_unstable_feature(&self, env: ParamEnv, symbol: u32) -> bool {
+        (**self).may_use_unstable_feature(env, symbol)
+    }
+
+    fn evaluate_const(
+        &self,
+        cx: &mut Cx,
+        env: ParamEnv,
+        uv: AliasTerm,
+    ) -> Result<Option<Const>, Fault> {
+        (**self).evaluate_const(cx, env, uv)
+    }
+
+    fn well_formed_goals(
+        &self,
+        cx: &mut Cx,
+        env: ParamEnv,
+        term: Term,
+    ) -> Result<Option<Vec<Goal>>, Fault> {
+        (**self).well_formed_goals(cx, env, term)
+    }
+
+    fn fetch_eligible_assoc_item(
+        &self,
+        trait_ref: TraitRef,
+        def_id: AliasDefId,
+    ) -> FetchEligibleAssocItemResponse {
+        (**self).fetch_eligible_assoc_item(trait_ref, def_id)
     }
 
     fn leak_check(

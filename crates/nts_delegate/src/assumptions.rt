@@ -14,7 +14,10 @@ use nts_certainty::{Certainty, RerunCondition};
 use nts_model::{BoundVarIndexKind, Label, Sort};
 use nts_replacing::{Place, ReplacerUnder, replace_under};
 use nts_store::{Fault, NodeId, Nodes, is_closed_under};
-use nts_terms::{BoundVars, Cx, GenericArgs, Goal, Predicate, TraitId, TraitRef, TypingMode};
+use nts_terms::{
+    AliasTerm, BoundVars, Const, Cx, GenericArgs, Goal, ParamEnv, Predicate, Term, TraitId, TraitRef,
+    TypingMode,
+};
 use std::alloc::{AllocError, Global};
 
 /// Offers, for a goal of a trait, a candidate for each clause of that trait in the goal's environment, in order: fresh
@@ -174,6 +177,36 @@ impl GoalHandler for Assumptions {
     fn trait_is_coinductive(&self, id: TraitId) -> bool {
         let _ = id;
         false
+    }
+
+    fn trait_is_dyn_compatible(&self, id: TraitId) -> bool {
+        let _ = id;
+        false
+    }
+
+    fn may_use_unstable_feature(&self, env: ParamEnv, symbol: u32) -> bool {
+        let _ = (env, symbol);
+        false
+    }
+
+    fn evaluate_const(
+        &self,
+        cx: &mut Cx,
+        env: ParamEnv,
+        uv: AliasTerm,
+    ) -> Result<Option<Const>, Fault> {
+        let _ = (cx.alloc, env, uv);
+        Ok(None)
+    }
+
+    fn well_formed_goals(
+        &self,
+        cx: &mut Cx,
+        env: ParamEnv,
+        term: Term,
+    ) -> Result<Option<Vec<Goal>>, Fault> {
+        let _ = (cx.alloc, env, term);
+        Ok(None)
     }
 
     ghost lawful = { λ ts s f r. IsLawfulHandler-assuming };

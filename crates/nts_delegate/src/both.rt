@@ -4,14 +4,18 @@ ghost use Rattle.nts_model.specs.Terms.Trees.{Tree};
 ghost use Rattle.nts_store.specs.Growth.{tree_at};
 ghost use Rattle.nts_terms.specs.Rest.{Grows};
 
-use crate::delegate::GoalHandler;
+use crate::delegate::{FetchEligibleAssocItemResponse, GoalHandler};
 use nts_candidates::CandidateData;
 use nts_store::{EvalError, Fault};
 use nts_table::InferCtxt;
-use nts_terms::{Cx, Goal, TraitId, TypingMode, UniverseIndex};
+use nts_terms::{
+    AliasDefId, AliasTerm, Const, Cx, Goal, ParamEnv, Term, TraitId, TraitRef, TypingMode,
+    UniverseIndex,
+};
 
 /// The rules of two handlers, as one handler: it offers the candidates of the first, and then those of the second. A trait is
-/// coinductive if it is for one of them, and a leak is one for one of them. So a caller who has rules of his own for some traits writes a handler for these alone,
+/// coinductive if it is for one of them, and a leak is one for one of them. Of goals of the engine's own kinds the second judges
+/// alone. So a caller who has rules of his own for some traits writes a handler for these alone,
 /// and puts it beside `Clauses`.
 #[derive(Drop)]
 pub struct Both<A: GoalHandler + Drop, B: GoalHandler + Drop> {
@@ -54,6 +58,40 @@ impl<A: GoalHandler + Drop, B: GoalHandler + Drop> GoalHandler for Both<A, B> {
         let first = self.first.trait_is_coinductive(id);
         let second = self.second.trait_is_coinductive(id);
         first || second
+    }
+
+    fn trait_is_dyn_compatible(&self, id: TraitId) -> bool {
+        self.second.trait_is_dyn_compatible(id)
+    }
+
+    fn may_use_unstable_feature(&self, env: ParamEnv, symbol: u32) -> bool {
+        self.second.may_use_unstable_feature(env, symbol)
+    }
+
+    fn evaluate_const(
+        &self,
+        cx: &mut Cx,
+        env: ParamEnv,
+        uv: AliasTerm,
+    ) -> Result<Option<Const>, Fault> {
+        self.second.evaluate_const(cx, env, uv)
+    }
+
+    fn well_formed_goals(
+        &self,
+        cx: &mut Cx,
+        env: ParamEnv,
+        term: Term,
+    ) -> Result<Option<Vec<Goal>>, Fault> {
+        self.second.well_formed_goals(cx, env, term)
+    }
+
+    fn fetch_eligible_assoc_item(
+        &self,
+        trait_ref: TraitRef,
+        def_id: AliasDefId,
+    ) -> FetchEligibleAssocItemResponse {
+        self.second.fetch_eligible_assoc_item(trait_ref, def_id)
     }
 
     fn leak_check(

@@ -21,7 +21,8 @@ use nts_certainty::{Certainty, GoalSource, RerunCondition};
 use nts_model::{Label, Sort, TyHead};
 use nts_store::Fault;
 use nts_terms::{
-    ClauseKind, Cx, GenericArgs, Goal, Predicate, PredicateKind, TraitId, TraitRef, TypingMode,
+    AliasTerm, ClauseKind, Const, Cx, GenericArgs, Goal, ParamEnv, Predicate, PredicateKind, Term,
+    TraitId, TraitRef, TypingMode,
 };
 use std::alloc::{AllocError, Global};
 
@@ -220,6 +221,36 @@ impl GoalHandler for Clauses {
             Some(entry) => entry.is_coinductive,
             None => false,
         }
+    }
+
+    fn trait_is_dyn_compatible(&self, id: TraitId) -> bool {
+        let _ = id;
+        true
+    }
+
+    fn may_use_unstable_feature(&self, env: ParamEnv, symbol: u32) -> bool {
+        let _ = (env, symbol);
+        false
+    }
+
+    fn evaluate_const(
+        &self,
+        cx: &mut Cx,
+        env: ParamEnv,
+        uv: AliasTerm,
+    ) -> Result<Option<Const>, Fault> {
+        let _ = (cx.alloc, env, uv);
+        Ok(None)
+    }
+
+    fn well_formed_goals(
+        &self,
+        cx: &mut Cx,
+        env: ParamEnv,
+        term: Term,
+    ) -> Result<Option<Vec<Goal>>, Fault> {
+        let _ = (cx.alloc, env, term);
+        Ok(None)
     }
 
     ghost lawful = { λ ts s f r. IsLawfulHandler-handler_of ts s f r };

@@ -1,5 +1,6 @@
 //! What offers the rules of traits.
-ghost use Rattle.std.specs.Prelude.{◌≡◌, ◌≢◌, List, Err, IfOk, IsOkUnless};
+ghost use Rattle.std.specs.Prelude.{◌≡◌, ◌≢◌, All, List, Err, IfOk, IfSome, option_map, IsOkUnless};
+ghost use Rattle.nts_model.specs.declared.labels.Sort.TheVariants as sort;
 ghost use Rattle.nts_model.specs.Terms.Trees.{Tree};
 ghost use Rattle.nts_store.specs.Growth.{Extends};
 ghost use Rattle.nts_terms.specs.Rest.{Grows};
@@ -7,7 +8,21 @@ ghost use Rattle.nts_terms.specs.Rest.{Grows};
 use nts_candidates::CandidateData;
 use nts_store::{EvalError, Fault};
 use nts_table::InferCtxt;
-use nts_terms::{Cx, Goal, TraitId, TypingMode, UniverseIndex};
+use nts_terms::{
+    AliasDefId, AliasTerm, Const, Cx, Goal, ParamEnv, Term, TraitId, TraitRef, TypingMode,
+    UniverseIndex,
+};
+
+/// What a handler says of an item that a trait lists, for a use of the trait.
+#[derive(Clone, Copy, PartialEq, Eq, Debug)]
+pub enum FetchEligibleAssocItemResponse {
+    /// An impl has the item.
+    Found,
+    /// None has it, or which one does is not known.
+    NotFound,
+    /// None has it in the erased mode, and one may have it in another.
+    NotFoundBecauseErased,
+}
 
 /// What offers the rules of traits as data.
 pub trait GoalHandler {
@@ -23,11 +38,14 @@ pub trait GoalHandler {
     ghost use Rattle.nts_delegate.specs.SameHandlers.{MeansSame};
     ghost use Rattle.nts_unify.specs.Reading.{content_of};
     ghost use Rattle.nts_table.specs.Tables.{IsTable};
+    ghost use Rattle.nts_terms.specs.Handles.{HoldsEnv, HoldsArgs, HoldsTerm, HoldsConst, IsAliasOf};
+    ghost use Rattle.nts_terms.specs.Kinds.{tree_of_alias};
+    ghost use Rattle.nts_delegate.specs.Judging.{makes_objects, allows_in, evaluates_in, well_formed_in, predicates_read, IsGoalIn};
 
     /// The handler's own terms are of a store of these trees.
     ghost ready: { List Tree → Self → Type 0 };
 
-    /// What the handler means, where a store has these trees: its rules, its offers, and its coinductive traits.
+    /// What the handler means, where a store has these trees: its rules, its offers, its coinductive traits, and what it judges.
     ghost handler: { List Tree → Self → Handler };
 
     /// The ways in which a goal may hold, in the order in which they are tried.
@@ -70,6 +88,64 @@ pub trait GoalHandler {
     fn trait_is_coinductive(&self, id: TraitId) -> bool
         ensures meaning { (ts : List Tree) →
             result ≡ (handler ts self.now).is_coinductive id.number };
+
+    /// Whether objects can be made of a trait: the traits of which they can are a fixed set.
+    fn trait_is_dyn_compatible(&self, id: TraitId) -> bool
+        ensures meaning { (ts : List Tree) →
+            result ≡ makes_objects (handler ts self.now) id.number };
+
+    /// Whether an environment allows an unstable feature. Where it does, each instance of it does.
+    fn may_use_unstable_feature(&self, env: ParamEnv, symbol: u32) -> bool
+        ensures meaning { (ts : List Tree) → ready ts self.now → HoldsEnv ts env →
+            result ≡ allows_in (handler ts self.now) (tree_at ts env.node) symbol };
+
+    /// What a const that is to be evaluated is evaluated as in an environment, if it can be. The same then goes for instances.
+    fn evaluate_const(
+        &self,
+        cx: &mut Cx,
+        env: ParamEnv,
+        uv: AliasTerm,
+    ) -> Result<Option<Const>, Fault>
+        requires ready { ready cx.old.nodes self.now }
+        requires env { HoldsEnv cx.old.nodes env }
+        requires alias { IsAliasOf sort.Const uv.def_id }
+        requires args { HoldsArgs cx.old.nodes uv.args }
+        ensures value { IfOk result (λ o. option_map (λ v. tree_at cx.new.nodes v.node) o ≡
+            evaluates_in (handler cx.new.nodes self.now) (tree_at cx.new.nodes env.node)
+            (tree_of_alias cx.new.nodes uv)) }
+        ensures holds { IfOk result (λ o. IfSome o (HoldsConst cx.new.nodes)) }
+        ensures grows { Grows cx.old cx.new }
+        ensures memory { IsOkUnless result Fault.Memory };
+
+    /// The goals by which a term is well formed in an environment, or `None` where that is not known. They are goals of that
+    /// environment, about no other terms than it and the term name, of any kind but `NormalizesTo` and `ConstEquate`. The same then
+    /// goes for instances.
+    fn well_formed_goals(
+        &self,
+        cx: &mut Cx,
+        env: ParamEnv,
+        term: Term,
+    ) -> Result<Option<Vec<Goal>>, Fault>
+        requires ready { ready cx.old.nodes self.now }
+        requires env { HoldsEnv cx.old.nodes env }
+        requires term { HoldsTerm cx.old.nodes term }
+        ensures named { IfOk result (λ o. option_map (λ gs. predicates_read cx.new.nodes gs.items)
+            o ≡ well_formed_in (handler cx.new.nodes self.now) (tree_at cx.new.nodes env.node)
+            (tree_at cx.new.nodes term.node)) }
+        ensures goals { IfOk result (λ o. IfSome o (λ gs. All (IsGoalIn cx.new.nodes env)
+            gs.items)) }
+        ensures grows { Grows cx.old cx.new }
+        ensures memory { IsOkUnless result Fault.Memory };
+
+    /// Whether an impl has an item of a trait, for a use of the trait. The engine never asks, and nothing rests on the answer.
+    fn fetch_eligible_assoc_item(
+        &self,
+        trait_ref: TraitRef,
+        def_id: AliasDefId,
+    ) -> FetchEligibleAssocItemResponse {
+        let _ = (trait_ref, def_id);
+        FetchEligibleAssocItemResponse::NotFound
+    }
 
     /// Whether what this universe names can meet the region constraints of a table: `NoSolution` where nothing can, and then the
     /// candidate after which the table stands so fails. The engine asks for the root, whatever mode it is in. A handler that

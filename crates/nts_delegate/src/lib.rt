@@ -13,7 +13,7 @@ pub use assembly::Assembly;
 pub use assumptions::Assumptions;
 pub use both::Both;
 pub use clauses::{Clause, Clauses};
-pub use delegate::GoalHandler;
+pub use delegate::{FetchEligibleAssocItemResponse, GoalHandler};
 pub use nts_candidates::{
     CandidateData, CandidateGoal, Equation, EquationKind, Reason, RegionConstraint,
 };

@@ -16,6 +16,7 @@ IsLawfulHandler-checking h p =
       rules = (let x = p.rules in record { instances = x.instances; closed = x.closed });
       sources = (let x = p.sources in record { each = x.each });
       keep = (let x = p.keep in record { each = x.each });
+      judges = (let x = p.judges in record { allows = x.allows; evaluates = x.evaluates; well_formed = x.well_formed; goals = x.goals });
     }
 
 covered : (h : Handler) (e g : Tree) (ι : Instance) (a : Application) → Covers h coherence e g ι a → Covers (checking h) coherence e g ι a
@@ -40,6 +41,7 @@ MeansSame-checking {h} {k} p =
       applies = p.applies;
       offers = p.offers;
       is_coinductive = p.is_coinductive;
+      judges = p.judges;
       leaks = λ c u l. elim l [
         | inl a ↦ inl (p.leaks c u a)
         | inr b ↦ inr b

@@ -4,11 +4,14 @@ ghost use Rattle.nts_store.specs.Growth.{tree_at, IsIn};
 ghost use Rattle.nts_unify.specs.Reading.{recorded_of};
 ghost use Rattle.nts_leak_check.specs.Leaking.{IsRigid, HasRigidRegion, EquatesRigid, AreSidesIn, OneEquatesRigid};
 
-use nts_delegate::{CandidateData, GoalHandler};
+use nts_delegate::{CandidateData, FetchEligibleAssocItemResponse, GoalHandler};
 use nts_model::{FreeRegion, Label, Leaf, Relation};
 use nts_store::{EvalError, Fault, NodeId};
 use nts_table::{Constraint, InferCtxt};
-use nts_terms::{Cx, Goal, TraitId, TypingMode, UniverseIndex};
+use nts_terms::{
+    AliasDefId, AliasTerm, Const, Cx, Goal, ParamEnv, Term, TraitId, TraitRef, TypingMode,
+    UniverseIndex,
+};
 
 /// The rules of a handler, with a leak check: a candidate fails after which a constraint makes two regions one that each stand for
 /// themselves: `'static`, or a region that a binder bound which was opened since. So `for<'a> T('a)` does not hold by
@@ -46,6 +49,40 @@ impl<H: GoalHandler + Drop> GoalHandler for LeakChecked<H> {
 
     fn trait_is_coinductive(&self, id: TraitId) -> bool {
         self.rules.trait_is_coinductive(id)
+    }
+
+    fn trait_is_dyn_compatible(&self, id: TraitId) -> bool {
+        self.rules.trait_is_dyn_compatible(id)
+    }
+
+    fn may_use_unstable_feature(&self, env: ParamEnv, symbol: u32) -> bool {
+        self.rules.may_use_unstable_feature(env, symbol)
+    }
+
+    fn evaluate_const(
+        &self,
+        cx: &mut Cx,
+        env: ParamEnv,
+        uv: AliasTerm,
+    ) -> Result<Option<Const>, Fault> {
+        self.rules.evaluate_const(cx, env, uv)
+    }
+
+    fn well_formed_goals(
+        &self,
+        cx: &mut Cx,
+        env: ParamEnv,
+        term: Term,
+    ) -> Result<Option<Vec<Goal>>, Fault> {
+        self.rules.well_formed_goals(cx, env, term)
+    }
+
+    fn fetch_eligible_assoc_item(
+        &self,
+        trait_ref: TraitRef,
+        def_id: AliasDefId,
+    ) -> FetchEligibleAssocItemResponse {
+        self.rules.fetch_eligible_assoc_item(trait_ref, def_id)
     }
 
     fn leak_check(

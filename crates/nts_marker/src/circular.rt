@@ -9,7 +9,7 @@ use crate::marker::marks;
 use nts_certainty::{Certainty, GoalSource, RerunCondition};
 use nts_delegate::{CandidateData, CandidateGoal, GoalHandler};
 use nts_store::Fault;
-use nts_terms::{Cx, Goal, TraitId, TypingMode};
+use nts_terms::{AliasTerm, Const, Cx, Goal, ParamEnv, Term, TraitId, TypingMode};
 
 /// Offers, for each goal of one trait, a candidate that asks for the goal itself, as relating would: by an inductive step. So each
 /// goal of it is a cycle, which has no solution outside of coherence, and is in doubt there. It has no rules for other traits.
@@ -66,6 +66,36 @@ impl GoalHandler for Circular {
     fn trait_is_coinductive(&self, id: TraitId) -> bool {
         let _ = id;
         false
+    }
+
+    fn trait_is_dyn_compatible(&self, id: TraitId) -> bool {
+        let _ = id;
+        false
+    }
+
+    fn may_use_unstable_feature(&self, env: ParamEnv, symbol: u32) -> bool {
+        let _ = (env, symbol);
+        false
+    }
+
+    fn evaluate_const(
+        &self,
+        cx: &mut Cx,
+        env: ParamEnv,
+        uv: AliasTerm,
+    ) -> Result<Option<Const>, Fault> {
+        let _ = (cx.alloc, env, uv);
+        Ok(None)
+    }
+
+    fn well_formed_goals(
+        &self,
+        cx: &mut Cx,
+        env: ParamEnv,
+        term: Term,
+    ) -> Result<Option<Vec<Goal>>, Fault> {
+        let _ = (cx.alloc, env, term);
+        Ok(None)
     }
 
     ghost lawful = { λ ts s f r. IsLawfulHandler-circling s.id.number };

@@ -9,7 +9,9 @@ ghost use Rattle.nts_marker.specs.Marking.{marks, fact};
 use nts_certainty::{Certainty, RerunCondition};
 use nts_delegate::{CandidateData, GoalHandler};
 use nts_store::Fault;
-use nts_terms::{ClauseKind, Cx, Goal, PredicateKind, TraitId, TypingMode};
+use nts_terms::{
+    AliasTerm, ClauseKind, Const, Cx, Goal, ParamEnv, PredicateKind, Term, TraitId, TypingMode,
+};
 use std::alloc::Global;
 
 /// Offers, for each goal of one trait, a candidate that asks for nothing, and is so sure. It has no rules for other traits.
@@ -76,6 +78,36 @@ impl GoalHandler for Marker {
     fn trait_is_coinductive(&self, id: TraitId) -> bool {
         let _ = id;
         false
+    }
+
+    fn trait_is_dyn_compatible(&self, id: TraitId) -> bool {
+        let _ = id;
+        false
+    }
+
+    fn may_use_unstable_feature(&self, env: ParamEnv, symbol: u32) -> bool {
+        let _ = (env, symbol);
+        false
+    }
+
+    fn evaluate_const(
+        &self,
+        cx: &mut Cx,
+        env: ParamEnv,
+        uv: AliasTerm,
+    ) -> Result<Option<Const>, Fault> {
+        let _ = (cx.alloc, env, uv);
+        Ok(None)
+    }
+
+    fn well_formed_goals(
+        &self,
+        cx: &mut Cx,
+        env: ParamEnv,
+        term: Term,
+    ) -> Result<Option<Vec<Goal>>, Fault> {
+        let _ = (cx.alloc, env, term);
+        Ok(None)
     }
 
     ghost lawful = { λ ts s f r. IsLawfulHandler-marking s.id.number (certainty_of s.certainty) };

@@ -6,4 +6,5 @@ pub mod Stepping
 pub mod Adding
 pub mod Rows
 pub mod Outliving
+pub mod Owning
 pub mod Stopping

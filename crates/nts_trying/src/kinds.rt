@@ -1,5 +1,5 @@
 //! Which goals the handler's candidates answer.
-ghost use Rattle.std.specs.Prelude.{ℕ, ◌≡◌, ◌↔◌, IsTrue, List, IfSome};
+ghost use Rattle.std.specs.Prelude.{ℕ, ◌≡◌, ◌↔◌, IsTrue, IsNone, List, IfSome};
 ghost use Rattle.nts_model.specs.declared.labels.Variance.{Variance};
 ghost use Rattle.nts_model.specs.Terms.Trees.{Tree};
 ghost use Rattle.nts_model.specs.Derivations.Rules.{goal_kind};
@@ -8,15 +8,18 @@ ghost use Rattle.nts_search.specs.Kinds.{goal_kind_of};
 ghost use Rattle.nts_model.specs.Derivations.Sequents.{HasClosedStatements};
 ghost use Rattle.nts_store.specs.Growth.{tree_at};
 ghost use Rattle.nts_meaning.specs.Evaluation.{IsAskedGoal};
-ghost use Rattle.nts_trying.specs.Rows.{IsRowOf};
-ghost use Rattle.nts_terms.specs.Handles.{HoldsEnv, HoldsGoal};
+ghost use Rattle.nts_trying.specs.Rows.{IsRowOf, SaysOfTrait};
+ghost use Rattle.nts_terms.specs.Handles.{HoldsArgs, HoldsEnv, HoldsGoal};
+ghost use Rattle.nts_terms.specs.Kinds.{StatementFits, tree_of_statement};
+ghost use Rattle.nts_theory.specs.Telling.{IsTraitStatement};
 
 use crate::outlives::{Outlives, outlives_in};
+use crate::own::{OwnGoal, own_goal_in};
 use nts_delegate::GoalHandler;
 use nts_search::CurrentGoalKind;
-use nts_terms::{ClauseKind, Cx, Goal, ParamEnv, PredicateKind};
+use nts_terms::{ClauseKind, Cx, Goal, ParamEnv, PredicateKind, TraitRef};
 
-/// Whether a goal is answered by the handler's candidates: a closed trait goal that binds nothing, and
+/// Whether a goal is answered by the handler's candidates: a closed goal of a trait that binds nothing, and
 /// that has neither aliases nor positions of a canonical value, and each bound variable of which is of the
 /// list of its binder. In its environment, too, no bound variable names a binder that binds nothing.
 #[inline(never)]
@@ -42,15 +45,31 @@ fn is_candidates_goal(cx: &Cx, goal: Goal) -> bool
     if !statements_are_closed(cx, goal.param_env) {
         return false;
     }
-    let PredicateKind::Clause(clause) = predicate.value else {
-        return false;
-    };
-    let ClauseKind::Trait(trait_ref) = clause else {
+    let Some(trait_ref) = trait_of(predicate.value) else {
         return false;
     };
     cx.terms_are_formed();
     let args = cx.nodes.flags(trait_ref.args.node);
     args.escaping.is_none()
+}
+
+/// The trait and its arguments, where a statement says of them that the trait holds, or that it holds as an effect of the host.
+fn trait_of(statement: PredicateKind) -> Option<TraitRef>
+    ensures is { IfSome result (λ r. (ts : List Tree) → SaysOfTrait ts r
+        (tree_of_statement ts statement)) }
+    ensures holds { IfSome result (λ r. (ts : List Tree) → StatementFits ts statement →
+        HoldsArgs ts r.args) }
+    ensures none { IsNone result → (ts : List Tree) → IsTraitStatement (tree_of_statement ts
+        statement) → ⊥ }
+{
+    let PredicateKind::Clause(clause) = statement else {
+        return None;
+    };
+    match clause {
+        ClauseKind::Trait(trait_ref) => Some(trait_ref),
+        ClauseKind::HostEffect(trait_ref) => Some(trait_ref),
+        _ => None,
+    }
 }
 
 /// Whether no bound variable names a binder of the environment that binds nothing.
@@ -74,6 +93,8 @@ pub enum GoalRow {
     Candidates(Goal),
     /// By a region constraint: it says that a type or a region outlives a region.
     Outlives(Goal, Outlives),
+    /// By the engine itself, and what the handler judges.
+    Own(Goal, OwnGoal),
     /// It is ambiguous: nothing answers a goal of its kind, or with its terms.
     Unanswered(Goal),
     /// It is ambiguous: it binds variables, and can't be opened.
@@ -93,6 +114,9 @@ pub fn goal_row(cx: &Cx, opened: Option<Goal>) -> GoalRow
             }
             if let Some(outlives) = outlives_in(cx, goal) {
                 return GoalRow::Outlives(goal, outlives);
+            }
+            if let Some(own) = own_goal_in(cx, goal) {
+                return GoalRow::Own(goal, own);
             }
             GoalRow::Unanswered(goal)
         }

@@ -8,6 +8,7 @@ mod kinds;
 mod leaks;
 mod merged;
 mod outlives;
+mod own;
 mod steps;
 
 pub use binder::enter_forall;
@@ -16,4 +17,5 @@ pub use kinds::{GoalRow, goal_kind, goal_row};
 pub use leaks::check_leaks;
 pub use merged::{keep_response, merge_responses};
 pub use outlives::{Outlives, answer_outlives};
+pub use own::{Judged, OwnGoal, judge};
 pub use steps::{AvailableDepth, Step, depth_below};

@@ -62,7 +62,7 @@ fn outlives_of(statement: PredicateKind) -> Option<Outlives>
 }
 
 /// Whether no bound variable of an environment is without its binder.
-fn is_closed_env(cx: &Cx, env: ParamEnv) -> bool
+pub(crate) fn is_closed_env(cx: &Cx, env: ParamEnv) -> bool
     requires { HoldsEnv cx.now.nodes env }
     ensures { IsTrue result ↔ IsClosedEnv (tree_at cx.now.nodes env.node) }
 {
