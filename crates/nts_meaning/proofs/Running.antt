@@ -3,7 +3,6 @@ use Rattle.std.proofs.Common.{◌≡◌, ◌⊎◌, inl, inr, ⊎_elim, ℕ, zer
 use Rattle.std.proofs.lemmas.List.{take_more}
 use Rattle.nts_model.specs.declared.labels.Sort.{Sort}
 use Rattle.nts_model.specs.declared.labels.Sort.TheVariants as sort
-use Rattle.nts_model.specs.declared.labels.Variance.{Variance}
 use Rattle.nts_model.specs.declared.labels.Relation.{Relation}
 use Rattle.nts_model.specs.declared.labels.Relation.TheVariants as relation
 use Rattle.nts_model.specs.declared.labels.ListHead.{ListHead}
@@ -21,7 +20,7 @@ use Rattle.nts_model.specs.Derivations.Rules.{Mode, Meaning, GoalKind, goal_kind
 use Rattle.nts_model.specs.Derivations.Proofs.{Assumed, passed}
 use Rattle.nts_model.specs.Searching.Stacks.{IsProvedFrom}
 use Rattle.nts_model.specs.Terms.Substitutions.{filled}
-use Rattle.nts_model.specs.Derivations.Handlers.{Handler, meaning, Candidate, certain, AreValuesOf}
+use Rattle.nts_model.specs.Derivations.Handlers.{Candidate, certain, AreValuesOf}
 use Rattle.nts_model.specs.Derivations.Proving as proving
 use Rattle.nts_model.specs.Derivations.Proving.{AreEquated, HoldsEquationAt}
 use Rattle.nts_model.proofs.Tables.Held.{Continues-refl, Continues-trans, HoldsConstraint-continues, HoldsConstraint-with_constraint}
@@ -55,7 +54,7 @@ use Rattle.nts_terms.specs.declared.handles.Goal.{Goal}
 use Rattle.nts_delegate.specs.Candidates.{AreEquations, AreRegionConstraints, AreNested, IsCandidate, AreCandidates}
 use Rattle.nts_certainty.specs.Accesses.{access_of}
 use Rattle.nts_candidates.specs.Offered.{certainty_of, source_of, equation_as, equation_of, hidden_of, constraint_of, premise_of, candidate_of, candidates_of}
-use Rattle.nts_meaning.specs.Meant.{IsServed}
+use Rattle.nts_meaning.specs.Meant.{HoldsSurely}
 use Rattle.nts_meaning.specs.Running.{Stays, EquationHolds, ConstraintHolds, PremiseHolds, EachStays, EquatesEach, Constrains}
 use Rattle.nts_theory.specs.Telling.{IsTermTable}
 use Rattle.nts_meaning.specs.Evaluation.{Goes, AllKnown}
@@ -255,13 +254,11 @@ pub record HasRun (m : Meaning) (mode : Mode) (z : GoalKind) (A : List Assumed) 
   pub constraints : EachStays c (ConstraintHolds vs) x.constraints
   pub goals : EachStays c (PremiseHolds m mode z A vs) x.goals
 
--- so a candidate that is offered holds
-pub has_run : (h : Handler) (v : ℕ → List Variance) (mode : Mode) (A : List Assumed) (c : Content) (x : Candidate) (vs : List Tree) (e g : Tree) → IsTermTable c → Among (h.offers mode e g) x → HasRun (meaning h v) mode (goal_kind (meaning h v) g) A c x vs → IsServed h (meaning h v) mode A c e g
-has_run h v mode A c x vs e g t offered run =
+-- so the candidate holds
+pub has_run : (m : Meaning) (mode : Mode) (A : List Assumed) (c : Content) (x : Candidate) (vs : List Tree) (g : Tree) → IsTermTable c → HasRun m mode (goal_kind m g) A c x vs → HoldsSurely m mode A c g x
+has_run m mode A c x vs g t run =
     let same = Continues-refl c t.sound in
     record {
-      candidate = x;
-      offered = offered;
       sure = run.sure;
       holds = record {
         chosen = vs;
@@ -269,7 +266,7 @@ has_run h v mode A c x vs e g t offered run =
         known = λ v i. one_known c vs v run.known i;
         equations = λ q i. (let s = each_stays c (EquationHolds vs) x.equations q run.equations i in s.later c t same);
         constraints = λ q i. (let s = each_stays c (ConstraintHolds vs) x.constraints q run.constraints i in s.later c t same);
-        goals = λ q i. (let s = each_stays c (PremiseHolds (meaning h v) mode (goal_kind (meaning h v) g) A vs) x.goals q run.goals i in s.later c t same);
+        goals = λ q i. (let s = each_stays c (PremiseHolds m mode (goal_kind m g) A vs) x.goals q run.goals i in s.later c t same);
       };
     }
 

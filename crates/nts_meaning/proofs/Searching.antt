@@ -10,7 +10,7 @@ use Rattle.nts_model.specs.Derivations.Sequents.{PathKind, coinductive, unknown,
 use Rattle.nts_model.specs.Derivations.Rules.{Meaning, Mode, goal_kind, step_kind}
 use Rattle.nts_model.specs.Derivations.Proving.{sequent_at}
 use Rattle.nts_model.specs.Derivations.Proofs.{Assumed, passed}
-use Rattle.nts_model.specs.Derivations.Handlers.{Handler}
+use Rattle.nts_model.specs.Derivations.Handlers.{Handler, Candidate}
 use Rattle.nts_model.specs.Searching.Stacks.{IsProvedFrom, IsReadSince, AreReadSince, assumptions, path_kind}
 use Rattle.nts_theory.proofs.Searching.Stacks.{read_since_covers}
 use Rattle.nts_model.specs.Canonical.Inputs.{PositionKind, CanonicalInput as Form}
@@ -33,7 +33,7 @@ use Rattle.nts_response.specs.declared.types.Response.{Response}
 use Rattle.nts_response.specs.Applicable.{IsOverSorts, IsHiddenOver, IsGoalOver, IsApplicable, response_sorts}
 use Rattle.nts_response.proofs.Each.{response_kept}
 use Rattle.nts_meaning.specs.Answering.{IsFormOf, IsQueryInput, IsAnswerTo, TellsNoMore}
-use Rattle.nts_meaning.specs.Meant.{IsServed}
+use Rattle.nts_meaning.specs.Meant.{IsServed, HoldsSurely}
 use Rattle.nts_meaning.specs.Running.{Stays}
 use Rattle.nts_meaning.specs.Telling.{QueryTells}
 use Rattle.nts_candidates.specs.Offered.{path_kind_of}
@@ -241,12 +241,10 @@ none_passed forced_ambiguity = refl
 pub stays_more : {c : Content} {m : Meaning} {mode : Mode} {A B : List Assumed} {e p : Tree} → Covers A B → Stays c (λ d. IsProvedFrom m mode A d e p) → Stays c (λ d. IsProvedFrom m mode B d e p)
 stays_more {c} {m} {mode} {A} {B} {e} {p} f s = record { later = λ d t k. derived_more m mode A B (sequent_at d e p) f (s.later d t k) }
 
-pub served_more : {h : Handler} {m : Meaning} {mode : Mode} {A B : List Assumed} {c : Content} {e g : Tree} → Covers A B → IsServed h m mode A c e g → IsServed h m mode B c e g
-served_more {h} {m} {mode} {A} {B} {c} {e} {g} f s =
+pub held_more : {m : Meaning} {mode : Mode} {A B : List Assumed} {c : Content} {g : Tree} {d : Candidate} → Covers A B → HoldsSurely m mode A c g d → HoldsSurely m mode B c g d
+held_more {m} {mode} {A} {B} {c} {g} f s =
     let x = s.holds in
     record {
-      candidate = s.candidate;
-      offered = s.offered;
       sure = s.sure;
       holds = record {
         chosen = x.chosen;
@@ -260,6 +258,11 @@ served_more {h} {m} {mode} {A} {B} {c} {e} {g} f s =
             record { environment = y.environment; predicate = y.predicate; proved = derived_more m mode (passed k A) (passed k B) _ (covers_passed k A B f) y.proved });
       };
     }
+
+pub served_more : {h : Handler} {m : Meaning} {mode : Mode} {A B : List Assumed} {c : Content} {e g : Tree} → Covers A B → IsServed h m mode A c e g → IsServed h m mode B c e g
+served_more {h} {m} {mode} {A} {B} {c} {e} {g} f s =
+    let x : HoldsSurely m mode B c g s.candidate = held_more f (record { sure = s.sure; holds = s.holds }) in
+    record { candidate = s.candidate; offered = s.offered; sure = x.sure; holds = x.holds }
 
 -- what provisional answers tell
 abbrev IsToldAt : Handler → List Tree → StackEntry → Type 0

@@ -1,7 +1,7 @@
 -- Goals of traits that are asked of a handler.
 use Rattle.std.proofs.Common.{◌≡◌, inl, inr, ℕ, suc, ◌<◌, ◌≤◌, ◌||◌, Bool, true, false, List, is_some, refl, sym, ap, ◌∙◌, subst, arith}
 use Rattle.std.specs.Prelude.{◌≢◌, if◌then◌else◌}
-use Rattle.nts_model.specs.Derivations.Rules.{Meaning, coinductive_trait, other_goal, normalization, statement_kind, statement_of, goal_kind}
+use Rattle.nts_model.specs.Derivations.Rules.{Meaning, coinductive_trait, other_goal, normalization, statement_kind, statement_of, goal_kind, IsHandlers}
 use Rattle.nts_search.specs.declared.kinds.CurrentGoalKind.{CurrentGoalKind}
 use Rattle.nts_search.specs.declared.kinds.CurrentGoalKind.TheVariants as kinds
 use Rattle.nts_search.specs.Kinds.{goal_kind_of}
@@ -16,16 +16,14 @@ use Rattle.nts_store.specs.declared.type_flags.TypeFlags.{TypeFlags}
 use Rattle.nts_terms.specs.declared.handles.Binder.{Binder}
 use Rattle.nts_terms.specs.declared.handles.Goal.{Goal}
 use Rattle.nts_terms.specs.declared.handles.TraitRef.{TraitRef}
-use Rattle.nts_terms.specs.declared.kinds.ClauseKind.TheVariants as clause
 use Rattle.nts_terms.specs.declared.kinds.PredicateKind.{PredicateKind}
-use Rattle.nts_terms.specs.declared.kinds.PredicateKind.TheVariants as predicate
 use Rattle.nts_store.specs.TypeFlags.{flags_of}
 use Rattle.nts_store.specs.Formed.{AreFormed}
 use Rattle.nts_store.specs.Growth.{tree_at, Extends}
 use Rattle.nts_terms.specs.Kinds.{tree_of_statement, tree_of_predicate, PredicateFits}
 use Rattle.nts_terms.proofs.Standing.{vars_tree}
 use Rattle.nts_theory.specs.Telling.{IsTraitStatement, IsTraitGoal}
-use Rattle.nts_meaning.specs.Evaluation.{IsAskedGoal}
+use Rattle.nts_meaning.specs.Evaluation.{SaysOfTrait, NormalizesNone, IsAskedGoal}
 use Rattle.nts_delegate.specs.Candidates.{IsAskedIn}
 use Rattle.nts_terms.specs.Handles.{HoldsGoal}
 use Rattle.nts_meaning.proofs.Evaluating.{HoldsGoal-extended}
@@ -54,6 +52,12 @@ closed_all e i n h ps p is found =
     let same : children e ≡ ps = ap children is in
     row_closed ps p (subst (λ r. AreClosedBelow (row_length r) r) same (λ j l. h j (omega (arith, l, n)))) found
 
+-- what is so of both statements of a trait
+pub of_trait : (ts : List Tree) (r : TraitRef) (Q : Tree → Type 0) → ((i : ℕ) → Q (node (label.Clause (clause_head.Trait r.def_id.number)) (more (tree_at ts r.args.node) empty))) → ((i : ℕ) → Q (node (label.Clause (clause_head.HostEffect r.def_id.number)) (more (tree_at ts r.args.node) empty)))
+    → (s : Tree) → SaysOfTrait ts r s → Q s
+of_trait ts r Q f g s (inl e) = subst Q (sym e) (f 0)
+of_trait ts r Q f g s (inr e) = subst Q (sym e) (g 0)
+
 -- what the tests of a goal see
 pub record AreTests (ts : List Tree) (g : Goal) (b : Binder PredicateKind) (r : TraitRef) (env goal args : TypeFlags) : Type 0 where
   pub formed : AreFormed ts
@@ -62,7 +66,7 @@ pub record AreTests (ts : List Tree) (g : Goal) (b : Binder PredicateKind) (r : 
   pub fits : PredicateFits ts b
   pub row : IsRow (children (tree_at ts b.vars.node))
   pub none : row_length (children (tree_at ts b.vars.node)) ≡ 0
-  pub is_trait : b.value ≡ predicate.Clause (clause.Trait r)
+  pub is_trait : SaysOfTrait ts r (tree_of_statement ts b.value)
   pub env_facts : env ≡ flags_of (tree_at ts g.param_env.node)
   pub goal_facts : goal ≡ flags_of (tree_at ts g.predicate.node)
   pub args_facts : args ≡ flags_of (tree_at ts r.args.node)
@@ -78,11 +82,9 @@ pub record AreTests (ts : List Tree) (g : Goal) (b : Binder PredicateKind) (r : 
 
 trait_is_asked : (ts : List Tree) (g : Goal) (b : Binder PredicateKind) (r : TraitRef) (env goal args : TypeFlags) → AreTests ts g b r env goal args → IsAskedIn ts g
 trait_is_asked ts g b r env goal args t =
-    let statement = node (label.Clause (clause_head.Trait r.def_id.number)) (more (tree_at ts r.args.node) empty) in
+    let statement = tree_of_statement ts b.value in
     let binder : tree_at ts b.vars.node ≡ no_sorts = vars_tree (tree_at ts b.vars.node) t.fits.0.fits ∙ ap (node (label.List list.Sorts)) (row_of_none (children (tree_at ts b.vars.node)) t.row t.none) in
-    let says : tree_of_statement ts b.value ≡ node (label.Clause (clause_head.Trait r.def_id.number)) (more (tree_at ts r.args.node) empty) = ap (tree_of_statement ts) t.is_trait in
-    let is : tree_at ts g.predicate.node ≡ unbound (node (label.Clause (clause_head.Trait r.def_id.number)) (more (tree_at ts r.args.node) empty)) =
-    t.says ∙ (λ i. node (label.List list.Binder) (more (binder i) (more (says i) empty))) in
+    let is : tree_at ts g.predicate.node ≡ unbound (tree_of_statement ts b.value) = t.says ∙ (λ i. node (label.List list.Binder) (more (binder i) (more (tree_of_statement ts b.value) empty))) in
     let env_tree_closed : IsClosed (tree_at ts g.param_env.node) = closed_by_facts (tree_at ts g.param_env.node) env t.env_facts t.env_closed in
     let args_tree_closed : IsClosed (tree_at ts r.args.node) = closed_by_facts (tree_at ts r.args.node) args t.args_facts t.args_closed in
     let env_none : any_label is_canonical (tree_at ts g.param_env.node) ≡ false = sym (ap (λ f. f.has_canonical) t.env_facts) ∙ t.env_names in
@@ -93,9 +95,9 @@ trait_is_asked ts g b r env goal args t =
       asked = record {
         statement = statement;
         binds_nothing = is;
-        handlers = tt;
+        handlers = of_trait ts r IsHandlers (λ i. tt) (λ i. tt) (tree_of_statement ts b.value) t.is_trait;
         formed = (t.formed g.param_env.node h.env.within, (t.formed g.predicate.node h.predicate.within, tt));
-        closed = (env_tree_closed, ((tt, (args_tree_closed, tt)), tt));
+        closed = (env_tree_closed, (of_trait ts r IsClosed (λ i. (tt, (args_tree_closed, tt))) (λ i. (tt, (args_tree_closed, tt))) (tree_of_statement ts b.value) t.is_trait, tt));
         no_positions = or_false (any_label is_canonical (tree_at ts g.param_env.node)) (any_label is_canonical (tree_at ts g.predicate.node) || false) env_none (or_false (any_label is_canonical (tree_at ts g.predicate.node)) false goal_none refl);
         well_bound = (t.env_well_bound, (t.goal_well_bound, tt));
         statements = t.statements;
@@ -112,7 +114,7 @@ trait_plain ts g b r env goal args t =
     let env_none : any_label is_alias (tree_at ts g.param_env.node) ≡ false = sym (ap (λ f. f.has_alias) t.env_facts) ∙ t.env_plain in
     let goal_none : any_label is_alias (tree_at ts g.predicate.node) ≡ false = sym (ap (λ f. f.has_alias) t.goal_facts) ∙ t.goal_plain in
     record {
-      statement = subst (λ v. IsTraitStatement (statement_of v)) (sym (t.says ∙ ap (λ v. node (label.List list.Binder) (more (tree_at ts b.vars.node) (more (tree_of_statement ts v) empty))) t.is_trait)) tt;
+      statement = subst (λ v. IsTraitStatement (statement_of v)) (sym t.says) (of_trait ts r IsTraitStatement (λ i. tt) (λ i. tt) (tree_of_statement ts b.value) t.is_trait);
       no_alias = or_false (any_label is_alias (tree_at ts g.param_env.node)) (any_label is_alias (tree_at ts g.predicate.node) || false) env_none (or_false (any_label is_alias (tree_at ts g.predicate.node)) false goal_none refl);
     }
 
@@ -121,7 +123,7 @@ trait_asked ts g b r env goal args t =
     record {
       asked = trait_is_asked ts g b r env goal args t;
       trait_goal = trait_plain ts g b r env goal args t;
-      plain = λ z. subst (λ v. statement_kind z (statement_of v) ≢ normalization) (sym (t.says ∙ ap (λ v. node (label.List list.Binder) (more (tree_at ts b.vars.node) (more (tree_of_statement ts v) empty))) t.is_trait)) (trait_kind (z r.def_id.number));
+      plain = λ z. subst (λ v. statement_kind z (statement_of v) ≢ normalization) (sym t.says) (of_trait ts r (λ v. statement_kind z v ≢ normalization) (λ i. trait_kind (z r.def_id.number)) (λ i e. (let x : other_goal ≡ normalization = e in cc x)) (tree_of_statement ts b.value) t.is_trait);
     }
 
 -- a goal that is asked, in a store that has grown
@@ -143,5 +145,9 @@ IsAskedGoal-extended {a} {b} {g} e h =
     }
 
 -- what kind of goal it is
-pub kind_asked : {a : List Tree} {g : Goal} (k : CurrentGoalKind) (m : Meaning) → goal_kind_of k ≡ goal_kind m (tree_at a g.predicate.node) → IsAskedGoal a g → k ≢ kinds.NormalizesTo
-kind_asked k m same h = λ e. h.plain m.is_coinductive (sym same ∙ ap goal_kind_of e)
+pub kind_asked : (a : List Tree) (g : Goal) (k : CurrentGoalKind) (m : Meaning) → goal_kind_of k ≡ goal_kind m (tree_at a g.predicate.node) → NormalizesNone a g → k ≢ kinds.NormalizesTo
+kind_asked a g k m same h = λ e. h m.is_coinductive (sym same ∙ ap goal_kind_of e)
+
+-- .. in a store that has grown
+pub none-extended : {a b : List Tree} {g : Goal} → Extends a b → HoldsGoal a g → NormalizesNone a g → NormalizesNone b g
+none-extended {a} {b} {g} e k h = λ z. subst (λ v. statement_kind z (statement_of v) ≢ normalization) (sym (e.kept g.predicate.node k.predicate.within)) (h z)

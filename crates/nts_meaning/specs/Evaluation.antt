@@ -1,14 +1,15 @@
 -- What the steps of an evaluation keep.
-use Rattle.std.specs.Prelude.{◌≡◌, ◌≢◌, ℕ, Bool, true, false, List, [], ◌∷◌, map, Some}
+use Rattle.std.specs.Prelude.{◌≡◌, ◌≢◌, ◌⊎◌, ℕ, Bool, true, false, List, [], ◌∷◌, map, Some}
 use Rattle.nts_model.specs.declared.labels.VariableKind.{VariableKind}
 use Rattle.nts_model.specs.declared.labels.VariableKind.TheVariants as variable
 use Rattle.nts_model.specs.declared.labels.Leaf.TheVariants as leaf
+use Rattle.nts_model.specs.declared.labels.ClauseHead.TheVariants as clause
 use Rattle.nts_model.specs.declared.labels.PredicateHead.{PredicateHead}
 use Rattle.nts_model.specs.declared.labels.PredicateHead.TheVariants as predicate
 use Rattle.nts_model.specs.declared.labels.Label.{Label}
 use Rattle.nts_model.specs.declared.labels.Label.TheVariants as label
 use Rattle.nts_model.specs.declared.labels.Sort.{Sort}
-use Rattle.nts_model.specs.Terms.Trees.{Tree, kind_of, of_sort, IsClosed, any_label}
+use Rattle.nts_model.specs.Terms.Trees.{Tree, empty, more, node, kind_of, of_sort, IsClosed, any_label}
 use Rattle.nts_model.specs.Tables.Contents.{Content}
 use Rattle.nts_model.specs.Tables.Resolving.{Knows, deeply_resolved, IsSound}
 use Rattle.nts_model.specs.Tables.Holding.{Continues}
@@ -19,6 +20,7 @@ use Rattle.nts_model.specs.Derivations.Rules.{normalization, statement_kind, sta
 use Rattle.nts_model.specs.Tables.Passing.{TreePasses, PassesQueries}
 use Rattle.nts_store.specs.declared.nodes.NodeId.{NodeId}
 use Rattle.nts_terms.specs.declared.handles.Goal.{Goal}
+use Rattle.nts_terms.specs.declared.handles.TraitRef.{TraitRef}
 use Rattle.nts_terms.specs.declared.cx.Cx.{Cx}
 use Rattle.nts_store.specs.Growth.{tree_at, AllIn, Extends}
 use Rattle.nts_terms.specs.Rest.{KeepsRest}
@@ -80,11 +82,21 @@ asked_terms ts g = tree_at ts g.param_env.node ∷ tree_at ts g.predicate.node �
 pub record AsksOnly (a b : List Tree) (g h : Goal) : Type 0 where
   pub labels : (P : Label → Bool) → PassesQueries P → ((t : Tree) → Among (asked_terms a g) t → TreePasses P t) → (t : Tree) → Among (asked_terms b h) t → TreePasses P t
 
+-- a statement says of a trait and its arguments that the trait holds, or that it holds as an effect of the host
+abbrev pub SaysOfTrait : List Tree → TraitRef → Tree → Type 0
+SaysOfTrait ts r s =
+    (s ≡ node (label.Clause (clause.Trait r.def_id.number)) (more (tree_at ts r.args.node) empty))
+    ⊎ (s ≡ node (label.Clause (clause.HostEffect r.def_id.number)) (more (tree_at ts r.args.node) empty))
+
+-- a goal that normalizes no alias
+abbrev pub NormalizesNone : List Tree → Goal → Type 0
+NormalizesNone ts g = (is_coinductive : ℕ → Bool) → statement_kind is_coinductive (statement_of (tree_at ts g.predicate.node)) ≢ normalization
+
 -- a goal that is asked of a handler: a trait goal without aliases. It normalizes none
 pub record IsAskedGoal (ts : List Tree) (g : Goal) : Type 0 where
   pub asked : IsAskedIn ts g
   pub trait_goal : IsTraitGoal (tree_at ts g.param_env.node) (tree_at ts g.predicate.node)
-  pub plain : (is_coinductive : ℕ → Bool) → statement_kind is_coinductive (statement_of (tree_at ts g.predicate.node)) ≢ normalization
+  pub plain : NormalizesNone ts g
 
 -- a type variable
 abbrev pub is_type_variable_kind : VariableKind → Bool

@@ -74,8 +74,15 @@ AreOffered h mode ts g cs = (x : Candidate) → Among (candidates_of ts cs) x �
 abbrev pub IsOffered : Handler → TypingMode → List Tree → Goal → CandidateData → Type 0
 IsOffered h mode ts g c = Among (offers_of h (mode_of mode) ts g) (candidate_of ts c)
 
--- one of the candidates that a handler offers for a goal is certain, and holds; its goals are proved from what is assumed at the
--- goal, after a step
+-- a candidate for the goal g is certain, and holds; its goals are proved from what is assumed at the goal, after a step
+pub record HoldsSurely (m : Meaning) (mode : Mode) (A : List Assumed) (c : Content) (g : Tree) (x : Candidate) : Type 0 where
+  pub sure : x.certainty ≡ certain
+  pub holds : HoldsCandidateFrom m mode A c g x
+
+abbrev pub HoldsSince : {ready : List Tree → Type 0} {now : Cx} → (List Tree → Handler) → Since ready now → TypingMode → List Assumed → List Tree → Table → Tree → Candidate → Type 0
+HoldsSince handler s mode A ts t g x = HoldsSurely (meaning_since handler s) (mode_of mode) A (content_of ts t.entries) g x
+
+-- one of the candidates that a handler offers for a goal does
 pub record IsServed (h : Handler) (m : Meaning) (mode : Mode) (A : List Assumed) (c : Content) (e g : Tree) : Type 0 where
   pub candidate : Candidate
   pub offered : Among (h.offers mode e g) candidate
