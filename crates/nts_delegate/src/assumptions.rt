@@ -15,8 +15,8 @@ use nts_model::{BoundVarIndexKind, Label, Sort};
 use nts_replacing::{Place, ReplacerUnder, replace_under};
 use nts_store::{Fault, NodeId, Nodes, is_closed_under};
 use nts_terms::{
-    AliasTerm, BoundVars, Const, Cx, GenericArgs, Goal, ParamEnv, Predicate, Term, TraitId, TraitRef,
-    TypingMode,
+    AliasTerm, BoundVars, Const, Cx, GenericArgs, Goal, ParamEnv, Predicate, Term, TraitId,
+    TraitRef, TypingMode,
 };
 use std::alloc::{AllocError, Global};
 
