@@ -14,4 +14,5 @@ pub mod LeftOut
 pub mod Instances
 pub mod Unasked
 pub mod Outliving
+pub mod Owning
 mod OutlivesExamples

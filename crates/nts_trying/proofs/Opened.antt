@@ -2,7 +2,7 @@
 use Rattle.std.proofs.Common.{◌≡◌, ◌⊎◌, inl, inr, ℕ, ◌+◌, Bool, true, false, List, [], refl, sym, ap, ◌∙◌, subst}
 use Rattle.std.specs.Prelude.{if◌then◌else◌, Option, Some, None, IfSome, Result, Ok, Err, OnOk}
 use Rattle.nts_model.specs.Derivations.Proofs.{Assumed}
-use Rattle.nts_model.specs.Searching.Stacks.{IsProvedFrom}
+use Rattle.nts_model.specs.Searching.Stacks.{IsProvedFrom, HoldsCandidateFrom}
 use Rattle.nts_model.specs.declared.labels.Label.{Label}
 use Rattle.nts_model.specs.Terms.Trees.{Tree, IsClosed, IsFormed}
 use Rattle.nts_model.specs.Tables.Contents.{Content, in_universe}
@@ -16,7 +16,7 @@ use Rattle.nts_model.specs.Tables.Resolving.{Knows}
 use Rattle.nts_model.specs.Lists.{Among}
 use Rattle.nts_model.specs.Derivations.Rules.{Mode, Meaning}
 use Rattle.nts_model.specs.Derivations.Handlers as handlers
-use Rattle.nts_model.specs.Derivations.Handlers.{Handler, meaning, IsLawfulHandler}
+use Rattle.nts_model.specs.Derivations.Handlers.{Handler, Candidate, meaning, IsLawfulHandler}
 use Rattle.nts_model.proofs.Tables.Slots.{KeepsKinds, Knows-kept}
 use Rattle.nts_model.proofs.Tables.Fitting.{IsClosed-under}
 use Rattle.nts_theory.proofs.Refutation.OpenedProofs.{by_entered_candidate}
@@ -46,14 +46,19 @@ use Rattle.nts_trying.specs.Opening.{IsOpenedTo}
 use Rattle.nts_meaning.specs.Meant.{IsServed, offers_of, IsTold, IsRefuted, CandidatesTell}
 use Rattle.nts_meaning.proofs.Evaluating.{Knows-goes, offers-kept}
 use Rattle.nts_meaning.proofs.Running.{term_table}
-use Rattle.nts_meaning.specs.Telling.{Outcomes}
-use Rattle.nts_theory.specs.Telling.{IsPlainResponse, Verdict, IsReady, IsTraitGoal, StandsForAll, SaysRecorded}
-use Rattle.nts_theory.specs.Telling.Tells.{tells_nothing, tells_one, tells_outlives}
+use Rattle.nts_meaning.specs.Telling.{Outcomes, Replies, Fails}
+use Rattle.nts_theory.specs.Telling.{IsPlainResponse, Verdict, IsReady, IsTraitGoal, StandsForAll, SaysRecorded, IsTermTable, IsResponseOf, IsOwnWayIn}
+use Rattle.nts_theory.specs.Affirming.{SaysAffirmed, IsDenied, HasOwnWay}
+use Rattle.nts_theory.proofs.Aliases.ByEngine.{IsClosedThere, affirmed_proved}
+use Rattle.nts_theory.proofs.Aliases.ByOwnWay.{own_way_proved}
+use Rattle.nts_model.specs.Tables.Levels.{IsLevelled, AreRegionsLevelled}
+use Rattle.nts_model.specs.Derivations.Proving.{IsTermOf}
+use Rattle.nts_theory.specs.Telling.Tells.{tells_nothing, tells_one, tells_outlives, tells_affirmed, tells_own}
 use Rattle.nts_theory.specs.Outliving.{IsOutlives}
 use Rattle.nts_trying.specs.Outliving.{IsClosedEnv, IsOutlivesGoal, constraint_at, HoldsIn}
 use Rattle.nts_trying.specs.declared.outlives.Outlives.{Outlives}
 use Rattle.nts_trying.proofs.Outliving.{outlives_proved}
-use Rattle.nts_theory.specs.Telling.Refutes.{all_fail}
+use Rattle.nts_theory.specs.Telling.Refutes.{all_fail, is_denied, own_fails}
 use Rattle.nts_meaning.specs.Answering.{is_yes, verdict_at}
 use Rattle.nts_model.specs.Answers.Applying.{IsProperContent}
 use Rattle.nts_table.proofs.TermTables.{proper_content}
@@ -171,60 +176,148 @@ module _ {a b : List Tree} {t u : Table} {g o : Goal} (posed : IsPosed a t g) (o
   pub labels_entered : BringsOnly (asked_terms a g) before there
   labels_entered = record { labels = λ P q m k. passes_entered P k }
 
+  -- the terms of the goal in a later store and table
+  pub record AreThrough (d : List Tree) (v : Table) : Type 0 where
+    pub terms : IsTermTable (content_of d v.entries)
+    pub levelled : IsLevelled (content_of d v.entries)
+    pub regions : AreRegionsLevelled (content_of d v.entries)
+    pub env_before : IsTermOf before (tree_at a g.param_env.node)
+    pub goal_before : IsTermOf before (tree_at a g.predicate.node)
+    pub env_now : IsTermOf (content_of d v.entries) (tree_at a g.param_env.node)
+    pub goal_now : IsTermOf (content_of d v.entries) (tree_at a g.predicate.node)
+    pub opened_now : IsTermOf (content_of d v.entries) (opened_in before (tree_at a g.predicate.node))
+    pub env_same : tree_at d g.param_env.node ≡ tree_at a g.param_env.node
+    pub goal_same : tree_at d g.predicate.node ≡ tree_at a g.predicate.node
+    pub opened_env : tree_at d o.param_env.node ≡ tree_at a g.param_env.node
+    pub opened_goal : tree_at d o.predicate.node ≡ opened_in before (tree_at a g.predicate.node)
+
+  through : {d : List Tree} {v : Table} → IsPosed b u o → Goes b d u v → Continues before (content_of d v.entries) → AreFormed d → AreThrough d v
+  through {d} {v} there_posed goes later formed =
+      let c = content_of d v.entries in
+      let proper = goes.table.now.proper in
+      let solvable = proper.solvable in
+      let e = tree_at a g.param_env.node in
+      let p = tree_at a g.predicate.node in
+      let ad = Extends-trans up goes.extends in
+      let env : tree_at d g.param_env.node ≡ e = ad.kept g.param_env.node posed.holds.env.within in
+      let pred : tree_at d g.predicate.node ≡ p = ad.kept g.predicate.node posed.holds.predicate.within in
+      let opred : tree_at d o.predicate.node ≡ opened_in before p = goes.extends.kept o.predicate.node there_posed.holds.predicate.within ∙ opens.predicate in
+      let fe : IsFormed e = subst IsFormed env (formed g.param_env.node (IsIn-extended ad g.param_env.node posed.holds.env.within)) in
+      let fp : IsFormed p = subst IsFormed pred (formed g.predicate.node (IsIn-extended ad g.predicate.node posed.holds.predicate.within)) in
+      let fo : IsFormed (opened_in before p) = subst IsFormed opred (formed o.predicate.node (IsIn-extended goes.extends o.predicate.node there_posed.holds.predicate.within)) in
+      let grown : KeepsKinds before c = record { grows = later.grows; kinds = later.kinds } in
+      record {
+        terms = term_table formed goes.table;
+        levelled = solvable.levelled;
+        regions = proper.regions;
+        env_before = record { knows = posed.knows.env; formed = fe };
+        goal_before = record { knows = posed.knows.predicate; formed = fp };
+        env_now = record { knows = Knows-kept before c e grown posed.knows.env; formed = fe };
+        goal_now = record { knows = Knows-kept before c p grown posed.knows.predicate; formed = fp };
+        opened_now = record { knows = subst (Knows c) opens.predicate (Knows-goes (tree_at b o.predicate.node) goes there_posed.knows.predicate); formed = fo };
+        env_same = env;
+        goal_same = pred;
+        opened_env = goes.extends.kept o.param_env.node there_posed.holds.env.within ∙ environment_same;
+        opened_goal = opred;
+      }
+
+  -- what is proved of its trees is proved of the goal
+  of_goal : (m : Meaning) (mode : Mode) (A : List Assumed) {d : List Tree} {v : Table} → AreThrough d v → IsProvedFrom m mode A (content_of d v.entries) (tree_at a g.param_env.node) (tree_at a g.predicate.node)
+      → IsProvedFrom m mode A (content_of d v.entries) (tree_at d g.param_env.node) (tree_at d g.predicate.node)
+  of_goal m mode A {d} {v} t proved =
+      let c = content_of d v.entries in
+      subst (λ z. IsProvedFrom m mode A c z (tree_at d g.predicate.node)) (sym t.env_same) (subst (λ z. IsProvedFrom m mode A c (tree_at a g.param_env.node) z) (sym t.goal_same) proved)
+
   -- a certain candidate for the opened goal proves the goal
   pub proved_through : (h : Handler) (V : ℕ → List Variance) (mode : Mode) (A : List Assumed) {d : List Tree} {v : Table} → IsPosed b u o → IsAskedIn b o → Goes b d u v → Continues before (content_of d v.entries) → AreFormed d → IsLawfulHandler h
       → IsServed h (meaning h V) mode A (content_of d v.entries) (tree_at d o.param_env.node) (tree_at d o.predicate.node) → IsProvedFrom (meaning h V) mode A (content_of d v.entries) (tree_at d g.param_env.node) (tree_at d g.predicate.node)
   proved_through h V mode A {d} {v} there_posed asked goes later formed law served =
       let c = content_of d v.entries in
-      let terms = term_table formed goes.table in
-      let proper = goes.table.now.proper in
-      let solvable = proper.solvable in
+      let t = through there_posed goes later formed in
+      let terms = t.terms in
       let e = tree_at a g.param_env.node in
       let p = tree_at a g.predicate.node in
-      let ad = Extends-trans up goes.extends in
-      let env : tree_at d g.param_env.node ≡ e = ad.kept g.param_env.node posed.holds.env.within in
-      let pred : tree_at d g.predicate.node ≡ p = ad.kept g.predicate.node posed.holds.predicate.within in
-      let oenv : tree_at d o.param_env.node ≡ e = goes.extends.kept o.param_env.node there_posed.holds.env.within ∙ environment_same in
-      let opred : tree_at d o.predicate.node ≡ opened_in before p = goes.extends.kept o.predicate.node there_posed.holds.predicate.within ∙ opens.predicate in
-      let fe : IsFormed e = subst IsFormed env (formed g.param_env.node (IsIn-extended ad g.param_env.node posed.holds.env.within)) in
-      let fp : IsFormed p = subst IsFormed pred (formed g.predicate.node (IsIn-extended ad g.predicate.node posed.holds.predicate.within)) in
-      let fo : IsFormed (opened_in before p) = subst IsFormed opred (formed o.predicate.node (IsIn-extended goes.extends o.predicate.node there_posed.holds.predicate.within)) in
-      let grown : KeepsKinds before c = record { grows = later.grows; kinds = later.kinds } in
-      let ke : Knows c e = Knows-kept before c e grown posed.knows.env in
-      let kp : Knows c p = Knows-kept before c p grown posed.knows.predicate in
-      let ko : Knows c (opened_in before p) = subst (Knows c) opens.predicate (Knows-goes (tree_at b o.predicate.node) goes there_posed.knows.predicate) in
       let ask : handlers.IsAsked e (opened_in before p) = subst (λ z. handlers.IsAsked e z) opens.predicate (subst (λ z. handlers.IsAsked z (tree_at b o.predicate.node)) environment_same asked.asked) in
-      let x : IsServed h (meaning h V) mode A c e (opened_in before p) = subst (λ z. IsServed h (meaning h V) mode A c e z) opred (subst (λ z. IsServed h (meaning h V) mode A c z (tree_at d o.predicate.node)) oenv served) in
-      let current = posed.table.now.proper.current in
-      let proved = by_entered_candidate h V mode A c terms.sound terms.values terms.constraints before e p current later solvable.levelled proper.regions (record { knows = posed.knows.env; formed = fe }) (record { knows = posed.knows.predicate; formed = fp }) (goal_closed before e p opens.closed ask) ask
-      (record { knows = ke; formed = fe }) (record { knows = kp; formed = fp }) (record { knows = ko; formed = fo }) x.candidate law x.offered x.sure x.holds in
-      subst (λ z. IsProvedFrom (meaning h V) mode A c z (tree_at d g.predicate.node)) (sym env) (subst (λ z. IsProvedFrom (meaning h V) mode A c e z) (sym pred) proved)
+      let x : IsServed h (meaning h V) mode A c e (opened_in before p) = subst (λ z. IsServed h (meaning h V) mode A c e z) t.opened_goal (subst (λ z. IsServed h (meaning h V) mode A c z (tree_at d o.predicate.node)) t.opened_env served) in
+      of_goal (meaning h V) mode A t
+      (by_entered_candidate h V mode A c terms.sound terms.values terms.constraints before e p posed.table.now.proper.current later t.levelled t.regions t.env_before t.goal_before (goal_closed before e p opens.closed ask) ask t.env_now t.goal_now t.opened_now x.candidate law x.offered x.sure x.holds)
+
+  -- an environment without bound variables that are without their binders
+  closed_there : IsClosedEnv (tree_at b o.param_env.node) → IsClosedThere (tree_at a g.param_env.node)
+  closed_there env = (let x : IsClosedEnv (tree_at a g.param_env.node) = subst IsClosedEnv environment_same env in record { closed = x.closed; statements = x.statements })
 
   -- where the table holds what the opened goal says, the goal is proved
   pub outlives_through : (m : Meaning) (mode : Mode) (A : List Assumed) {d : List Tree} {v : Table} (x : Outlives) → IsPosed b u o → IsOutlivesGoal b o x → Goes b d u v → Continues before (content_of d v.entries) → AreFormed d → HoldsIn (constraint_at b x) d v
       → IsProvedFrom m mode A (content_of d v.entries) (tree_at d g.param_env.node) (tree_at d g.predicate.node)
   outlives_through m mode A {d} {v} x there_posed says goes later formed held =
-      let c = content_of d v.entries in
-      let terms = term_table formed goes.table in
-      let proper = goes.table.now.proper in
-      let solvable = proper.solvable in
-      let e = tree_at a g.param_env.node in
-      let p = tree_at a g.predicate.node in
-      let ad = Extends-trans up goes.extends in
-      let env : tree_at d g.param_env.node ≡ e = ad.kept g.param_env.node posed.holds.env.within in
-      let pred : tree_at d g.predicate.node ≡ p = ad.kept g.predicate.node posed.holds.predicate.within in
-      let opred : tree_at d o.predicate.node ≡ opened_in before p = goes.extends.kept o.predicate.node there_posed.holds.predicate.within ∙ opens.predicate in
-      let fe : IsFormed e = subst IsFormed env (formed g.param_env.node (IsIn-extended ad g.param_env.node posed.holds.env.within)) in
-      let fp : IsFormed p = subst IsFormed pred (formed g.predicate.node (IsIn-extended ad g.predicate.node posed.holds.predicate.within)) in
-      let fo : IsFormed (opened_in before p) = subst IsFormed opred (formed o.predicate.node (IsIn-extended goes.extends o.predicate.node there_posed.holds.predicate.within)) in
-      let grown : KeepsKinds before c = record { grows = later.grows; kinds = later.kinds } in
-      let ke : Knows c e = Knows-kept before c e grown posed.knows.env in
-      let kp : Knows c p = Knows-kept before c p grown posed.knows.predicate in
-      let ko : Knows c (opened_in before p) = subst (Knows c) opens.predicate (Knows-goes (tree_at b o.predicate.node) goes there_posed.knows.predicate) in
-      let current = posed.table.now.proper.current in
-      let proved = outlives_proved m mode A c terms.sound terms.values terms.constraints before e p (constraint_at b x) current later solvable.levelled proper.regions (record { knows = posed.knows.env; formed = fe }) (record { knows = posed.knows.predicate; formed = fp })
-      (record { knows = ke; formed = fe }) (record { knows = kp; formed = fp }) (record { knows = ko; formed = fo }) (subst IsClosedEnv environment_same (let i = says.is in i.environment)) opens.closed (subst (λ z. IsOutlives z (constraint_at b x)) opens.predicate (let i = says.is in i.says)) held in
-      subst (λ z. IsProvedFrom m mode A c z (tree_at d g.predicate.node)) (sym env) (subst (λ z. IsProvedFrom m mode A c e z) (sym pred) proved)
+      let t = through there_posed goes later formed in
+      let terms = t.terms in
+      of_goal m mode A t
+      (outlives_proved m mode A (content_of d v.entries) terms.sound terms.values terms.constraints before (tree_at a g.param_env.node) (tree_at a g.predicate.node) (constraint_at b x) posed.table.now.proper.current later t.levelled t.regions t.env_before t.goal_before t.env_now t.goal_now t.opened_now
+      (closed_there (let i = says.is in i.environment)) opens.closed (subst (λ z. IsOutlives z (constraint_at b x)) opens.predicate (let i = says.is in i.says)) held)
+
+  -- .. so it is where the handler affirms the opened goal, and where its own way holds
+  pub affirmed_through : (h : Handler) (V : ℕ → List Variance) (mode : Mode) (A : List Assumed) {d : List Tree} {v : Table} → IsPosed b u o → IsClosedEnv (tree_at b o.param_env.node) → Goes b d u v → Continues before (content_of d v.entries) → AreFormed d → IsLawfulHandler h
+      → SaysAffirmed h.judges (tree_at b o.param_env.node) (tree_at b o.predicate.node) → IsProvedFrom (meaning h V) mode A (content_of d v.entries) (tree_at d g.param_env.node) (tree_at d g.predicate.node)
+  affirmed_through h V mode A {d} {v} there_posed env goes later formed law says =
+      let t = through there_posed goes later formed in
+      let terms = t.terms in
+      of_goal (meaning h V) mode A t
+      (affirmed_proved h V law.judges mode A (content_of d v.entries) terms.sound terms.values terms.constraints before (tree_at a g.param_env.node) (tree_at a g.predicate.node) t.env_now (closed_there env) posed.table.now.proper.current later t.levelled t.regions t.env_before t.goal_before t.goal_now t.opened_now
+      opens.closed (subst (SaysAffirmed h.judges (tree_at a g.param_env.node)) opens.predicate (subst (λ z. SaysAffirmed h.judges z (tree_at b o.predicate.node)) environment_same says)))
+
+  pub own_through : (h : Handler) (V : ℕ → List Variance) (mode : Mode) (A : List Assumed) {d : List Tree} {v : Table} → IsPosed b u o → IsClosedEnv (tree_at b o.param_env.node) → Goes b d u v → Continues before (content_of d v.entries) → AreFormed d → IsLawfulHandler h
+      → (x : Candidate) → HasOwnWay h.judges (tree_at b o.param_env.node) (tree_at b o.predicate.node) x → HoldsCandidateFrom (meaning h V) mode A (content_of d v.entries) (tree_at b o.predicate.node) x
+      → IsProvedFrom (meaning h V) mode A (content_of d v.entries) (tree_at d g.param_env.node) (tree_at d g.predicate.node)
+  own_through h V mode A {d} {v} there_posed env goes later formed law x way holds =
+      let t = through there_posed goes later formed in
+      let terms = t.terms in
+      of_goal (meaning h V) mode A t
+      (own_way_proved h V law.judges mode A (content_of d v.entries) terms.sound terms.values terms.constraints before (tree_at a g.param_env.node) (tree_at a g.predicate.node) t.env_now (closed_there env) posed.table.now.proper.current later t.levelled t.regions t.env_before t.goal_before t.goal_now t.opened_now
+      opens.closed x (subst (λ z. HasOwnWay h.judges (tree_at a g.param_env.node) z x) opens.predicate (subst (λ z. HasOwnWay h.judges z (tree_at b o.predicate.node) x) environment_same way))
+      (subst (λ z. HoldsCandidateFrom (meaning h V) mode A (content_of d v.entries) z x) opens.predicate holds))
+
+  -- what is told of it: that the handler affirms or denies it, and how its own way fares
+  pub affirmed_told : (h : Handler) (mode : TypingMode) (qs : List GenericArg) (e : List Tree) (r : Canonical Response) → trees_of b qs ≡ trees_of a qs → SaysAffirmed h.judges (tree_at b o.param_env.node) (tree_at b o.predicate.node) → is_yes r.value.certainty ≡ true
+      → IsResponseOf there (trees_of b qs) (response_at e r) → IsTold h mode a t g qs e r
+  affirmed_told h mode qs e r same says sure response ks =
+      tells_affirmed (subst (SaysAffirmed h.judges (tree_at a g.param_env.node)) opens.predicate (subst (λ z. SaysAffirmed h.judges z (tree_at b o.predicate.node)) environment_same says)) sure
+      (subst (λ z. IsResponseOf z (trees_of a qs) (response_at e r)) opens.table (subst (λ z. IsResponseOf there z (response_at e r)) same response))
+
+  pub denied_refuted : (h : Handler) (mode : TypingMode) (qs : List GenericArg) → IsDenied h.judges (statement_of (tree_at b o.predicate.node)) → IsRefuted h mode a t g qs
+  denied_refuted h mode qs d = is_denied (subst (λ z. IsDenied h.judges (statement_of z)) opens.predicate d)
+
+  way_there : (h : Handler) (x : Candidate) → IsPosed b u o → AreFormed b → HasOwnWay h.judges (tree_at b o.param_env.node) (tree_at b o.predicate.node) x → IsOwnWayIn h before (tree_at a g.param_env.node) (tree_at a g.predicate.node) x
+  way_there h x p formed way =
+      let k = p.knows in
+      record {
+        way = subst (λ z. HasOwnWay h.judges (tree_at a g.param_env.node) z x) opens.predicate (subst (λ z. HasOwnWay h.judges z (tree_at b o.predicate.node) x) environment_same way);
+        knows = subst (λ z. Knows z (pair (tree_at a g.param_env.node) (opened_in before (tree_at a g.predicate.node)))) opens.table
+            (subst (λ z. Knows there (pair (tree_at a g.param_env.node) z)) opens.predicate (subst (λ z. Knows there (pair z (tree_at b o.predicate.node))) environment_same (k.env, (k.predicate, tt))));
+        environment = subst IsFormed environment_same (formed o.param_env.node p.holds.env.within);
+      }
+
+  pub own_told : IsPosed b u o → AreFormed b → (h : Handler) (mode : TypingMode) (qs : List GenericArg) (e : List Tree) (r : Canonical Response) (x : Candidate) → trees_of b qs ≡ trees_of a qs → HasOwnWay h.judges (tree_at b o.param_env.node) (tree_at b o.predicate.node) x
+      → Replies h (mode_of mode) there (tree_at b o.param_env.node) (tree_at b o.predicate.node) (trees_of b qs) x (verdict_at e r) → IsTold h mode a t g qs e r
+  own_told p formed h mode qs e r x same way reply ks =
+      let v = verdict_at e r in
+      tells_own x (way_there h x p formed way)
+      (subst (λ z. Replies h (mode_of mode) z (tree_at a g.param_env.node) (opened_in before (tree_at a g.predicate.node)) (trees_of a qs) x v) opens.table
+      (subst (λ z. Replies h (mode_of mode) there (tree_at a g.param_env.node) z (trees_of a qs) x v) opens.predicate
+      (subst (λ z. Replies h (mode_of mode) there z (tree_at b o.predicate.node) (trees_of a qs) x v) environment_same (subst (λ z. Replies h (mode_of mode) there (tree_at b o.param_env.node) (tree_at b o.predicate.node) z x v) same reply))))
+
+  pub own_refuted : IsPosed b u o → AreFormed b → (h : Handler) (mode : TypingMode) (qs : List GenericArg) (x : Candidate) → HasOwnWay h.judges (tree_at b o.param_env.node) (tree_at b o.predicate.node) x → Fails h (mode_of mode) there x → IsRefuted h mode a t g qs
+  own_refuted p formed h mode qs x way fails = own_fails x (way_there h x p formed way) (subst (λ z. Fails h (mode_of mode) z x) opens.table fails)
+
+-- an opened goal in a store that has grown
+pub opened_later : {a b d : List Tree} {t u : Table} {g o : Goal} → Extends b d → IsTable b u → HoldsGoal b o → IsOpenedTo a b t u g o → IsOpenedTo a d t u g o
+opened_later e table holds opens =
+    record {
+      closed = opens.closed;
+      table = content_of-extended e table.now ∙ opens.table;
+      environment = opens.environment;
+      predicate = e.kept _ holds.predicate.within ∙ opens.predicate;
+    }
 
 pub opened_holds : (ts : List Tree) (t : Table) (o : Option Goal) → IfSome o (IsPosed ts t) → IfSome o (HoldsGoal ts)
 opened_holds ts t None p = tt

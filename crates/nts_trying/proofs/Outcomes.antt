@@ -57,6 +57,22 @@ found_earlier {P} {Q} {a} {b} {e} {t} {g} {qs} r up w holds args p f =
       sure = λ y. p f.store f.after (f.sure y);
     }
 
+-- .. of which the store has grown from the first
+pub found_of : {P Q : List Tree → Table → Type 0} {b e : List Tree} {t : Table} {g : Goal} {qs : List GenericArg} (r : Canonical Response) → ((c : List Tree) (u : Table) → Extends b c → P c u → Q c u) → Found P b e t g qs r → Found Q b e t g qs r
+found_of r p f =
+    record {
+      store = f.store;
+      after = f.after;
+      formed = f.formed;
+      goes = f.goes;
+      labels = f.labels;
+      extends = f.extends;
+      says = f.says;
+      holds = f.holds;
+      no_more = f.no_more;
+      sure = λ y. p f.store f.after f.goes.extends (f.sure y);
+    }
+
 -- the responses in a store that has grown
 responses_same : {P : List Tree → Table → Type 0} {a b e : List Tree} {t : Table} {g : Goal} {qs : List GenericArg} (rs : List (Canonical Response)) → Extends b e → All (Found P a b t g qs) rs → map (verdict_at e) rs ≡ map (verdict_at b) rs
 responses_same [] k h = refl

@@ -56,7 +56,7 @@ use Rattle.nts_terms.specs.Handles.{HoldsGoal}
 use Rattle.nts_terms.specs.Kinds.{tree_of_predicate, PredicateFits}
 use Rattle.nts_terms.proofs.Standing.{vars_tree}
 use Rattle.nts_theory.specs.Outliving.{SaysOutlives, region_outlives, type_outlives, IsOutlives}
-use Rattle.nts_theory.proofs.Aliases.BuiltIn.{by_engine}
+use Rattle.nts_theory.proofs.Aliases.ByEngine.{IsClosedThere, IsGiven, given_opened}
 use Rattle.nts_terms.specs.declared.kinds.ClauseKind.{ClauseKind}
 use Rattle.nts_terms.specs.declared.kinds.ClauseKind.TheVariants as clause
 use Rattle.nts_terms.specs.declared.kinds.PredicateKind.{PredicateKind}
@@ -181,26 +181,13 @@ only_sides e g x c d says h =
     only-of (e ∷ g ∷ []) x.left x.right h
     (λ P q k i. let whole : TreePasses P (unbound says.statement) = subst (TreePasses P) says.binds_nothing (k g (inr (inl refl))) in let y = sides_pass P x says.statement says.says (whole.1.1.0) in (y.left, y.right))
 
--- a goal that something outlives a region follows by the engine's rule in a table that holds that
-module _ (m : Meaning) (mode : Mode) (A : List Assumed) (c : Content) (s : IsSound c) (t : HoldsTerms c) (k : AreConstraintsOf c) (e : Tree) (ke : IsTermOf c e) (env : IsClosedEnv e) (o : Tree) (x : Constraint) (says : IsOutlives o x) (ko : IsTermOf c o) where
+-- what a goal says that outlives what, a rule of the engine gives in a table that holds that
+module _ (m : Meaning) (mode : Mode) (A : List Assumed) (c : Content) (s : IsSound c) (t : HoldsTerms c) (k : AreConstraintsOf c) (e : Tree) (ke : IsTermOf c e) (env : IsClosedThere e) where
   abbrev read : Tree → Tree
   read = instance_of (reading_of c s t)
 
   read_as : (u : Tree) → Knows c u → IsFormed u → read u ≡ deeply_resolved c u
   read_as u n f = instance_of-reading c s t u n f
-
-  statement_known : Knows c says.statement
-  statement_known = (let f : Knows c (unbound says.statement) = subst (Knows c) says.binds_nothing ko.knows in f.1.1.0)
-
-  read_closed : IsClosedEnvironment (deeply_resolved c e)
-  read_closed =
-      let there = Knows-deeply_resolved c e s ke.knows in
-      record {
-        closed = IsClosed-deeply_resolved c e t env.closed;
-        no_positions = known_no_positions c (deeply_resolved c e) there;
-        well_bound = known_well_bound c (deeply_resolved c e) there;
-        statements = subst HasClosedStatements (read_as e ke.knows ke.formed) (closed_statements_instance (reading_of c s t) e ke.formed env.statements);
-      }
 
   read_region : (u : Tree) → kind_of u ≡ Some (of_sort sort.Region) → Knows c u → IsFormed u → IsClosed u → IsRegion (read u)
   read_region u r n f z = subst IsRegion (sym (read_as u n f)) (IsRegion-deeply_resolved c u (region_of_kind u r f z (known_no_positions c u n)))
@@ -211,54 +198,22 @@ module _ (m : Meaning) (mode : Mode) (A : List Assumed) (c : Content) (s : IsSou
       let fs = formed_sides y u w f in
       rw (read_as y.left ns.left fs.left, read_as y.right ns.right fs.right) (granted c y.relation y.left y.right h)
 
-  built : (P : Premise → Type 0) (y : Constraint) (u : Tree) → SaysOutlives y u → Knows c u → IsFormed u → IsClosed u → HoldsConstraint c (recorded_as y) → IsBuiltIn m (λ z. Unit {0}) (IsGranted c) P (deeply_resolved c e) (read u)
-  built P y u region_outlives n f z h =
+  outlives_given : (y : Constraint) (u : Tree) → SaysOutlives y u → Knows c u → IsFormed u → IsClosed u → HoldsConstraint c (recorded_as y) → IsGiven m mode A c s t k e ke env u
+  outlives_given y u region_outlives n f z h P =
       let ns = known_sides c y u region_outlives n in
       let fs = formed_sides y u region_outlives f in
       let zs = closed_sides y u region_outlives z in
       region_lives (read_region y.left (left_sort y u region_outlives f) ns.left fs.left zs.left) (read_region y.right (right_region y u region_outlives f) ns.right fs.right zs.right) (read_granted y u region_outlives n f h)
-  built P y u type_outlives n f z h =
+  outlives_given y u type_outlives n f z h P =
       let ns = known_sides c y u type_outlives n in
       let fs = formed_sides y u type_outlives f in
       let zs = closed_sides y u type_outlives z in
       type_lives (read_region y.right (right_region y u type_outlives f) ns.right fs.right zs.right) (read_granted y u type_outlives n f h)
 
-  holds_built : (P : Premise → Type 0) → HoldsConstraint c (recorded_as x) → IsBuiltIn m (λ z. Unit {0}) (IsGranted c) P (deeply_resolved c e) (read says.statement)
-  holds_built P h = built P x says.statement says.says statement_known says.formed says.closed h
-
-  goal_read : deeply_resolved c o ≡ unbound (read says.statement)
-  goal_read = sym (read_as o ko.knows ko.formed) ∙ ap read says.binds_nothing
-
-  whole_closed : IsClosed o
-  whole_closed = rw says.binds_nothing (tt, ((tt, tt), (IsClosed-under 1 says.statement says.closed, tt)))
-
-  terms : IsOfTerms (sequent_at c e o)
-  terms =
-      let known = Knows-deeply_resolved c o s ko.knows in
-      let here = read_closed in
-      record {
-        formed = (IsFormed-deeply_resolved c e s t ke.knows ke.formed, (IsFormed-deeply_resolved c o s t ko.knows ko.formed, tt));
-        closed = (here.closed, (IsClosed-deeply_resolved c o t whole_closed, tt));
-        no_positions = pair_no_positions (deeply_resolved c e) (deeply_resolved c o) here.no_positions (known_no_positions c (deeply_resolved c o) known);
-        well_bound = (here.well_bound, (known_well_bound c (deeply_resolved c o) known, tt));
-        statement = subst HasClosedStatement (sym goal_read) (closed_unbound (read says.statement) (IsClosed-instance (reading_of c s t) says.statement says.closed));
-        statements = here.statements;
-      }
-
-  -- a goal that binds nothing
-  proved_plain : HoldsConstraint c (recorded_as x) → IsProvedFrom m mode A c e o
-  proved_plain h = by_engine m mode A c s t k e o (read says.statement) goal_read terms (holds_built _ h)
-
-  -- .. and one that binds variables, by what it says of fresh placeholders
-  proved_binding : (f : Sort → ℕ → Leaf) (v vs u : Tree) → IsTermOf c (bound (more v vs) u) → IsClosed (bound (more v vs) u) → AreFresh (pair (deeply_resolved c e) (deeply_resolved c (bound (more v vs) u))) f → o ≡ unbound (opened f 0 u) → HoldsConstraint c (recorded_as x)
-      → IsProvedFrom m mode A c e (bound (more v vs) u)
-  proved_binding f v vs u kg closed fresh is h =
-      opened_rule m mode A c s t k e ke read_closed v vs u f kg closed fresh (read says.statement)
-      (ap read (one_statement says.statement (opened f 0 u) (sym says.binds_nothing ∙ is)) ∙ statement_reads m mode A c s t k e ke read_closed v vs u f kg closed fresh) [] (λ q i. absurd i) (inr (holds_built _ h))
-
--- so does a goal that a table knew before it was opened there
+-- so the goal is proved there, once it is opened or as it stands
 pub outlives_proved : (m : Meaning) (mode : Mode) (A : List Assumed) (c : Content) (s : IsSound c) (t : HoldsTerms c) (k : AreConstraintsOf c) (b : Content) (e g : Tree) (x : Constraint) → AreCurrent b → Continues b c → IsLevelled c → AreRegionsLevelled c
-    → IsTermOf b e → IsTermOf b g → IsTermOf c e → IsTermOf c g → IsTermOf c (opened_in b g) → IsClosedEnv e → (binds g ≡ true → IsClosed g) → IsOutlives (opened_in b g) x → HoldsConstraint c (recorded_as x) → IsProvedFrom m mode A c e g
-outlives_proved m mode A c s t k b e (node (label.List list.Binder) (more (node (label.List list.Sorts) (more v vs)) (more u empty))) x now later l r te tg ke kg ko env closed says h =
-    proved_binding m mode A c s t k e ke env (unbound (opened (placeholder_in (b.universe + 1)) 0 u)) x says ko (placeholder_in (b.universe + 1)) v vs u kg (closed refl) (fresh_later b c e (bound (more v vs) u) te.knows tg.knows now later l r) refl h
-outlives_proved m mode A c s t k b e g x now later l r te tg ke kg ko env closed says h = proved_plain m mode A c s t k e ke env g x says kg h
+    → IsTermOf b e → IsTermOf b g → (ke : IsTermOf c e) → IsTermOf c g → IsTermOf c (opened_in b g) → IsClosedThere e → (binds g ≡ true → IsClosed g) → IsOutlives (opened_in b g) x → HoldsConstraint c (recorded_as x) → IsProvedFrom m mode A c e g
+outlives_proved m mode A c s t k b e g x now later l r te tg ke kg ko env closed says h =
+    let known : Knows c (unbound says.statement) = subst (Knows c) says.binds_nothing ko.knows in
+    given_opened m mode A c s t k b e g says.statement ke env now later l r te tg kg ko closed says.binds_nothing says.closed
+    (outlives_given m mode A c s t k e ke env x says.statement says.says known.1.1.0 says.formed says.closed h)

@@ -18,7 +18,8 @@ use Rattle.nts_terms.specs.declared.kinds.PredicateKind.{PredicateKind}
 use Rattle.nts_terms.specs.declared.kinds.PredicateKind.TheVariants as predicate
 use Rattle.nts_terms.specs.Kinds.{tree_of_clause, tree_of_statement, tree_of_predicate}
 use Rattle.nts_delegate.specs.OwnTerms.{both_false}
-use Rattle.nts_meaning.specs.Evaluation.{IsAskedGoal}
+use Rattle.nts_meaning.specs.Evaluation.{SaysOfTrait, IsAskedGoal}
+use Rattle.nts_meaning.proofs.TraitsAsked.{of_trait}
 
 pub not_false : (b : Bool) → not b ≡ false → b ≡ true
 not_false true e = refl
@@ -94,21 +95,21 @@ other_predicate ts (predicate.NormalizesTo a t) n h = h
 other_predicate ts (predicate.AliasRelate a b d) n h = h
 other_predicate ts predicate.Ambiguous n h = h
 
-pub other_clause : (ts : List Tree) (k : ClauseKind) → ((r : TraitRef) → k ≡ clause.Trait r → ⊥) → IsTraitStatement (tree_of_clause ts k) → ⊥
-other_clause ts (clause.Trait r) n h = n r refl
-other_clause ts (clause.HostEffect r) n h = h
-other_clause ts (clause.Projection a t) n h = h
-other_clause ts (clause.TypeOutlives t r) n h = h
-other_clause ts (clause.RegionOutlives a b) n h = h
-other_clause ts (clause.ConstArgHasType c t) n h = h
-other_clause ts (clause.WellFormed t) n h = h
-other_clause ts (clause.ConstEvaluatable c) n h = h
-other_clause ts (clause.UnstableFeature f) n h = h
+pub other_clause : (ts : List Tree) (k : ClauseKind) → ((r : TraitRef) → k ≡ clause.Trait r → ⊥) → ((r : TraitRef) → k ≡ clause.HostEffect r → ⊥) → IsTraitStatement (tree_of_clause ts k) → ⊥
+other_clause ts (clause.Trait r) n m h = n r refl
+other_clause ts (clause.HostEffect r) n m h = m r refl
+other_clause ts (clause.Projection a t) n m h = h
+other_clause ts (clause.TypeOutlives t r) n m h = h
+other_clause ts (clause.RegionOutlives a b) n m h = h
+other_clause ts (clause.ConstArgHasType c t) n m h = h
+other_clause ts (clause.WellFormed t) n m h = h
+other_clause ts (clause.ConstEvaluatable c) n m h = h
+other_clause ts (clause.UnstableFeature f) n m h = h
 
 -- the arguments of its trait are closed
-pub asked_args_closed : (ts : List Tree) (g : Goal) (b : Binder PredicateKind) (r : TraitRef) → tree_at ts g.predicate.node ≡ tree_of_predicate ts b → b.value ≡ predicate.Clause (clause.Trait r) → IsAskedGoal ts g → IsClosed (tree_at ts r.args.node)
+pub asked_args_closed : (ts : List Tree) (g : Goal) (b : Binder PredicateKind) (r : TraitRef) → tree_at ts g.predicate.node ≡ tree_of_predicate ts b → SaysOfTrait ts r (tree_of_statement ts b.value) → IsAskedGoal ts g → IsClosed (tree_at ts r.args.node)
 asked_args_closed ts g b r says is h =
     let x = h.asked.asked in
     let said : x.statement ≡ tree_of_statement ts b.value = sym (ap statement_of x.binds_nothing) ∙ ap statement_of says in
-    let closed : IsClosed (tree_of_statement ts (predicate.Clause (clause.Trait r))) = subst IsClosed (said ∙ ap (tree_of_statement ts) is) x.closed.1.0 in
-    closed.1.0
+    let closed : IsClosed (tree_of_statement ts b.value) = subst IsClosed said x.closed.1.0 in
+    of_trait ts r (λ s. IsClosed s → IsClosed (tree_at ts r.args.node)) (λ i c. c.1.0) (λ i c. c.1.0) (tree_of_statement ts b.value) is closed

@@ -8,7 +8,7 @@ use Rattle.nts_model.specs.Terms.Trees.{Tree, empty, node, any_label, is_canonic
 use Rattle.nts_model.specs.Terms.Scoping.{IsWellBound}
 use Rattle.nts_model.specs.Derivations.Related.{pair, unbound}
 use Rattle.nts_model.specs.Derivations.Rules.{statement_of}
-use Rattle.nts_model.specs.Derivations.Handlers.{Handler}
+use Rattle.nts_model.specs.Derivations.Handlers.{Handler, Judgements}
 use Rattle.nts_theory.specs.Affirming.{evaluatable, has_type, is_well_formed, SaysAffirmed, IsDenied, HasOwnWay}
 use Rattle.nts_certainty.specs.declared.certainty.Certainty.TheVariants as certainty
 use Rattle.nts_certainty.specs.declared.reruns.RerunCondition.TheVariants as rerun
@@ -73,8 +73,11 @@ abbrev pub misc_goal : Goal → CandidateGoal
 misc_goal g = record { source = source.Misc; goal = g }
 
 -- what is known of the goal is so: it holds, it does not, or it does where the candidate does, as its one way
+abbrev pub IsJudgedBy : Judgements → List Tree → Goal → Judged → Type 0
+IsJudgedBy j ts g judged.Yes = SaysAffirmed j (tree_at ts g.param_env.node) (tree_at ts g.predicate.node)
+IsJudgedBy j ts g judged.No = IsDenied j (statement_of (tree_at ts g.predicate.node))
+IsJudgedBy j ts g (judged.Way b) = HasOwnWay j (tree_at ts g.param_env.node) (tree_at ts g.predicate.node) (candidate_of ts b.value) × IsCandidate ts g b.value
+IsJudgedBy j ts g judged.Unknown = Unit {0}
+
 abbrev pub IsJudgedSo : Handler → List Tree → Goal → Judged → Type 0
-IsJudgedSo h ts g judged.Yes = SaysAffirmed h.judges (tree_at ts g.param_env.node) (tree_at ts g.predicate.node)
-IsJudgedSo h ts g judged.No = IsDenied h.judges (statement_of (tree_at ts g.predicate.node))
-IsJudgedSo h ts g (judged.Way b) = HasOwnWay h.judges (tree_at ts g.param_env.node) (tree_at ts g.predicate.node) (candidate_of ts b.value) × IsCandidate ts g b.value
-IsJudgedSo h ts g judged.Unknown = Unit {0}
+IsJudgedSo h ts g x = IsJudgedBy h.judges ts g x

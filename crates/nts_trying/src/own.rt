@@ -1,19 +1,19 @@
 //! Goals of the engine's own kinds: what it answers by itself, and by what the handler judges.
 ghost use Rattle.std.specs.Prelude.{◌≡◌, ◌↔◌, IsTrue, List, IfOk, IfSome, IsNone, IsOkUnless, map};
 ghost use Rattle.nts_model.specs.Terms.Trees.{Tree};
-ghost use Rattle.nts_model.specs.Derivations.Handlers.{Handler};
+ghost use Rattle.nts_model.specs.Derivations.Handlers.{Judgements};
 ghost use Rattle.nts_terms.specs.Handles.{HoldsGoal};
 ghost use Rattle.nts_terms.specs.Kinds.{StatementFits, ClauseFits, tree_of_statement, tree_of_clause};
 ghost use Rattle.nts_terms.specs.Rest.{Grows};
 ghost use Rattle.nts_trying.specs.declared.own.OwnGoal.TheVariants as owns;
-ghost use Rattle.nts_trying.specs.Owning.{tree_of_own, OwnFits, IsOwnGoal, SaysOwn, IsPlainGoal, IsPlainWay, misc_goal, IsJudgedSo};
+ghost use Rattle.nts_trying.specs.Owning.{tree_of_own, OwnFits, IsOwnGoal, SaysOwn, IsPlainGoal, IsPlainWay, misc_goal, IsJudgedBy, IsJudgedSo};
 
 use crate::outlives::is_closed_env;
 use nts_certainty::{Certainty, GoalSource, RerunCondition};
 use nts_delegate::{CandidateData, CandidateGoal, Equation, EquationKind, GoalHandler};
 use nts_store::Fault;
 use nts_terms::{
-    ClauseKind, Const, ConstKind, Cx, Goal, GenericArg, PredicateKind, Term, TraitId, Ty,
+    ClauseKind, Const, ConstKind, Cx, GenericArg, Goal, PredicateKind, Term, TraitId, Ty,
 };
 use std::alloc::{AllocError, Global};
 
@@ -174,7 +174,7 @@ fn judge_type(cx: &mut Cx, goal: Goal, ct: Const, ty: Ty) -> Result<Judged, Faul
     requires holds { HoldsGoal cx.old.nodes goal }
     requires plain { IsPlainGoal cx.old.nodes goal }
     requires own { IsOwnGoal cx.old.nodes goal (owns.ConstArgHasType ct ty) }
-    ensures judged { IfOk result (λ j. (h : Handler) → IsJudgedSo h cx.new.nodes goal j) }
+    ensures judged { IfOk result (λ x. (j : Judgements) → IsJudgedBy j cx.new.nodes goal x) }
     ensures grows { Grows cx.old cx.new }
     ensures memory { IsOkUnless result Fault.Memory }
 {
@@ -241,19 +241,19 @@ fn plain_way(
     alloc: Global,
     equations: Vec<Equation>,
     goals: Vec<CandidateGoal>,
-) -> Result<Box<CandidateData>, AllocError>
-    ensures { IfOk result (λ b. IsPlainWay b.value equations.items goals.items) }
+) -> Result<Box<CandidateData>, Fault>
+    ensures plain { IfOk result (λ b. IsPlainWay b.value equations.items goals.items) }
+    ensures memory { IsOkUnless result Fault.Memory }
 {
-    Box::new(
-        alloc,
-        CandidateData {
-            fresh: Vec::new(alloc),
-            equations,
-            region_constraints: Vec::new(alloc),
-            hidden_types: Vec::new(alloc),
-            goals,
-            certainty: Certainty::Yes,
-            accesses: RerunCondition::Never,
-        },
-    )
+    let way = CandidateData {
+        fresh: Vec::new(alloc),
+        equations,
+        region_constraints: Vec::new(alloc),
+        hidden_types: Vec::new(alloc),
+        goals,
+        certainty: Certainty::Yes,
+        accesses: RerunCondition::Never,
+    };
+    let way = Box::new(alloc, way)?;
+    Ok(way)
 }

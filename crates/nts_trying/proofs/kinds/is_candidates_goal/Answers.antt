@@ -19,7 +19,7 @@ returns c = (
       let goal_names : c.flags-flags.result.has_canonical ≡ false = first_of (cc, search rules) in
       let statements : HasClosedStatements (tree_at c.args.cx.now.nodes c.args.goal.param_env.node) = c.statements_are_closed.ensures.0 (first_of (cc, search rules)) in
       let none : row_length (children (tree_at c.args.cx.now.nodes c.kind-predicate.result.vars.node)) ≡ 0 = first_of (cc, search rules) in
-      trait_asked c.args.cx.now.nodes c.args.goal c.kind-predicate.result c.in-Trait.trait_ref c.flags-env.result c.flags-flags.result c.flags-args.result
+      trait_asked c.args.cx.now.nodes c.args.goal c.kind-predicate.result c.in-Some.trait_ref c.flags-env.result c.flags-flags.result c.flags-args.result
       (record {
         formed = c.terms_are_formed.ensures;
         holds = c.requires;
@@ -27,7 +27,7 @@ returns c = (
         fits = c.kind-predicate.ensures.fits;
         row = c.len.ensures.row;
         none = none;
-        is_trait = c.in-Clause.is ∙ ap predicate.Clause c.in-Trait.is;
+        is_trait = c.in-Some.ensures.is c.args.cx.now.nodes;
         env_facts = c.flags-env.ensures;
         goal_facts = c.flags-flags.ensures;
         args_facts = c.flags-args.ensures;
@@ -41,7 +41,7 @@ returns c = (
         goal_well_bound = c.is_well_bound-2.ensures.0 c.if-not-is_well_bound-2.false;
         statements = statements;
       }),
-  λ h. not_false c.is_none.result (sym c.is_none.ensures ∙ closed_none (tree_at c.args.cx.now.nodes c.in-Trait.trait_ref.args.node) c.flags-args.result c.flags-args.ensures (asked_args_closed c.args.cx.now.nodes c.args.goal c.kind-predicate.result c.in-Trait.trait_ref c.kind-predicate.ensures.tree (c.in-Clause.is ∙ ap predicate.Clause c.in-Trait.is) h)),
+  λ h. not_false c.is_none.result (sym c.is_none.ensures ∙ closed_none (tree_at c.args.cx.now.nodes c.in-Some.trait_ref.args.node) c.flags-args.result c.flags-args.ensures (asked_args_closed c.args.cx.now.nodes c.args.goal c.kind-predicate.result c.in-Some.trait_ref c.kind-predicate.ensures.tree (c.in-Some.ensures.is c.args.cx.now.nodes) h)),
 )
 
 pub returns-then-is_some : goal.returns-then-is_some
