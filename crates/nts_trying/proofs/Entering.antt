@@ -1,11 +1,10 @@
 -- Entering a binder: the trees of what was opened, and the table in a new universe.
-use Rattle.std.proofs.Common.{◌≡◌, ◌⊎◌, inl, inr, ℕ, zero, suc, ◌+◌, ◌-◌, ◌<◌, ◌≤◌, Bool, true, false, List, [], ◌∷◌, Option, Some, refl, sym, ap, ◌∙◌, subst, rules, arith}
+use Rattle.std.proofs.Common.{◌≡◌, ℕ, zero, suc, ◌+◌, ◌-◌, ◌<◌, ◌≤◌, Bool, true, false, List, [], ◌∷◌, Option, Some, refl, sym, ap, ◌∙◌, subst, rules, arith}
 use Rattle.std.specs.Prelude.{nat_lt, ◌==◌, if◌then◌else◌}
 use Rattle.nts_model.specs.declared.labels.Sort.{Sort}
 use Rattle.nts_model.specs.declared.labels.Sort.TheVariants as sort
 use Rattle.nts_model.specs.declared.labels.Leaf.{Leaf}
 use Rattle.nts_model.specs.declared.labels.BoundVarIndexKind.TheVariants as index
-use Rattle.nts_model.specs.declared.labels.ClauseHead.TheVariants as clause
 use Rattle.nts_model.specs.declared.labels.ListHead.TheVariants as list
 use Rattle.nts_model.specs.declared.labels.Label.{Label}
 use Rattle.nts_model.specs.declared.labels.Label.TheVariants as label
@@ -20,11 +19,7 @@ use Rattle.nts_model.proofs.Tables.Held.{Continues-in_universe}
 use Rattle.nts_model.proofs.Terms.Scoping.{closed_listed}
 use Rattle.nts_store.specs.Growth.{tree_at, Extends}
 use Rattle.nts_terms.specs.declared.handles.Binder.{Binder}
-use Rattle.nts_terms.specs.declared.handles.TraitRef.{TraitRef}
-use Rattle.nts_terms.specs.declared.kinds.ClauseKind.{ClauseKind}
-use Rattle.nts_terms.specs.declared.kinds.ClauseKind.TheVariants as clause_of
 use Rattle.nts_terms.specs.declared.kinds.PredicateKind.{PredicateKind}
-use Rattle.nts_terms.specs.declared.kinds.PredicateKind.TheVariants as predicate
 use Rattle.nts_terms.specs.Kinds.{tree_of_statement, tree_of_predicate}
 use Rattle.nts_unify.specs.Entries.{Entries, moved}
 use Rattle.nts_unify.specs.Lawful.{content_of-extended}
@@ -39,7 +34,6 @@ use Rattle.nts_placeholder.specs.Universes.{filled_universes, open_before, AreFi
 use Rattle.nts_terms.specs.declared.handles.Goal.{Goal}
 use Rattle.nts_terms.specs.declared.handles.Predicate.{Predicate}
 use Rattle.nts_trying.specs.Opening.{IsOpenedTo, CannotOpen}
-use Rattle.nts_theory.specs.Telling.{IsTraitStatement}
 use Rattle.nts_meaning.specs.Evaluation.{Goes}
 use Rattle.nts_model.proofs.Terms.Substituting.{no_children as no_places}
 

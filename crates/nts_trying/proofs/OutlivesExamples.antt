@@ -1,5 +1,5 @@
 -- Goals that something outlives a region, and goals that don't say so; and a yes that recorded nothing is told of none.
-use Rattle.std.proofs.Common.{◌≡◌, inl, inr, ℕ, ◌+◌, List, ◌∷◌, [], length, length-append, sym, ap, ◌∙◌, refl, arith}
+use Rattle.std.proofs.Common.{◌≡◌, inl, inr, ℕ, ◌∷◌, [], length, length-append, sym, ap, ◌∙◌, refl, arith}
 use Rattle.nts_model.specs.declared.labels.FreeRegion.TheVariants as region
 use Rattle.nts_model.specs.declared.labels.Leaf.TheVariants as leaf
 use Rattle.nts_model.specs.declared.labels.Relation.TheVariants as relation

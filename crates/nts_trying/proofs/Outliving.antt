@@ -1,5 +1,5 @@
 -- Goals that something outlives a region: which statements are such, and that one holds where its constraint is held.
-use Rattle.std.proofs.Common.{◌≡◌, inl, inr, ℕ, ◌+◌, ◌||◌, Bool, true, false, List, [], ◌∷◌, Some, refl, sym, ap, ◌∙◌, subst, arith}
+use Rattle.std.proofs.Common.{◌≡◌, inl, inr, ◌||◌, Bool, true, false, List, [], ◌∷◌, Some, refl, sym, ap, ◌∙◌, subst, arith}
 use Rattle.nts_model.specs.declared.labels.Sort.TheVariants as sort
 use Rattle.nts_model.specs.declared.labels.Relation.TheVariants as relation
 use Rattle.nts_model.specs.Terms.Trees.{Tree, empty, more, node, kind_of, of_sort, any_label, is_alias, IsClosed, IsFormed}
@@ -8,38 +8,26 @@ use Rattle.nts_model.specs.Tables.Contents.{Content}
 use Rattle.nts_model.specs.Tables.Recording.{left_kind}
 use Rattle.nts_model.specs.Tables.Resolving.{Knows, deeply_resolved, IsSound}
 use Rattle.nts_model.specs.Derivations.Related.{Constraint, pair, unbound}
-use Rattle.nts_model.specs.Derivations.Sequents.{Premise, IsOfTerms, HasClosedStatement, HasClosedStatements}
-use Rattle.nts_model.specs.Derivations.Rules.{Meaning, Mode, opened, AreFresh, bound, IsBuiltIn, region_lives, type_lives}
+use Rattle.nts_model.specs.Derivations.Rules.{Meaning, Mode, region_lives, type_lives}
 use Rattle.nts_model.specs.Derivations.Handlers.{constraint_by}
 use Rattle.nts_model.specs.Derivations.Proofs.{Assumed}
-use Rattle.nts_model.specs.Derivations.Proving.{HoldsTerms, AreConstraintsOf, IsTermOf, recorded_as, sequent_at}
+use Rattle.nts_model.specs.Derivations.Proving.{HoldsTerms, AreConstraintsOf, IsTermOf, recorded_as}
 use Rattle.nts_model.specs.Tables.Holding.{HoldsConstraint, Continues}
 use Rattle.nts_model.specs.Searching.Stacks.{IsProvedFrom}
-use Rattle.nts_model.proofs.Tables.Fitting.{IsClosed-under}
-use Rattle.nts_model.proofs.Tables.ResolvedTerms.{IsFormed-deeply_resolved, IsClosed-deeply_resolved}
-use Rattle.nts_model.proofs.Tables.Open.{Knows-deeply_resolved}
-use Rattle.nts_model.proofs.Terms.Unpositioned.{known_no_positions, known_well_bound, pair_no_positions}
+use Rattle.nts_model.proofs.Terms.Unpositioned.{known_no_positions}
 use Rattle.nts_model.proofs.Tables.Alike.{IsRegion-deeply_resolved}
 use Rattle.nts_model.proofs.Tables.TableInstances.{reading_of, instance_of-reading}
-use Rattle.nts_model.proofs.Terms.Composing.{IsClosed-instance}
 use Rattle.nts_model.specs.Terms.Substitutions.{instance_of}
-use Rattle.nts_theory.proofs.Derivations.ClosedStatements.{closed_unbound, closed_statements_instance}
 use Rattle.nts_decisions.proofs.RelatedRegions.{region_of_kind}
-use Rattle.nts_model.specs.declared.labels.Leaf.{Leaf}
 use Rattle.nts_model.specs.declared.labels.ListHead.TheVariants as list
 use Rattle.nts_model.specs.declared.labels.Label.TheVariants as label
-use Rattle.nts_model.specs.declared.labels.Sort.{Sort}
 use Rattle.nts_model.specs.Tables.Passing.{TreePasses, BringsLabelsOf, BringsOnly}
 use Rattle.nts_model.proofs.Tables.Bringing.{only-of}
 use Rattle.nts_model.specs.declared.labels.Label.{Label}
 use Rattle.nts_model.specs.Tables.Levels.{IsLevelled, AreRegionsLevelled, AreCurrent}
-use Rattle.nts_model.specs.Refutation.Opening.{binds, placeholder_in, opened_in}
+use Rattle.nts_model.specs.Refutation.Opening.{binds, opened_in}
 use Rattle.nts_theory.proofs.Derivations.ByCandidate.{IsGranted, granted}
-use Rattle.nts_theory.proofs.Derivations.Served.{IsClosedEnvironment}
-use Rattle.nts_theory.proofs.Derivations.ClosedStatements.{one_statement}
-use Rattle.nts_theory.proofs.Refutation.OpenedProofs.{fresh_later}
-use Rattle.nts_theory.proofs.Aliases.OpenedRules.{opened_rule, statement_reads}
-use Rattle.nts_trying.specs.Outliving.{IsClosedEnv, OutlivesIn, constraint_at}
+use Rattle.nts_trying.specs.Outliving.{OutlivesIn, constraint_at}
 use Rattle.nts_trying.specs.declared.outlives.Outlives.{Outlives}
 use Rattle.nts_trying.proofs.Unasked.{listed_of}
 use Rattle.nts_model.specs.Terms.Trees.{children, row_length, IsRow}

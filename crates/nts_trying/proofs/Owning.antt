@@ -1,6 +1,6 @@
 -- Goals of the engine's own kinds: which statements are such, what is known of them, and the candidate that is the own way of one.
-use Rattle.std.proofs.Common.{◌≡◌, inl, inr, ℕ, ◌||◌, Bool, true, false, List, [], ◌∷◌, map, Some, None, is_some, arith, refl, sym, ap, ◌∙◌, subst}
-use Rattle.std.specs.Prelude.{◌⊎◌, All, Option, option_map}
+use Rattle.std.proofs.Common.{◌≡◌, inl, inr, ℕ, ◌||◌, true, false, List, [], ◌∷◌, map, Some, None, is_some, arith, refl, sym, ap, ◌∙◌, subst}
+use Rattle.std.specs.Prelude.{All, Option, option_map}
 use Rattle.std.proofs.lemmas.List.Elements.{All-head, All-tail}
 use Rattle.nts_model.specs.declared.labels.Leaf.{Leaf}
 use Rattle.nts_model.specs.declared.labels.AliasHead.{AliasHead}
@@ -10,15 +10,15 @@ use Rattle.nts_model.specs.declared.labels.PredicateHead.TheVariants as predicat
 use Rattle.nts_model.specs.declared.labels.ListHead.TheVariants as list
 use Rattle.nts_model.specs.declared.labels.Label.TheVariants as label
 use Rattle.nts_model.specs.declared.labels.Sort.TheVariants as sort
-use Rattle.nts_model.specs.Terms.Trees.{Tree, empty, more, node, children, row_length, IsRow, kind_of, arguments, sort_of_alias, of_sort, any_label, is_canonical, IsClosed, IsFormed}
+use Rattle.nts_model.specs.Terms.Trees.{Tree, empty, more, node, children, row_length, IsRow, kind_of, arguments, sort_of_alias, any_label, is_canonical, IsClosed, IsFormed}
 use Rattle.nts_model.specs.Terms.Scoping.{IsWellBound}
 use Rattle.nts_model.specs.Terms.Substitutions.{Occurs}
 use Rattle.nts_model.specs.Derivations.Related.{pair, unbound, no_sorts, value, alias_label}
 use Rattle.nts_model.specs.Lists.{Among}
-use Rattle.nts_model.specs.Derivations.Sequents.{Premise, HasClosedStatement}
-use Rattle.nts_model.specs.Derivations.Rules.{Equation, related, statement_of}
-use Rattle.nts_model.specs.Derivations.Handlers.{Handler, Judgements, JudgementsAreKept, IsFixed, IsOver}
-use Rattle.nts_theory.specs.Affirming.{evaluatable, has_type, is_well_formed, IsAffirmed, evaluated_const, SaysAffirmed, IsDenied, plain_way, goals_there, IsOwnWay, by_type, by_goals, HasOwnWay}
+use Rattle.nts_model.specs.Derivations.Sequents.{HasClosedStatement}
+use Rattle.nts_model.specs.Derivations.Rules.{statement_of}
+use Rattle.nts_model.specs.Derivations.Handlers.{Judgements, IsOver}
+use Rattle.nts_theory.specs.Affirming.{evaluatable, has_type, is_well_formed, IsAffirmed, evaluated_const, SaysAffirmed, plain_way, goals_there, IsOwnWay, HasOwnWay}
 use Rattle.nts_theory.proofs.Derivations.ClosedStatements.{closed_unbound}
 use Rattle.nts_store.specs.Formed.{AreFormed}
 use Rattle.nts_store.specs.Growth.{tree_at, Extends, IsIn}
@@ -35,17 +35,15 @@ use Rattle.nts_terms.specs.declared.kinds.PredicateKind.TheVariants as predicate
 use Rattle.nts_terms.specs.Handles.{HoldsGoal, HoldsTy}
 use Rattle.nts_terms.specs.Kinds.{tree_of_clause, tree_of_statement, tree_of_predicate, PredicateFits}
 use Rattle.nts_terms.proofs.Standing.{vars_tree, args_tree}
-use Rattle.nts_certainty.specs.declared.reruns.RerunCondition.TheVariants as rerun
 use Rattle.nts_candidates.specs.declared.data.Equation.{Equation as EquationData}
 use Rattle.nts_candidates.specs.declared.data.EquationKind.TheVariants as equation_kind
 use Rattle.nts_candidates.specs.declared.data.CandidateGoal.{CandidateGoal}
 use Rattle.nts_candidates.specs.declared.data.CandidateData.{CandidateData}
 use Rattle.nts_candidates.specs.Offered.{equation_of, constraint_of, hidden_of, premise_of, certainty_of, candidate_of}
 use Rattle.nts_certainty.specs.Accesses.{access_of}
-use Rattle.nts_delegate.specs.Candidates.{IsOverIn, IsNestedIn, AreNested, IsCandidate}
+use Rattle.nts_delegate.specs.Candidates.{IsOverIn, AreNested, IsCandidate}
 use Rattle.nts_delegate.specs.Judging.{predicates_read, IsGoalIn}
 use Rattle.nts_delegate.specs.OwnTerms.{both_false, names_nothing}
-use Rattle.nts_delegate.proofs.Testing.{or_false}
 use Rattle.nts_trying.specs.Outliving.{IsClosedEnv}
 use Rattle.nts_trying.specs.Owning.{tree_of_own, OwnFits, IsOwnGoal, IsPlainGoal, IsPlainWay, misc_goal}
 use Rattle.nts_trying.specs.declared.own.OwnGoal.{OwnGoal}

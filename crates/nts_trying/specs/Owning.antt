@@ -1,6 +1,5 @@
 -- Goals of the store of the engine's own kinds, and what is known of them.
-use Rattle.std.specs.Global.{Box}
-use Rattle.std.specs.Prelude.{◌≡◌, false, List, [], ◌∷◌, Option, Some, None, map}
+use Rattle.std.specs.Prelude.{◌≡◌, false, List, [], Option, Some, None}
 use Rattle.nts_model.specs.declared.labels.ClauseHead.TheVariants as clause_head
 use Rattle.nts_model.specs.declared.labels.PredicateHead.TheVariants as predicate_head
 use Rattle.nts_model.specs.declared.labels.Label.TheVariants as label

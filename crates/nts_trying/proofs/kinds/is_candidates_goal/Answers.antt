@@ -2,7 +2,6 @@ use Rattle.std.proofs.Common.{rules, ◌≡◌, ◌∙◌, false, not, is_some, 
 use Rattle.nts_model.specs.Terms.Trees.{children, row_length}
 use Rattle.nts_model.specs.Derivations.Sequents.{HasClosedStatements}
 use Rattle.nts_store.specs.Growth.{tree_at}
-use Rattle.nts_terms.specs.declared.kinds.PredicateKind.TheVariants as predicate
 use Rattle.nts_meaning.proofs.TraitsAsked.{trait_asked}
 use Rattle.nts_trying.proofs.Unasked.{not_false, closed_none, asked_flags, asked_binds_none, asked_args_closed}
 use Rattle.nts_trying.proofs.kinds.is_candidates_goal.Goals.{then-is_some-via-then-is_some, then-is_some-via-else-is_some+then-len-ne0}

@@ -1,4 +1,4 @@
-use Rattle.std.proofs.Common.{◌≡◌, ◌∙◌, sym, true, subst}
+use Rattle.std.proofs.Common.{◌∙◌, sym, subst}
 use Rattle.nts_store.proofs.Growing.{Extends-refl}
 use Rattle.nts_theory.specs.Affirming.{has_objects, feature_allowed}
 use Rattle.nts_trying.specs.Owning.{IsOwnGoal}

@@ -1,13 +1,11 @@
-use Rattle.std.proofs.Common.{◌≡◌, refl, sym, subst, ap, ◌∙◌, Some, is_some, true, Option}
-use Rattle.std.specs.Prelude.{option_map}
-use Rattle.nts_model.specs.Terms.Trees.{Tree, empty, more, node, kind_of, arguments}
+use Rattle.std.proofs.Common.{◌≡◌, sym, subst, ap, ◌∙◌, Some}
+use Rattle.nts_model.specs.Terms.Trees.{empty, more, node, kind_of, arguments}
 use Rattle.nts_model.specs.Derivations.Related.{alias_label}
 use Rattle.nts_store.specs.Growth.{tree_at}
 use Rattle.nts_store.proofs.Growing.{Extends-refl}
 use Rattle.nts_terms.specs.Handles.{alias_head}
 use Rattle.nts_terms.specs.Kinds.{tree_of_alias}
 use Rattle.nts_terms.specs.declared.handles.Const.{Const}
-use Rattle.nts_delegate.specs.Judging.{evaluates_in}
 use Rattle.nts_theory.specs.Affirming.{IsAffirmed, evaluatable, named_const, value_const, error_const}
 use Rattle.nts_trying.proofs.Owning.{affirmed_later, alias_evaluated, some_mapped}
 use Rattle.nts_trying.proofs.own.judge_const.Goals as goal

@@ -1,13 +1,12 @@
-use Rattle.std.proofs.Common.{rules, ◌≡◌, List, [], ◌∷◌, All, IfSome, Some, map, sym, ap, ◌∙◌, subst}
+use Rattle.std.proofs.Common.{rules, ◌≡◌, [], All, IfSome, Some, map, sym, ap, ◌∙◌, subst}
 use Rattle.std.specs.Prelude.{option_map}
 use Rattle.nts_store.specs.Growth.{tree_at}
 use Rattle.nts_store.proofs.Growing.{IsIn-extended}
 use Rattle.nts_model.specs.Terms.Trees.{IsClosed, IsFormed}
 use Rattle.nts_model.specs.Derivations.Related.{pair}
 use Rattle.nts_candidates.specs.Offered.{premise_of}
-use Rattle.nts_terms.specs.declared.handles.Goal.{Goal}
 use Rattle.nts_delegate.specs.Judging.{predicates_read, IsGoalIn}
-use Rattle.nts_theory.specs.Affirming.{is_well_formed, by_goals, plain_way, goals_there, IsOwnWay}
+use Rattle.nts_theory.specs.Affirming.{is_well_formed, by_goals, plain_way, IsOwnWay}
 use Rattle.nts_meaning.proofs.Evaluating.{HoldsGoal-extended}
 use Rattle.nts_trying.specs.Owning.{IsPlainWay, misc_goal}
 use Rattle.nts_trying.proofs.Owning.{states_in, plain_in, way_of, premises_there, term_candidate}

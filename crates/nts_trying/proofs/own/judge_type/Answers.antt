@@ -1,9 +1,7 @@
-use Rattle.std.proofs.Common.{rules, ◌≡◌, List, [], ◌∷◌, subst}
+use Rattle.std.proofs.Common.{rules, ◌≡◌, [], ◌∷◌, subst}
 use Rattle.nts_store.specs.Growth.{tree_at}
 use Rattle.nts_store.proofs.Growing.{Extends-refl}
 use Rattle.nts_model.specs.Derivations.Related.{value}
-use Rattle.nts_candidates.specs.declared.data.Equation.{Equation}
-use Rattle.nts_candidates.specs.declared.data.CandidateGoal.{CandidateGoal}
 use Rattle.nts_theory.specs.Affirming.{has_type, error_type, by_type}
 use Rattle.nts_trying.specs.Owning.{IsPlainWay}
 use Rattle.nts_trying.proofs.Owning.{States, states_in, affirmed_later, way_of, type_equation, type_candidate}
