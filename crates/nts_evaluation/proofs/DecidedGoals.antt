@@ -1,5 +1,5 @@
 -- A decided goal in the table of its query: it is opened, handlers are asked for it, and what they offer fares as it is decided.
-use Rattle.std.proofs.Common.{◌≡◌, inl, inr, ℕ, Bool, true, false, List, [], ◌∷◌, ◌++◌, sym, ap, subst, ◌∙◌, arith}
+use Rattle.std.proofs.Common.{◌≡◌, ℕ, Bool, true, false, List, [], ◌∷◌, ◌++◌, sym, ap, subst, ◌∙◌, arith}
 use Rattle.nts_model.specs.Terms.Trees.{Tree, any_label, is_canonical, IsFormed}
 use Rattle.nts_model.specs.Terms.Scoping.{IsWellBound}
 use Rattle.nts_model.specs.Tables.Resolving.{IsSound}

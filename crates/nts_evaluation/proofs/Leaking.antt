@@ -3,7 +3,6 @@ use Rattle.std.proofs.Common.{◌≡◌, ◌⊎◌, inl, inr, ℕ, arith, sym, �
 use Rattle.std.specs.Prelude.{Result, Ok, Err, IfOk, IfErr, OnOk}
 use Rattle.nts_store.specs.declared.fault.EvalError.{EvalError}
 use Rattle.nts_store.specs.declared.fault.EvalError.TheVariants as error
-use Rattle.nts_store.proofs.Growing.{IsIn-extended}
 use Rattle.nts_certainty.specs.declared.certainty.Certainty.{Certainty}
 use Rattle.nts_certainty.specs.declared.certainty.Certainty.TheVariants as certainty
 use Rattle.nts_terms.specs.declared.cx.Cx.{Cx}
@@ -21,7 +20,7 @@ use Rattle.nts_theory.specs.Telling.Fails.{is_leaky}
 use Rattle.nts_meaning.specs.Meant.{Rules, Since, FailsIn, HasRunTo}
 use Rattle.nts_meaning.specs.Searching.{IsSearch}
 use Rattle.nts_meaning.proofs.Evaluating.{Runs-trans, Runs-extends}
-use Rattle.nts_meaning.proofs.Searching.{search_later, search_grown, covers_grown, served_more}
+use Rattle.nts_meaning.proofs.Searching.{search_later, search_grown, covers_grown, held_more}
 use Rattle.nts_evaluation.specs.Promises.{RunsOne}
 use Rattle.nts_evaluation.proofs.DecidedCandidates.{checked_decided}
 
@@ -53,10 +52,7 @@ module _ {R : Rules} {a b c : Cx} {g h : SearchGraph} {t u : Table} {goal : Goal
         runs = Runs-trans ran.runs (Runs-extends goes.table grows.extends grows.rest);
         searches = search_grown n search ran.searches grows;
         labels = ok_ran _ r s ok (OnOk-map r (λ l. rw same l) ran.labels);
-        proved = λ z offered e.
-            let env = grows.extends.kept goal.param_env.node (IsIn-extended goes.extends goal.param_env.node holds.env.within) in
-            let predicate = grows.extends.kept goal.predicate.node (IsIn-extended goes.extends goal.predicate.node holds.predicate.within) in
-            rw (same, env, predicate) (served_more (covers_grown n (search_later n n (omega arith) search ran.searches) grows) (ran.proved z offered (sure_ran r s ok e)));
+        proved = λ z e. rw same (held_more (covers_grown n (search_later n n (omega arith) search ran.searches) grows) (ran.proved z (sure_ran r s ok e)));
         told = λ z tells. ok_ran _ r s ok (OnOk-map r (λ to. record { values = to.values; met = to.met; begun = to.begun; reaches = rw same to.reaches }) (ran.told z tells));
         refuted = λ z tells e.
             leaks_or_not (FailsIn (R.handler z.base) t.mode a.nodes t x) _ (HasRunTo (R.handler z.base) t.mode a.nodes t b.nodes u x) r s err (ran.told z tells) e (ran.refuted z tells) (leaks e)

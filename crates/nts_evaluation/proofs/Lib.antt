@@ -4,6 +4,8 @@ pub mod FactRoots
 mod FactTrials
 pub mod Coherence
 mod Leaking
+mod Serving
+mod OwnGoals
 mod AnswerExamples
 pub mod Deciding
 mod DecidedSteps

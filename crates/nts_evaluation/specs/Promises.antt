@@ -2,13 +2,19 @@
 use Rattle.std.specs.Global.{Box}
 use Rattle.std.specs.Prelude.{◌≡◌, ◌⊎◌, ℕ, ◌<◌, ◌≤◌, List, Result, Err, ◌≢◌, [], ◌∷◌, ◌+◌, Bool, true, false, Ok, IfOk, IfSome, OnOk, OnErr, IsTrue}
 use Rattle.nts_model.specs.Terms.Trees.{Tree}
-use Rattle.nts_model.specs.Derivations.Handlers.{Handler}
+use Rattle.nts_model.specs.Tables.Contents.{Content}
+use Rattle.nts_model.specs.Derivations.Rules.{Meaning, Mode, statement_of}
+use Rattle.nts_model.specs.Derivations.Handlers.{Handler, Candidate}
+use Rattle.nts_theory.specs.Affirming.{SaysAffirmed, IsDenied, HasOwnWay}
+use Rattle.nts_theory.specs.Telling.{IsResponseOf, IsPlainResponse}
+use Rattle.nts_meaning.specs.Telling.{Replies, Fails}
 use Rattle.nts_model.specs.Derivations.Proofs.{Assumed, passed}
-use Rattle.nts_model.specs.Searching.Stacks.{IsDerivedFrom, assumptions}
+use Rattle.nts_model.specs.Searching.Stacks.{IsDerivedFrom, HoldsCandidateFrom, assumptions}
 use Rattle.nts_model.specs.Answers.Responses.{answer_sequent}
 use Rattle.nts_certainty.specs.declared.sources.PathKind.{PathKind}
 use Rattle.nts_store.specs.declared.fault.EvalError.{EvalError}
 use Rattle.nts_terms.specs.declared.cx.Cx.{Cx}
+use Rattle.nts_terms.specs.declared.modes.TypingMode.{TypingMode}
 use Rattle.nts_terms.specs.Modes.{mode_of}
 use Rattle.nts_terms.specs.Rest.{Grows}
 use Rattle.nts_canonical.specs.declared.types.Canonical.{Canonical}
@@ -20,9 +26,9 @@ use Rattle.nts_response.specs.declared.types.Response.{Response}
 use Rattle.nts_response.specs.Forms.{response_at}
 use Rattle.nts_candidates.specs.Offered.{path_kind_of, candidate_of}
 use Rattle.nts_search.specs.declared.stack.SearchGraph.{SearchGraph}
-use Rattle.nts_meaning.specs.Meant.{Since, Rules, Always, meaning_since, IsQueryTold, IsQueryRefuted, AreOffered, IsOffered, IsServedSince, IsProvedNow, IsProvedFromSince, IsNestedSince, EvaluatesGoal, IsRefusedIn, EvaluatesUnder, IsRefusedUnder, IsTold, IsRefuted, HaveOutcomes, CandidatesTell, RepliesWith, FailsIn, HasRunTo, ReachesBy}
+use Rattle.nts_meaning.specs.Meant.{Since, Rules, Always, meaning_since, IsQueryTold, IsQueryRefuted, AreOffered, HoldsSince, IsServedSince, IsProvedNow, IsProvedFromSince, IsNestedSince, EvaluatesGoal, IsRefusedIn, EvaluatesUnder, IsRefusedUnder, IsTold, IsRefuted, HaveOutcomes, CandidatesTell, RepliesWith, FailsIn, HasRunTo, ReachesBy}
 use Rattle.nts_meaning.specs.Searching.{Searches, HeadsTell, IsCut, assumed_in, IsHeadAnswer, IsAnswerTold, IsGoalCut}
-use Rattle.nts_meaning.specs.Answering.{IsAnswerTo, IfAnswered, IfCertain, IfSure}
+use Rattle.nts_meaning.specs.Answering.{IsAnswerTo, IfAnswered, IfCertain, IfSure, is_yes, verdict_at}
 use Rattle.nts_model.specs.Tables.Passing.{BringsOnly}
 use Rattle.nts_certainty.specs.declared.sources.GoalSource.{GoalSource}
 use Rattle.nts_certainty.specs.declared.certainty.Certainty.{Certainty}
@@ -145,14 +151,42 @@ pub record AnswersGoal (R : Rules) (a b : Cx) (g h : SearchGraph) (t : Table) (g
   -- one candidate without goals decides it
   pub facts : WhereTold R a g (λ m. IsFactHere m t.mode a.nodes t goal values → CanDecide m a g 0 depth → Decides true r (λ x. IsYes x.value.value.certainty) g h)
 
--- .. by candidates, of which what is offered is said where they are offered: `Offered`; what is told and refuted of them; how
--- they fare where the goal is decided; and what is so where one of them decides it, which has no goals
-pub record AnswersBy (Offered : Handler → Type 0) (Told : Handler → Canonical Response → Type 0) (Failed : Handler → Type 0) (Settled : Handler → ℕ → Bool → Type 0) (Facts : Handler → Type 0) (R : Rules) (a b : Cx) (g h : SearchGraph) (t u : Table) (goal : Goal)
+-- what is known of a goal of the engine's own kinds, the trees of which are of the store a: that the handler affirms it, or that its
+-- own way holds in the table c
+abbrev pub HoldsOwn : Handler → Meaning → Mode → List Assumed → List Tree → Goal → Content → Type 0
+HoldsOwn h m mode A a g c =
+    SaysAffirmed h.judges (tree_at a g.param_env.node) (tree_at a g.predicate.node)
+    ⊎ ((x : Candidate) × HasOwnWay h.judges (tree_at a g.param_env.node) (tree_at a g.predicate.node) x × HoldsCandidateFrom m mode A c (tree_at a g.predicate.node) x)
+
+-- .. what a response of the store b says of it: yes, where the table is as before; the verdict of its own way; or nothing
+abbrev pub OwnTold : Handler → TypingMode → List Tree → Table → Goal → List GenericArg → List Tree → Canonical Response → Type 0
+OwnTold h mode a t g qs b r =
+    SaysAffirmed h.judges (tree_at a g.param_env.node) (tree_at a g.predicate.node) × (is_yes r.value.certainty ≡ true) × IsResponseOf (content_of a t.entries) (trees_of a qs) (response_at b r)
+    ⊎ ((x : Candidate) × HasOwnWay h.judges (tree_at a g.param_env.node) (tree_at a g.predicate.node) x × Replies h (mode_of mode) (content_of a t.entries) (tree_at a g.param_env.node) (tree_at a g.predicate.node) (trees_of a qs) x (verdict_at b r))
+    ⊎ (is_yes r.value.certainty ≡ false) × IsPlainResponse (content_of a t.entries) (trees_of a qs) (response_at b r)
+
+-- .. and why it has no solution: the handler denies it, or its own way fails
+abbrev pub OwnRefuted : Handler → TypingMode → List Tree → Table → Goal → Type 0
+OwnRefuted h mode a t g =
+    IsDenied h.judges (statement_of (tree_at a g.predicate.node))
+    ⊎ ((x : Candidate) × HasOwnWay h.judges (tree_at a g.param_env.node) (tree_at a g.predicate.node) x × Fails h (mode_of mode) (content_of a t.entries) x)
+
+-- such a goal is answered
+pub record AnswersOwn (R : Rules) (a b : Cx) (g h : SearchGraph) (t : Table) (goal : Goal) (values : List GenericArg) (depth : ℕ) (r : Result (Box (Canonical Response)) EvalError) : Type 0 where
+  pub grows : Grows a b
+  pub searches : Searches a b g h
+  pub found : IfAnswered r (Found (λ c v. Always R a (λ s. HoldsOwn (R.handler s.base) (meaning_since R.handler s) (mode_of t.mode) (assumed_in b.nodes h) a.nodes goal (content_of c v.entries))) a.nodes b.nodes t goal values)
+  pub told : WhereTold R a g (λ m. IfAnswered r (OwnTold m t.mode a.nodes t goal values b.nodes))
+  pub refuted : WhereTold R a g (λ m. r ≡ Err error.NoSolution → OwnRefuted m t.mode a.nodes t goal)
+
+-- .. by candidates: what is proved where the answer is certain; what is told and refuted of them; how they fare where the goal is
+-- decided; and what is so where one of them decides it, which has no goals
+pub record AnswersBy (Proved : List Assumed → List Tree → Table → Type 0) (Told : Handler → Canonical Response → Type 0) (Failed : Handler → Type 0) (Settled : Handler → ℕ → Bool → Type 0) (Facts : Handler → Type 0) (R : Rules) (a b : Cx) (g h : SearchGraph) (t u : Table) (goal : Goal)
     (values : List GenericArg) (depth : ℕ) (r : Result (Box (Canonical Response)) EvalError) : Type 0 where
   pub same : u ≡ t
   pub grows : Grows a b
   pub searches : Searches a b g h
-  pub found : IfAnswered r (Found (λ c v. Always R a (λ s. Offered (R.handler s.base) → IsServedSince R.handler s t.mode (assumed_in b.nodes h) c v goal)) a.nodes b.nodes t goal values)
+  pub found : IfAnswered r (Found (Proved (assumed_in b.nodes h)) a.nodes b.nodes t goal values)
   pub told : WhereTold R a g (λ m. IfAnswered r (Told m))
   pub refuted : WhereTold R a g (λ m. r ≡ Err error.NoSolution → Failed m)
   pub decided : AnswersDecided R a g h depth Settled r (λ x. IsYes x.value.value.certainty)
@@ -160,12 +194,12 @@ pub record AnswersBy (Offered : Handler → Type 0) (Told : Handler → Canonica
 
 abbrev pub TriesEach : Rules → Cx → Cx → SearchGraph → SearchGraph → Table → Table → Goal → List GenericArg → List CandidateData → ℕ → Result (Box (Canonical Response)) EvalError → Type 0
 TriesEach R a b g h t u goal values xs depth r =
-    AnswersBy (λ m. AreOffered m t.mode a.nodes goal xs) (λ m. CandidatesTell m t.mode a.nodes t goal values xs b.nodes) (λ m. HaveOutcomes m t.mode a.nodes t goal values xs []) (λ m n k. AreRootValues a.nodes values × CandidatesSettled m t.mode n a.nodes t xs k)
+    AnswersBy (λ A c v. Always R a (λ s. AreOffered (R.handler s.base) t.mode a.nodes goal xs → IsServedSince R.handler s t.mode A c v goal)) (λ m. CandidatesTell m t.mode a.nodes t goal values xs b.nodes) (λ m. HaveOutcomes m t.mode a.nodes t goal values xs []) (λ m n k. AreRootValues a.nodes values × CandidatesSettled m t.mode n a.nodes t xs k)
     (λ m. IsQueryAtFirst a.nodes t goal values → CandidatesSettled m t.mode 0 a.nodes t xs true → ArePlainCandidates a.nodes t goal xs → CanDecide m a g 0 depth → Decides true r (λ x. IsYes x.value.value.certainty) g h) R a b g h t u goal values depth r
 
 abbrev pub TriesOne : Rules → Cx → Cx → SearchGraph → SearchGraph → Table → Table → Goal → List GenericArg → CandidateData → ℕ → Result (Box (Canonical Response)) EvalError → Type 0
 TriesOne R a b g h t u goal values x depth r =
-    AnswersBy (λ m. IsOffered m t.mode a.nodes goal x) (λ m. RepliesWith m t.mode a.nodes t goal values x b.nodes) (λ m. FailsIn m t.mode a.nodes t x) (λ m n k. IsSettled m t.mode n a.nodes t x k)
+    AnswersBy (λ A c v. Always R a (λ s. HoldsSince R.handler s t.mode A c v (tree_at a.nodes goal.predicate.node) (candidate_of a.nodes x))) (λ m. RepliesWith m t.mode a.nodes t goal values x b.nodes) (λ m. FailsIn m t.mode a.nodes t x) (λ m n k. IsSettled m t.mode n a.nodes t x k)
     (λ m. IsQueryAtFirst a.nodes t goal values → IsPlainCandidate a.nodes goal (candidate_of a.nodes x) → IfAnswered r (IsOverIfSilent b.nodes (trees_of a.nodes values))) R a b g h t u goal values depth r
 
 -- a candidate is run, and what it did stays in the table
@@ -173,7 +207,7 @@ pub record RunsOne (R : Rules) (a b : Cx) (g h : SearchGraph) (t u : Table) (goa
   pub runs : Runs a b t u
   pub searches : Searches a b g h
   pub labels : OnOk r (BringsOnlyOf (asked_terms a.nodes goal) a t b u)
-  pub proved : Always R a (λ s. IsOffered (R.handler s.base) t.mode a.nodes goal x → r ≡ Ok certainty.Yes → IsServedSince R.handler s t.mode (assumed_in b.nodes h) b.nodes u goal)
+  pub proved : Always R a (λ s. r ≡ Ok certainty.Yes → HoldsSince R.handler s t.mode (assumed_in b.nodes h) b.nodes u (tree_at a.nodes goal.predicate.node) (candidate_of a.nodes x))
   pub told : WhereTold R a g (λ m. OnOk r (HasRunTo m t.mode a.nodes t b.nodes u x))
   pub refuted : WhereTold R a g (λ m. r ≡ Err error.NoSolution → FailsIn m t.mode a.nodes t x)
   pub decided : AnswersDecided R a g h depth (λ m n k. IsSettled m t.mode n a.nodes t x k) r IsYes

@@ -6,10 +6,11 @@ ghost use Rattle.nts_delegate.specs.Candidates.{IsCandidate, AreCandidates};
 ghost use Rattle.nts_meaning.specs.Searching.{IsSearch, IsHeadAnswer};
 ghost use Rattle.nts_trying.specs.Stepping.{ArePosed, bound_of};
 ghost use Rattle.nts_meaning.specs.Answering.{IsQueryInput};
-ghost use Rattle.nts_meaning.specs.Evaluation.{IsPosed, IsAskedGoal};
+ghost use Rattle.nts_meaning.specs.Evaluation.{IsPosed, NormalizesNone};
+ghost use Rattle.nts_trying.specs.Owning.{IsOwnGoal};
 ghost use Rattle.nts_table.specs.Tables.{IsTable};
 ghost use Rattle.nts_meaning.specs.Meant.{rules_of};
-ghost use Rattle.nts_evaluation.specs.Promises.{AnswersQuery, AsksGoal, AsksAdded, EndsRound, AnswersGoal, TriesEach, TriesOne, RunsOne, StepsGoals, StepsOnce};
+ghost use Rattle.nts_evaluation.specs.Promises.{AnswersQuery, AsksGoal, AsksAdded, EndsRound, AnswersGoal, AnswersOwn, TriesEach, TriesOne, RunsOne, StepsGoals, StepsOnce};
 
 use nts_asking::{
     answer_cycle, apply_answer, boxed_query, end_round, first_round, keeps_constraints,
@@ -25,8 +26,9 @@ use nts_store::EvalError;
 use nts_table::InferCtxt;
 use nts_terms::{Cx, GenericArg, Goal};
 use nts_trying::{
-    AvailableDepth, GoalRow, Step, Trial, answer_outlives, check_leaks, enter_forall, equate,
-    goal_kind, goal_row, keep_response, merge_responses, record_constraints,
+    AvailableDepth, GoalRow, Judged, OwnGoal, Step, Trial, answer_outlives, check_leaks,
+    enter_forall, equate, goal_kind, goal_row, judge, keep_response, merge_responses,
+    record_constraints,
 };
 
 /// Evaluates a goal in a query of its own: its leaves give place to positions, the search answers the query, and the response is
@@ -170,6 +172,11 @@ fn compute_goal<H: GoalHandler>(
             let response = answer_outlives(table, cx, opened, outlives, values)?;
             return Ok(response);
         }
+        GoalRow::Own(opened, own) => {
+            let response = evaluate_own(table, cx, handler, graph, opened, own, values, depth);
+            cx.terms_are_formed();
+            return response;
+        }
         GoalRow::Candidates(opened) => opened,
     };
     let candidates = handler.relevant_candidates(cx, table.typing_mode(), opened)?;
@@ -187,6 +194,47 @@ fn compute_goal<H: GoalHandler>(
     response
 }
 
+/// Answers a goal of the engine's own kinds: at once, by what is known of it, or by the one way in which it may hold. The table is
+/// as before.
+#[cycle(evaluate)]
+fn evaluate_own<H: GoalHandler>(
+    table: &mut InferCtxt,
+    cx: &mut Cx,
+    handler: &H,
+    graph: &mut SearchGraph,
+    goal: Goal,
+    own: OwnGoal,
+    values: &[GenericArg],
+    depth: usize,
+) -> Result<Box<CanonicalResponse>, EvalError>
+    requires posed { IsPosed cx.old.nodes table.old goal }
+    requires own { IsOwnGoal cx.old.nodes goal own }
+    requires ready { H.ready cx.old.nodes handler.now }
+    requires values { All (IsArgOf cx.old.nodes table.old.entries) values.now }
+    requires search { IsSearch cx.old graph.old (depth) }
+    ensures { AnswersOwn (rules_of H.ready H.handler handler.now) cx.old cx.new graph.old graph.new
+        table.old goal values.now depth result }
+{
+    let judged = judge(cx, handler, goal, own)?;
+    cx.terms_are_formed();
+    match judged {
+        Judged::Yes => {
+            let response = boxed_response(table, cx, values, Certainty::Yes)?;
+            Ok(response)
+        }
+        Judged::No => Err(EvalError::NoSolution),
+        Judged::Unknown => {
+            let response = boxed_response(table, cx, values, Certainty::AMBIGUOUS)?;
+            Ok(response)
+        }
+        Judged::Way(way) => {
+            let response = probe_candidate(table, cx, handler, graph, goal, &way, values, depth);
+            cx.terms_are_formed();
+            response
+        }
+    }
+}
+
 /// Asks each candidate to its end. Those that fail are dropped, and one response stands for those of the others; where none does,
 /// it is ambiguous. The table is as before.
 #[cycle(evaluate)]
@@ -201,7 +249,7 @@ fn evaluate_candidates<H: GoalHandler>(
     depth: usize,
 ) -> Result<Box<CanonicalResponse>, EvalError>
     requires posed { IsPosed cx.old.nodes table.old goal }
-    requires asked { IsAskedGoal cx.old.nodes goal }
+    requires kind { NormalizesNone cx.old.nodes goal }
     requires ready { H.ready cx.old.nodes handler.now }
     requires candidates { AreCandidates cx.old.nodes goal candidates.now }
     requires values { All (IsArgOf cx.old.nodes table.old.entries) values.now }
@@ -231,7 +279,7 @@ fn probe_candidate<H: GoalHandler>(
     depth: usize,
 ) -> Result<Box<CanonicalResponse>, EvalError>
     requires posed { IsPosed cx.old.nodes table.old goal }
-    requires asked { IsAskedGoal cx.old.nodes goal }
+    requires kind { NormalizesNone cx.old.nodes goal }
     requires ready { H.ready cx.old.nodes handler.now }
     requires candidate { IsCandidate cx.old.nodes goal candidate.now }
     requires values { All (IsArgOf cx.old.nodes table.old.entries) values.now }
@@ -270,7 +318,7 @@ fn run_candidate<H: GoalHandler>(
     depth: usize,
 ) -> Result<Certainty, EvalError>
     requires posed { IsPosed cx.old.nodes table.old goal }
-    requires asked { IsAskedGoal cx.old.nodes goal }
+    requires kind { NormalizesNone cx.old.nodes goal }
     requires ready { H.ready cx.old.nodes handler.now }
     requires candidate { IsCandidate cx.old.nodes goal candidate.now }
     requires search { IsSearch cx.old graph.old (depth) }
@@ -293,7 +341,7 @@ fn try_candidate<H: GoalHandler>(
     depth: usize,
 ) -> Result<Certainty, EvalError>
     requires posed { IsPosed cx.old.nodes table.old goal }
-    requires asked { IsAskedGoal cx.old.nodes goal }
+    requires kind { NormalizesNone cx.old.nodes goal }
     requires ready { H.ready cx.old.nodes handler.now }
     requires candidate { IsCandidate cx.old.nodes goal candidate.now }
     requires search { IsSearch cx.old graph.old (depth) }

@@ -80,9 +80,11 @@ use Rattle.nts_evaluation.proofs.evaluate.+evaluate.Goals as goal
 use Rattle.nts_evaluation.proofs.evaluate.+evaluate.Answers.Queries as queries
 use Rattle.nts_evaluation.proofs.evaluate.+evaluate.Answers.Candidates as candidates
 use Rattle.nts_evaluation.proofs.evaluate.+evaluate.Answers.Steps as steps
+use Rattle.nts_evaluation.proofs.evaluate.+evaluate.Answers.Own as own
 mod Queries
 mod Candidates
 mod Steps
+mod Own
 
 pub compute_goal-evaluate_candidates-response-requires : goal.compute_goal-evaluate_candidates-response-requires
 compute_goal-evaluate_candidates-response-requires = candidates.compute_goal-evaluate_candidates-response-requires
@@ -205,6 +207,51 @@ compute_goal-returns-in-Outlives g t c =
           let asked = fact_asked (g.H.GoalHandler.handler s.base c.args.handler.now) (mode_of c.args.table.now.mode) c.args.cx.now.nodes c.enter_forall.new.cx.nodes c.args.table.now c.enter_forall.new.table c.args.goal _ opened settled c.requires.posed posed o.grows.extends in
           absurd (trait_outlives_nothing _ _ (let z = asked.trait_goal in z.statement) (let z = says.is in z.says));
     }
+
+pub compute_goal-evaluate_own-response-requires : goal.compute_goal-evaluate_own-response-requires
+compute_goal-evaluate_own-response-requires = own.compute_goal-evaluate_own-response-requires
+
+pub compute_goal-returns-in-Own : goal.compute_goal-returns-in-Own
+compute_goal-returns-in-Own = own.compute_goal-returns-in-Own
+
+pub evaluate_own-judge-requires-clause-plain : goal.evaluate_own-judge-requires-clause-plain
+evaluate_own-judge-requires-clause-plain = own.evaluate_own-judge-requires-clause-plain
+
+pub evaluate_own-returns-in_err-judged : goal.evaluate_own-returns-in_err-judged
+evaluate_own-returns-in_err-judged = own.evaluate_own-returns-in_err-judged
+
+pub evaluate_own-boxed_response-requires-clause-table : goal.evaluate_own-boxed_response-requires-clause-table
+evaluate_own-boxed_response-requires-clause-table = own.evaluate_own-boxed_response-requires-clause-table
+
+pub evaluate_own-boxed_response-requires-clause-values : goal.evaluate_own-boxed_response-requires-clause-values
+evaluate_own-boxed_response-requires-clause-values = own.evaluate_own-boxed_response-requires-clause-values
+
+pub evaluate_own-returns-in_err-response-in-Yes : goal.evaluate_own-returns-in_err-response-in-Yes
+evaluate_own-returns-in_err-response-in-Yes = own.evaluate_own-returns-in_err-response-in-Yes
+
+pub evaluate_own-boxed_response-requires-in-Unknown-clause-table : goal.evaluate_own-boxed_response-requires-in-Unknown-clause-table
+evaluate_own-boxed_response-requires-in-Unknown-clause-table = own.evaluate_own-boxed_response-requires-in-Unknown-clause-table
+
+pub evaluate_own-boxed_response-requires-in-Unknown-clause-values : goal.evaluate_own-boxed_response-requires-in-Unknown-clause-values
+evaluate_own-boxed_response-requires-in-Unknown-clause-values = own.evaluate_own-boxed_response-requires-in-Unknown-clause-values
+
+pub evaluate_own-returns-in_err-response-in-Unknown : goal.evaluate_own-returns-in_err-response-in-Unknown
+evaluate_own-returns-in_err-response-in-Unknown = own.evaluate_own-returns-in_err-response-in-Unknown
+
+pub evaluate_own-probe_candidate-response-requires : goal.evaluate_own-probe_candidate-response-requires
+evaluate_own-probe_candidate-response-requires = own.evaluate_own-probe_candidate-response-requires
+
+pub evaluate_own-returns-in-No : goal.evaluate_own-returns-in-No
+evaluate_own-returns-in-No = own.evaluate_own-returns-in-No
+
+pub evaluate_own-returns-in_ok-response-in-Yes : goal.evaluate_own-returns-in_ok-response-in-Yes
+evaluate_own-returns-in_ok-response-in-Yes = own.evaluate_own-returns-in_ok-response-in-Yes
+
+pub evaluate_own-returns-in_ok-response-in-Unknown : goal.evaluate_own-returns-in_ok-response-in-Unknown
+evaluate_own-returns-in_ok-response-in-Unknown = own.evaluate_own-returns-in_ok-response-in-Unknown
+
+pub evaluate_own-returns-in-Way : goal.evaluate_own-returns-in-Way
+evaluate_own-returns-in-Way = own.evaluate_own-returns-in-Way
 
 pub evaluate_added-evaluate_goal-requires : goal.evaluate_added-evaluate_goal-requires
 evaluate_added-evaluate_goal-requires = steps.evaluate_added-evaluate_goal-requires
@@ -502,7 +549,7 @@ pub run_candidate-returns : goal.run_candidate-returns
 run_candidate-returns = candidates.run_candidate-returns
 
 pub run_candidate-try_candidate-tried-requires : goal.run_candidate-try_candidate-tried-requires
-run_candidate-try_candidate-tried-requires g t c = λ κs k. (omega (arith, c.decreases), (k, (c.requires.posed, (c.requires.asked, (c.requires.ready, (c.requires.candidate, c.requires.search))))))
+run_candidate-try_candidate-tried-requires g t c = λ κs k. (omega (arith, c.decreases), (k, (c.requires.posed, (c.requires.kind, (c.requires.ready, (c.requires.candidate, c.requires.search))))))
 
 pub try_candidate-added_goals-requires-clause-nested : goal.try_candidate-added_goals-requires-clause-nested
 try_candidate-added_goals-requires-clause-nested g t c =

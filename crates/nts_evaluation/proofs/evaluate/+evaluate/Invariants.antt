@@ -36,6 +36,9 @@ decreases-evaluate_round g l = 20 * l.depth + 15
 abbrev pub decreases-compute_goal : goal.decreases-compute_goal
 decreases-compute_goal g l = 20 * l.depth + 14
 
+abbrev pub decreases-evaluate_own : goal.decreases-evaluate_own
+decreases-evaluate_own g l = 20 * l.depth + 13
+
 abbrev pub decreases-evaluate_candidates : goal.decreases-evaluate_candidates
 decreases-evaluate_candidates g l = 20 * l.depth + 13
 

@@ -33,8 +33,7 @@ returns-clause-judged g c =
     let law = g.met.H.GoalHandler.lawful b c.args.handler.now c.terms_are_formed.ensures (g.met.H.GoalHandler.ready_kept a b c.args.handler.now c.requires.ready up) in
     let term_in = IsIn-extended up c.args.term.node c.requires.own.fits.within in
     let formed : IsFormed (pair e t) = (c.terms_are_formed.ensures goal_at.param_env.node holds.env.within, (c.terms_are_formed.ensures c.args.term.node term_in, tt)) in
-    let way : IsOwnWay h.judges e (is_well_formed t) (plain_way [] (map (premise_of b) gs)) = subst (λ z. IsOwnWay h.judges e (is_well_formed t) (plain_way [] z)) (sym (premises_there b goal_at c.in-Some.named.items all)) (by_goals q) in
-    (
+    let way : IsOwnWay h.judges e (is_well_formed t) (plain_way [] (map (premise_of b) gs)) = subst (λ z. IsOwnWay h.judges e (is_well_formed t) (plain_way [] z)) (sym (premises_there b goal_at c.in-Some.named.items all)) (by_goals q) in (
       way_of h.judges b goal_at (is_well_formed t) found [] gs c.terms_are_formed.ensures holds.predicate.within states plain way,
       term_candidate b goal_at c.args.term holds (plain_in up c.requires.holds c.requires.plain) states closed c.in-Some.named.items found all (λ p i. (let x = law.judges.goals e t ps p formed q i in x.0)) plain,
     )

@@ -16,8 +16,7 @@ returns-in_ok-way-in-Value-clause-judged c = λ j.
     let qs : c.push.new.self.items ≡ type_equation of ty ∷ [] = first_of (cc, search rules) in
     let gs : c.new.result.items ≡ [] = first_of (cc, search rules) in
     let way : IsPlainWay found (type_equation of ty ∷ []) [] = subst (λ z. IsPlainWay found z []) qs (subst (λ z. IsPlainWay found c.push.new.self.items z) gs c.in_ok-way-in-Value.ensures.plain) in
-    let states : States ts c.args.goal (has_type (value c.in-Value.bits (tree_at ts of.node)) (tree_at ts ty.node)) = subst (λ z. States ts c.args.goal (has_type z (tree_at ts ty.node))) c.in-Value.ensures.tree (states_in (Extends-refl ts) c.requires.holds c.requires.own) in
-    (
+    let states : States ts c.args.goal (has_type (value c.in-Value.bits (tree_at ts of.node)) (tree_at ts ty.node)) = subst (λ z. States ts c.args.goal (has_type z (tree_at ts ty.node))) c.in-Value.ensures.tree (states_in (Extends-refl ts) c.requires.holds c.requires.own) in (
       way_of j ts c.args.goal _ found (type_equation of ty ∷ []) [] c.terms_are_formed.ensures c.requires.holds.predicate.within states way by_type,
       type_candidate ts c.args.goal c.in-Value.bits of ty found c.in-Value.ensures.fits c.requires.own.fits.1 c.requires.plain states way,
     )

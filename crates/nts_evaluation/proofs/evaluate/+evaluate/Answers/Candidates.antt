@@ -15,7 +15,7 @@ use Rattle.nts_candidates.proofs.Results.{IfOk-map}
 use Rattle.nts_canonical.specs.Forms.{trees_of}
 use Rattle.nts_meaning.specs.Meant.{Since, rules_of}
 use Rattle.nts_evaluation.proofs.Leaking.{checked}
-use Rattle.nts_meaning.proofs.TraitsAsked.{IsAskedGoal-extended, kind_asked}
+use Rattle.nts_meaning.proofs.TraitsAsked.{none-extended, kind_asked}
 use Rattle.nts_meaning.proofs.AskedGoals.{trees_kept}
 use Rattle.nts_meaning.proofs.AnsweredQueries.{args_later}
 use Rattle.nts_trying.proofs.Labels.{only_earlier, only_back}
@@ -27,11 +27,12 @@ use Rattle.nts_response.specs.declared.types.Response.{Response}
 use Rattle.nts_store.specs.Kept.{map-kept, AllIn-kept}
 use Rattle.nts_trying.proofs.Opened.{told_through, told_offered, refuted_through, labels_through, proved_through}
 use Rattle.nts_trying.proofs.Probed.{found_in, found_still, went_in, plain_of, not_kept, says_found, says_before, run_replies}
-use Rattle.nts_trying.proofs.Outcomes.{found_earlier, founds_more, founds_with, outcomes_first, outcomes_more, failed_of}
+use Rattle.nts_evaluation.proofs.Serving.{served_by}
+use Rattle.nts_trying.proofs.Outcomes.{found_earlier, found_of, founds_more, founds_with, outcomes_first, outcomes_more, failed_of}
 use Rattle.nts_trying.proofs.Ran.{added_is, added_only, ran_to, ran_refused, all_proved, all_posed, proved_all, ok_inside}
 use Rattle.nts_model.specs.Derivations.Rules.{goal_kind}
 use Rattle.nts_meaning.specs.Searching.{HeadsTell, assumed_in}
-use Rattle.nts_meaning.proofs.Searching.{Searches-refl, Searches-trans, search_later, search_grown, search_grows, search_covers, covers_grown, served_more, tell_grown, heads_tell_later}
+use Rattle.nts_meaning.proofs.Searching.{Searches-refl, Searches-trans, search_later, search_grown, search_grows, search_covers, covers_grown, served_more, held_more, tell_grown, heads_tell_later}
 use Rattle.nts_meaning.specs.Answering.{is_yes, verdict_at}
 use Rattle.nts_meaning.proofs.Rounds.{grown, ran, search_then}
 use Rattle.nts_delegate.specs.Relevant.{LeavesOut}
@@ -71,7 +72,7 @@ compute_goal-evaluate_candidates-response-requires g t c = λ κs k.
         (
           IsPosed-later goes posed,
           (
-            IsAskedGoal-extended more c.in-Candidates.ensures.1,
+            none-extended more posed.holds (let z = c.in-Candidates.ensures.1 in z.plain),
             (
               g.met.H.GoalHandler.ready_kept _ _ _ c.requires.ready (Extends-trans o.grows.extends more),
               (
@@ -205,9 +206,9 @@ evaluate_candidates-loop-candidate-preserved g t c =
       searches = Searches-trans i.searches p.searches;
       found = founds_more rs new c.probe_candidate-answer.result p.grows.extends (founds_with rs (λ b u f s offered. served_more covers (f s offered)) i.found)
           (IfOk-map c.probe_candidate-answer.result
-          (λ r f. found_earlier r.value i.grows.extends w holds c.requires.values
-          (λ b u f s offered. f (Since-later i.grows s)
-          (rw (offers-kept (g.H.GoalHandler.handler s.base c.args.handler.now) (mode_of mode) i.grows.extends holds) (offered_there _ c.args.goal _ cs c.loop-candidate.candidate-index c.candidate-item.is at c.requires.candidates i.grows.extends offered))) f)
+          (λ r f. found_earlier r.value i.grows.extends w holds c.requires.values (λ b u f. f)
+          (found_of r.value (λ b u later f s offered. served_by (g.H.GoalHandler.handler s.base c.args.handler.now) (meaning (g.H.GoalHandler.handler s.base c.args.handler.now) s.variances) mode _ c.loop-candidate.cx.nodes b u c.args.goal _ later (HoldsGoal-extended i.grows.extends holds)
+          (rw (offers-kept (g.H.GoalHandler.handler s.base c.args.handler.now) (mode_of mode) i.grows.extends holds) (offered_there _ c.args.goal _ cs c.loop-candidate.candidate-index c.candidate-item.is at c.requires.candidates i.grows.extends offered)) (f (Since-later i.grows s))) f))
           (rw i.same at p.found)) m.kept;
       told = λ s tells. outcomes_more (g.H.GoalHandler.handler s.base c.args.handler.now) mode cs c.loop-candidate.candidate-index x x rs new c.probe_candidate-answer.result at c.candidate-item.is i.grows.extends p.grows.extends w c.requires.values (candidate_at c.args.cx.now.nodes c.args.goal cs c.loop-candidate.candidate-index x c.requires.candidates at) i.found m.kept holds
           (rw i.same at (p.told (Since-later i.grows s) (later s tells)))
@@ -258,7 +259,7 @@ evaluate_candidates-probe_candidate-answer-requires g t c = λ κs k.
         (
           IsPosed-later goes c.requires.posed,
           (
-            IsAskedGoal-extended i.grows.extends c.requires.asked,
+            none-extended i.grows.extends c.requires.posed.holds c.requires.kind,
             (
               g.met.H.GoalHandler.ready_kept _ _ _ c.requires.ready i.grows.extends,
               (
@@ -326,7 +327,7 @@ probe_candidate-returns-then-keeps_constraints g t c =
       searches = search_grown c.args.depth c.requires.search c.in-Ok.ensures.searches c.boxed_response-response.ensures.grows;
       found =
           found_in c.in_ok-response.field-0.value c.in-Ok.certainty went c.terms_are_formed.ensures m.grows.extends (rw o.entries at r.labels) c.requires.values m.certainty m.says m.holds (record { no_hidden = m.nothing.0; no_goals = m.nothing.1 })
-          (λ y s offered. served_more covers (rw o.mode at (r.proved s (rw o.mode offered) (ap Ok y))));
+          (λ y s. held_more covers (rw o.mode at (r.proved s (ap Ok y))));
       told = λ s tells.
           let h = g.H.GoalHandler.handler s.base c.args.handler.now in
           run_replies c.start_snapshot.new.self c.args.table.now c.run_candidate.new.table h c.args.table.now.mode c.args.candidate.now c.args.goal (trees_of c.args.cx.now.nodes c.args.values.now) _ (r.told s tells) o.mode o.entries c.terms_are_formed.ensures r.runs.goes.table r.labels
@@ -376,7 +377,7 @@ try_candidate-returns g t c =
       runs = Runs-trans upto c.in_ok-certainty.ensures.runs;
       searches = search_then c.args.depth c.requires.search (grown (ran c.in_ok-values.ensures.runs) (grown (ran c.in_ok-record_constraints.ensures.runs) c.in_ok-goals.ensures.grows)) c.in_ok-certainty.ensures.searches;
       labels = only-trans v.labels (only_earlier v.runs.goes.extends c.requires.posed.holds (only-trans k.labels (only_earlier k.runs.goes.extends (HoldsGoal-extended v.runs.goes.extends c.requires.posed.holds) brought)));
-      proved = λ s offered y.
+      proved = λ s y.
           let h = g.H.GoalHandler.handler s.base c.args.handler.now in
           let since = Since-later (grown (ran there) n.grows) s in
           let sure = both_sure _ _ (sym c.and.ensures ∙ ok_inside y) in
@@ -391,8 +392,7 @@ try_candidate-returns g t c =
             constraints = Constrains-later c.args.cx.now.nodes vs x.region_constraints.items steps.goes (AllIn-kept c.equate.new.cx.nodes c.record_constraints.new.cx.nodes vs within k.runs.goes.extends) (rw (c.deref-3.ensures.value, constraints) at k.held);
             goals = all_proved (meaning (g.H.GoalHandler.handler s.base c.args.handler.now) s.variances) (mode_of mode) kind A (map (tree_at z) vs) (map (premise_of c.args.cx.now.nodes) x.goals.items) gs goals (all_posed gs n.added.posed) e.runs.goes c.terms_are_formed-2.ensures (proved_all _ gs none settled);
           } in
-          rw (all.goes.extends.kept c.args.goal.param_env.node c.requires.posed.holds.env.within, all.goes.extends.kept c.args.goal.predicate.node c.requires.posed.holds.predicate.within)
-          (has_run h s.variances (mode_of mode) A here seen (map (tree_at z) vs) (tree_at c.args.cx.now.nodes c.args.goal.param_env.node) (tree_at c.args.cx.now.nodes c.args.goal.predicate.node) (term_table c.terms_are_formed-2.ensures e.runs.goes.table) offered run);
+          has_run (meaning h s.variances) (mode_of mode) A here seen (map (tree_at z) vs) (tree_at c.args.cx.now.nodes c.args.goal.predicate.node) (term_table c.terms_are_formed-2.ensures e.runs.goes.table) run;
       told = λ s tells.
           let h = g.H.GoalHandler.handler s.base c.args.handler.now in
           let since = Since-later (grown (ran there) n.grows) s in
@@ -430,7 +430,7 @@ try_candidate-returns-in_err-certainty g t c =
           let h = g.H.GoalHandler.handler s.base c.args.handler.now in
           let since = Since-later (grown (ran there) n.grows) s in
           let refused : c.try_evaluate_goals.result ≡ Err EvalError.NoSolution = search rules in
-          ran_refused {t = c.args.table.now} {u = c.equate.new.table} {v = c.record_constraints.new.table} h mode c.args.goal x vs gs (rw c.deref-2.ensures.value v.equated) (rw (c.deref-3.ensures.value) at k.added) constraints c.requires.candidate.goals v.runs.goes.extends k.runs.goes.extends there.goes.extends n.grows.extends k.runs.goes.table within (rw c.deref-4.ensures.value at n.added.goals) (rw upto.goes.mode at (stopped_refused c.record_constraints.new.table _ c.goal_kind-kind.result (kind_asked c.goal_kind-kind.result (meaning h s.variances) (c.goal_kind-kind.ensures.kind s.base s.variances) c.requires.asked) (c.try_evaluate_goals.ensures.refuted since (tell_grown h c.args.depth c.requires.search (grown (ran c.in_ok-values.ensures.runs) (grown (ran c.in_ok-record_constraints.ensures.runs) c.in_ok-goals.ensures.grows)) tells) refused)));
+          ran_refused {t = c.args.table.now} {u = c.equate.new.table} {v = c.record_constraints.new.table} h mode c.args.goal x vs gs (rw c.deref-2.ensures.value v.equated) (rw (c.deref-3.ensures.value) at k.added) constraints c.requires.candidate.goals v.runs.goes.extends k.runs.goes.extends there.goes.extends n.grows.extends k.runs.goes.table within (rw c.deref-4.ensures.value at n.added.goals) (rw upto.goes.mode at (stopped_refused c.record_constraints.new.table _ c.goal_kind-kind.result (kind_asked c.args.cx.now.nodes c.args.goal c.goal_kind-kind.result (meaning h s.variances) (c.goal_kind-kind.ensures.kind s.base s.variances) c.requires.kind) (c.try_evaluate_goals.ensures.refuted since (tell_grown h c.args.depth c.requires.search (grown (ran c.in_ok-values.ensures.runs) (grown (ran c.in_ok-record_constraints.ensures.runs) c.in_ok-goals.ensures.grows)) tells) refused)));
       decided = λ s i b d can.
           let h = g.H.GoalHandler.handler s.base c.args.handler.now in
           let since = Since-later (grown (ran there) n.grows) s in

@@ -1,0 +1,86 @@
+-- A goal of the engine's own kinds, which was opened: what is known of it where it was opened is known of the goal.
+use Rattle.std.proofs.Common.{◌≡◌, ◌≢◌, inl, inr, ℕ, Bool, List, sym, subst}
+use Rattle.nts_model.specs.declared.labels.Variance.{Variance}
+use Rattle.nts_model.specs.Terms.Trees.{Tree}
+use Rattle.nts_model.specs.Tables.Holding.{Continues}
+use Rattle.nts_model.specs.Derivations.Rules.{Mode, statement_of, statement_kind, normalization, other_goal}
+use Rattle.nts_model.specs.Derivations.Handlers.{Handler, Judgements, meaning, IsLawfulHandler}
+use Rattle.nts_model.specs.Derivations.Proofs.{Assumed}
+use Rattle.nts_model.specs.Searching.Stacks.{IsProvedFrom}
+use Rattle.nts_theory.specs.Telling.{IsTraitStatement}
+use Rattle.nts_store.specs.Growth.{tree_at, Extends}
+use Rattle.nts_store.specs.Formed.{AreFormed}
+use Rattle.nts_terms.specs.declared.handles.Goal.{Goal}
+use Rattle.nts_terms.specs.declared.handles.GenericArg.{GenericArg}
+use Rattle.nts_terms.specs.declared.modes.TypingMode.{TypingMode}
+use Rattle.nts_terms.specs.Handles.{HoldsGoal}
+use Rattle.nts_delegate.specs.SameHandlers.{MeansSame}
+use Rattle.nts_model.proofs.Terms.Unpositioned.{known_no_positions, known_well_bound, pair_no_positions}
+use Rattle.nts_unify.specs.Reading.{content_of}
+use Rattle.nts_table.specs.Tables.{Table}
+use Rattle.nts_canonical.specs.declared.types.Canonical.{Canonical}
+use Rattle.nts_canonical.specs.Forms.{trees_of}
+use Rattle.nts_response.specs.declared.types.Response.{Response}
+use Rattle.nts_meaning.specs.Evaluation.{Goes, IsPosed, NormalizesNone}
+use Rattle.nts_meaning.specs.Meant.{IsTold, IsRefuted}
+use Rattle.nts_trying.specs.Opening.{IsOpenedTo}
+use Rattle.nts_trying.specs.Owning.{IsOwnGoal, IsPlainGoal, tree_of_own}
+use Rattle.nts_trying.specs.declared.own.OwnGoal.{OwnGoal}
+use Rattle.nts_trying.specs.declared.own.OwnGoal.TheVariants as own
+use Rattle.nts_trying.proofs.Opened.{affirmed_through, own_through, affirmed_told, own_told, nothing_through, denied_refuted, own_refuted}
+use Rattle.nts_evaluation.specs.Promises.{HoldsOwn, OwnTold, OwnRefuted}
+
+-- no such goal is a trait's, or normalizes an alias
+own_no_trait : (ts : List Tree) (o : OwnGoal) → IsTraitStatement (tree_of_own ts o) → ⊥
+own_no_trait ts (own.DynCompatible i) h = h
+own_no_trait ts (own.UnstableFeature f) h = h
+own_no_trait ts (own.ConstEvaluatable c) h = h
+own_no_trait ts (own.ConstArgHasType c t) h = h
+own_no_trait ts (own.WellFormed t) h = h
+
+pub own_is_no_trait : (ts : List Tree) (g : Goal) (o : OwnGoal) → IsOwnGoal ts g o → IsTraitStatement (statement_of (tree_at ts g.predicate.node)) → ⊥
+own_is_no_trait ts g o says t = own_no_trait ts o (subst (λ z. IsTraitStatement (statement_of z)) says.binds_nothing t)
+
+other_kind : (ts : List Tree) (o : OwnGoal) (z : ℕ → Bool) → statement_kind z (tree_of_own ts o) ≢ normalization
+other_kind ts (own.DynCompatible i) z e = (let x : other_goal ≡ normalization = e in cc x)
+other_kind ts (own.UnstableFeature f) z e = (let x : other_goal ≡ normalization = e in cc x)
+other_kind ts (own.ConstEvaluatable c) z e = (let x : other_goal ≡ normalization = e in cc x)
+other_kind ts (own.ConstArgHasType c t) z e = (let x : other_goal ≡ normalization = e in cc x)
+other_kind ts (own.WellFormed t) z e = (let x : other_goal ≡ normalization = e in cc x)
+
+pub own_normalizes_none : (ts : List Tree) (g : Goal) (o : OwnGoal) → IsOwnGoal ts g o → NormalizesNone ts g
+own_normalizes_none ts g o says = λ z. subst (λ v. statement_kind z (statement_of v) ≢ normalization) (sym says.binds_nothing) (other_kind ts o z)
+
+-- a goal that a table knows has no positions, and its bound variables are of the lists of their binders
+pub posed_plain : (ts : List Tree) (t : Table) (g : Goal) → IsPosed ts t g → IsPlainGoal ts g
+posed_plain ts t g posed =
+    let c = content_of ts t.entries in
+    let e = tree_at ts g.param_env.node in
+    let p = tree_at ts g.predicate.node in
+    let k = posed.knows in
+    record {
+      no_positions = pair_no_positions e p (known_no_positions c e k.env) (known_no_positions c p k.predicate);
+      well_bound = (known_well_bound c e k.env, (known_well_bound c p k.predicate, tt));
+    }
+
+-- what is judged of a goal, of an earlier store by what the handler meant there
+pub judged_before : {h k : Handler} {a b : List Tree} {g : Goal} (P : Judgements → Tree → Tree → Type 0) → MeansSame h k → Extends a b → HoldsGoal a g → P h.judges (tree_at b g.param_env.node) (tree_at b g.predicate.node) → P k.judges (tree_at a g.param_env.node) (tree_at a g.predicate.node)
+judged_before {h} {k} {a} {b} {g} P same up holds x =
+    subst (λ j. P j (tree_at a g.param_env.node) (tree_at a g.predicate.node)) same.judges
+    (subst (λ z. P h.judges z (tree_at a g.predicate.node)) (up.kept g.param_env.node holds.env.within)
+    (subst (λ z. P h.judges (tree_at b g.param_env.node) z) (up.kept g.predicate.node holds.predicate.within) x))
+
+module _ {a b : List Tree} {t u : Table} {g o : Goal} (posed : IsPosed a t g) (opens : IsOpenedTo a b t u g o) (up : Extends a b) (there : IsPosed b u o) (x : OwnGoal) (says : IsOwnGoal b o x) where
+  pub own_holds : (h : Handler) (V : ℕ → List Variance) (mode : Mode) (A : List Assumed) {d : List Tree} {v : Table} → Goes b d u v → Continues (content_of a t.entries) (content_of d v.entries) → AreFormed d → IsLawfulHandler h
+      → HoldsOwn h (meaning h V) mode A b o (content_of d v.entries) → IsProvedFrom (meaning h V) mode A (content_of d v.entries) (tree_at d g.param_env.node) (tree_at d g.predicate.node)
+  own_holds h V mode A goes later formed law (inl affirmed) = affirmed_through posed opens up h V mode A there says.environment goes later formed law affirmed
+  own_holds h V mode A goes later formed law (inr (y, way, holds)) = own_through posed opens up h V mode A there says.environment goes later formed law y way holds
+
+  pub own_says : AreFormed b → (h : Handler) (mode : TypingMode) (qs : List GenericArg) (e : List Tree) (r : Canonical Response) → trees_of b qs ≡ trees_of a qs → OwnTold h mode b u o qs e r → IsTold h mode a t g qs e r
+  own_says formed h mode qs e r same (inl (affirmed, sure, response)) = affirmed_told posed opens up h mode qs e r same affirmed sure response
+  own_says formed h mode qs e r same (inr (inl (y, way, reply))) = own_told posed opens up there formed h mode qs e r y same way reply
+  own_says formed h mode qs e r same (inr (inr (unsure, plain))) = nothing_through posed opens up h mode qs e r same unsure plain
+
+  pub own_none : AreFormed b → (h : Handler) (mode : TypingMode) (qs : List GenericArg) → OwnRefuted h mode b u o → IsRefuted h mode a t g qs
+  own_none formed h mode qs (inl denied) = denied_refuted posed opens up h mode qs denied
+  own_none formed h mode qs (inr (y, way, fails)) = own_refuted posed opens up there formed h mode qs y way fails

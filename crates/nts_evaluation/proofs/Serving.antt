@@ -1,0 +1,28 @@
+-- A candidate that holds, and that is offered, serves the goal.
+use Rattle.std.proofs.Common.{sym, List, subst}
+use Rattle.nts_model.specs.Terms.Trees.{Tree}
+use Rattle.nts_model.specs.Lists.{Among}
+use Rattle.nts_model.specs.Derivations.Rules.{Meaning}
+use Rattle.nts_model.specs.Derivations.Handlers.{Handler, Candidate}
+use Rattle.nts_model.specs.Derivations.Proofs.{Assumed}
+use Rattle.nts_model.specs.Searching.Stacks.{HoldsCandidateFrom}
+use Rattle.nts_store.specs.Growth.{tree_at, Extends}
+use Rattle.nts_terms.specs.declared.handles.Goal.{Goal}
+use Rattle.nts_terms.specs.declared.modes.TypingMode.{TypingMode}
+use Rattle.nts_terms.specs.Modes.{mode_of}
+use Rattle.nts_terms.specs.Handles.{HoldsGoal}
+use Rattle.nts_unify.specs.Reading.{content_of}
+use Rattle.nts_table.specs.Tables.{Table}
+use Rattle.nts_meaning.specs.Meant.{offers_of, HoldsSurely, IsServed}
+
+pub served_by : (h : Handler) (m : Meaning) (mode : TypingMode) (A : List Assumed) (b c : List Tree) (u : Table) (g : Goal) (x : Candidate) → Extends b c → HoldsGoal b g → Among (offers_of h (mode_of mode) b g) x
+    → HoldsSurely m (mode_of mode) A (content_of c u.entries) (tree_at b g.predicate.node) x → IsServed h m (mode_of mode) A (content_of c u.entries) (tree_at c g.param_env.node) (tree_at c g.predicate.node)
+served_by h m mode A b c u g x up holds offered y =
+    let env = up.kept g.param_env.node holds.env.within in
+    let predicate = up.kept g.predicate.node holds.predicate.within in
+    record {
+      candidate = x;
+      offered = rw (env, predicate) offered;
+      sure = y.sure;
+      holds = subst (λ z. HoldsCandidateFrom m (mode_of mode) A (content_of c u.entries) z x) (sym predicate) y.holds;
+    }
