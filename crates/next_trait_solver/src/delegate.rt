@@ -1,6 +1,6 @@
 //! What offers the rules of traits.
 pub use nts_delegate::{
     Assembly, Assumptions, Both, CandidateData, CandidateGoal, Clause, Clauses, Equation,
-    EquationKind, GoalHandler, RegionConstraint,
+    EquationKind, FetchEligibleAssocItemResponse, GoalHandler, RegionConstraint,
 };
 pub use nts_leak_check::LeakChecked;

@@ -1,3 +1,4 @@
+mod OwnGoals
 mod FirstEquations
 mod Numbered
 mod Tried

@@ -68,6 +68,7 @@ fn explain_here<H: GoalHandler>(
     let opened = match goal_row(cx, opened) {
         GoalRow::Unopened => return Ok(Vec::new(cx.alloc)),
         GoalRow::Outlives(_, _) => return Ok(Vec::new(cx.alloc)),
+        GoalRow::Own(_, _) => return Ok(Vec::new(cx.alloc)),
         GoalRow::Unanswered(_) => return Ok(Vec::new(cx.alloc)),
         GoalRow::Candidates(opened) => opened,
     };
