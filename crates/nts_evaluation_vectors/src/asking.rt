@@ -4,6 +4,7 @@ ghost use Rattle.nts_table.specs.Tables.{IsTable};
 ghost use Rattle.nts_terms.specs.Handles.{HoldsArg, HoldsGoal};
 ghost use Rattle.nts_terms.specs.Rest.{Grows};
 
+use crate::own::{Own, own_of};
 use crate::steps::{Of, outlives_of, predicate_of};
 use nts_asking::GoalStalledOn;
 use nts_certainty::{Certainty, HasChanged};
@@ -28,6 +29,8 @@ pub enum Wanted {
     Assumed(Of),
     /// That the first term outlives the second one, in an empty environment.
     Outlives(Name, Name),
+    /// A statement of a kind that the engine answers by itself, in an empty environment.
+    Says(Own),
 }
 
 /// What a goal is answered.
@@ -162,6 +165,7 @@ fn goal_of(cx: &mut Cx, names: &Names, wanted: Wanted) -> Result<Goal, EvalError
         Wanted::Plain(of) | Wanted::Assumed(of) => predicate_of(cx, names, &[], of)?,
         Wanted::EachRegion(of) => predicate_of(cx, names, &[Sort::Region], of)?,
         Wanted::Outlives(left, right) => outlives_of(cx, names, left, right)?,
+        Wanted::Says(own) => own_of(cx, names, own)?,
     };
     let param_env = match wanted {
         Wanted::Assumed(_) => cx.mk_env(&[predicate])?,

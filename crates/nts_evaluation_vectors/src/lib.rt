@@ -8,6 +8,10 @@ mod evaluation_tests;
 #[cfg(test)]
 mod outlives_tests;
 #[cfg(test)]
+mod own;
+#[cfg(test)]
+mod own_tests;
+#[cfg(test)]
 mod stalled_tests;
 #[cfg(test)]
 mod stalling_tests;

@@ -1,0 +1,75 @@
+//! Goals of the kinds that the engine answers by itself, and by what the handler judges.
+use crate::asking::Answer::{Is, Refused};
+use crate::asking::Asked::{self, Goal};
+use crate::asking::DOUBT;
+use crate::asking::Wanted::Says;
+use crate::own::Konst::{Error, Named, Value};
+use crate::own::Own::{Evaluatable, Feature, HasType, HostEffect, Objects, WellFormed};
+use crate::steps::Given::{Let, Trait};
+use crate::steps::{By, Given, Of, Part, plays};
+use nts_certainty::{Certainty, HasChanged};
+use nts_fixtures::{BYTE, Make, WORD};
+use nts_model::{Sort, VariableKind};
+use nts_terms::TypingMode;
+
+const YES: Certainty = Certainty::Yes;
+
+/// A value has the type that its own type can be equated with: so a variable comes to stand for that. An error has each type. Of
+/// a parameter nothing is known.
+#[test]
+fn the_type_of_a_const(rt: HostRuntime) {
+    const GIVEN: &[Given] = &[
+        Let("byte", BYTE),
+        Let("word", WORD),
+        Let("x", Make::Var(VariableKind::Ty)),
+        Let("n", Make::ConstParam(0)),
+    ];
+    const ASKED: &[Asked] = &[
+        Goal(Says(HasType(Value("byte", 3), "byte")), Is(YES, HasChanged::No)),
+        Goal(Says(HasType(Value("byte", 3), "word")), Refused),
+        Goal(Says(HasType(Error, "word")), Is(YES, HasChanged::No)),
+        Goal(Says(HasType(Named("n"), "byte")), Is(DOUBT, HasChanged::No)),
+        Goal(Says(HasType(Value("byte", 3), "x")), Is(YES, HasChanged::Yes)),
+        Asked::Resolves("x", "byte"),
+    ];
+    const PARTS: &[Part] = &[Part(By::Clauses, &[], ASKED)];
+    plays(&rt, rt.alloc(), TypingMode::Coherence, GIVEN, PARTS);
+    plays(&rt, rt.alloc(), TypingMode::PostAnalysis, GIVEN, PARTS);
+}
+
+/// What is a value, a parameter or an error can be evaluated. Of a variable nothing is known.
+#[test]
+fn what_can_be_evaluated(rt: HostRuntime) {
+    const GIVEN: &[Given] = &[
+        Let("byte", BYTE),
+        Let("n", Make::ConstParam(0)),
+        Let("c", Make::Var(VariableKind::Const)),
+    ];
+    const ASKED: &[Asked] = &[
+        Goal(Says(Evaluatable(Value("byte", 3))), Is(YES, HasChanged::No)),
+        Goal(Says(Evaluatable(Named("n"))), Is(YES, HasChanged::No)),
+        Goal(Says(Evaluatable(Error)), Is(YES, HasChanged::No)),
+        Goal(Says(Evaluatable(Named("c"))), Is(DOUBT, HasChanged::No)),
+    ];
+    const PARTS: &[Part] = &[Part(By::Clauses, &[], ASKED)];
+    plays(&rt, rt.alloc(), TypingMode::Coherence, GIVEN, PARTS);
+}
+
+/// By a list of clauses objects can be made of each trait, and nothing else is judged. A trait that holds of everything has none.
+#[test]
+fn what_handlers_judge(rt: HostRuntime) {
+    const GIVEN: &[Given] = &[Let("byte", BYTE), Trait(&[Sort::Ty])];
+    const CLAUSES: &[Asked] = &[
+        Goal(Says(Objects), Is(YES, HasChanged::No)),
+        Goal(Says(Feature(7)), Is(DOUBT, HasChanged::No)),
+        Goal(Says(WellFormed("byte")), Is(DOUBT, HasChanged::No)),
+        Goal(Says(HostEffect(Of(0, &["byte"]))), Refused),
+    ];
+    const MARKER: &[Asked] = &[Goal(Says(Objects), Refused)];
+    const PARTS: &[Part] = &[
+        Part(By::Clauses, &[], CLAUSES),
+        Part(By::Marker(YES), &[], MARKER),
+    ];
+    plays(&rt, rt.alloc(), TypingMode::Coherence, GIVEN, PARTS);
+    plays(&rt, rt.alloc(), TypingMode::PostAnalysis, GIVEN, PARTS);
+}
