@@ -2,3 +2,5 @@ pub mod Marking
 pub mod MarkerLaws
 pub mod Circling
 pub mod CircularLaws
+pub mod Judgement
+pub mod JudgeLaws
