@@ -1,7 +1,7 @@
 //! Goals that are asked, and what is answered.
 ghost use Rattle.std.specs.Prelude.{IfOk, OnOk, IfSome, IsTrue, All};
 ghost use Rattle.nts_table.specs.Tables.{IsTable};
-ghost use Rattle.nts_terms.specs.Handles.{HoldsArg, HoldsGoal};
+ghost use Rattle.nts_terms.specs.Handles.{HoldsArg, HoldsGoal, HoldsPredicate};
 ghost use Rattle.nts_terms.specs.Rest.{Grows};
 
 use crate::own::{Own, own_of};
@@ -15,7 +15,7 @@ use nts_may_hold::{root_goal_may_hold_opaque_types_jank, root_goal_may_hold_with
 use nts_model::Sort;
 use nts_store::EvalError;
 use nts_table::{InferCtxt, eager_resolve_vars};
-use nts_terms::{Cx, GenericArg, GenericArgKind, Goal, Span, TyKind};
+use nts_terms::{Cx, GenericArg, GenericArgKind, Goal, Predicate, Span, TyKind};
 use std::process::Abort;
 
 /// A goal.
@@ -161,12 +161,7 @@ fn goal_of(cx: &mut Cx, names: &Names, wanted: Wanted) -> Result<Goal, EvalError
     ensures holds { IfOk result (λ g. HoldsGoal cx.new.nodes g) }
     ensures grows { Grows cx.old cx.new }
 {
-    let predicate = match wanted {
-        Wanted::Plain(of) | Wanted::Assumed(of) => predicate_of(cx, names, &[], of)?,
-        Wanted::EachRegion(of) => predicate_of(cx, names, &[Sort::Region], of)?,
-        Wanted::Outlives(left, right) => outlives_of(cx, names, left, right)?,
-        Wanted::Says(own) => own_of(cx, names, own)?,
-    };
+    let predicate = predicate_wanted(cx, names, wanted)?;
     let param_env = match wanted {
         Wanted::Assumed(_) => cx.mk_env(&[predicate])?,
         _ => cx.mk_env(&[])?,
@@ -178,6 +173,18 @@ fn goal_of(cx: &mut Cx, names: &Names, wanted: Wanted) -> Result<Goal, EvalError
         param_env,
         predicate,
     })
+}
+
+fn predicate_wanted(cx: &mut Cx, names: &Names, wanted: Wanted) -> Result<Predicate, EvalError>
+    ensures holds { IfOk result (HoldsPredicate cx.new.nodes) }
+    ensures grows { Grows cx.old cx.new }
+{
+    match wanted {
+        Wanted::Plain(of) | Wanted::Assumed(of) => predicate_of(cx, names, &[], of),
+        Wanted::EachRegion(of) => predicate_of(cx, names, &[Sort::Region], of),
+        Wanted::Outlives(left, right) => outlives_of(cx, names, left, right),
+        Wanted::Says(own) => own_of(cx, names, own),
+    }
 }
 
 /// What a goal is answered, with what was kept of it, or nothing where it has no solution.

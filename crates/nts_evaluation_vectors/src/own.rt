@@ -9,15 +9,15 @@ use crate::steps::Of;
 use nts_fixtures::{Name, Names};
 use nts_store::EvalError;
 use nts_terms::{
-    Binder, ClauseKind, Const, ConstKind, Cx, DefId, Predicate, PredicateKind,
-    Term, TraitId, TraitRef, Ty,
+    Binder, ClauseKind, Const, ConstKind, Cx, DefId, Predicate, PredicateKind, Term, TraitId,
+    TraitRef, Ty,
 };
 
 /// What a goal says that the engine answers by itself, or by what the handler judges.
 #[derive(Clone, Copy)]
 pub enum Own {
-    /// Objects can be made of a trait, which is declared for it.
-    Objects,
+    /// Objects can be made of a trait.
+    Objects(Of),
     /// An unstable feature is allowed.
     Feature(u32),
     /// A const can be evaluated.
@@ -46,9 +46,10 @@ pub fn own_of(cx: &mut Cx, names: &Names, own: Own) -> Result<Predicate, EvalErr
     ensures holds { IfOk result (HoldsPredicate cx.new.nodes) }
     ensures grows { Grows cx.old cx.new }
 {
-    let Some(clause) = clause_of(cx, names, own)? else {
-        return objects_of_new(cx);
-    };
+    if let Own::Objects(of) = own {
+        return objects_of(cx, names, of);
+    }
+    let clause = clause_of(cx, names, own)?;
     let vars = cx.mk_bound_vars(&[])?;
     if !clause_fits(cx, clause) {
         return Err(EvalError::NoSolution);
@@ -57,23 +58,39 @@ pub fn own_of(cx: &mut Cx, names: &Names, own: Own) -> Result<Predicate, EvalErr
     Ok(cx.mk_predicate(Binder { vars, value })?)
 }
 
-/// That objects can be made of a trait that is declared here.
-fn objects_of_new(cx: &mut Cx) -> Result<Predicate, EvalError>
+/// That objects can be made of a trait, which takes these arguments.
+fn objects_of(cx: &mut Cx, names: &Names, of: Of) -> Result<Predicate, EvalError>
     ensures holds { IfOk result (HoldsPredicate cx.new.nodes) }
     ensures grows { Grows cx.old cx.new }
 {
+    let of = trait_of(cx, names, of)?;
     let vars = cx.mk_bound_vars(&[])?;
-    let id = cx.declare_trait(&[])?;
-    let value = PredicateKind::DynCompatible(id);
+    if !cx.holds(of.args) || !cx.fits(DefId::Trait(of.def_id), of.args) {
+        return Err(EvalError::NoSolution);
+    }
+    let value = PredicateKind::DynCompatible(of.def_id);
     Ok(cx.mk_predicate(Binder { vars, value })?)
 }
 
-/// The statement as a clause, where it is one.
-fn clause_of(cx: &mut Cx, names: &Names, own: Own) -> Result<Option<ClauseKind>, EvalError>
+fn trait_of(cx: &mut Cx, names: &Names, of: Of) -> Result<TraitRef, EvalError>
+    ensures { Grows cx.old cx.new }
+{
+    let Of(number, args) = of;
+    let args = names.terms(args)?;
+    if !args.iter().all(|arg| cx.holds(*arg)) {
+        return Err(EvalError::NoSolution);
+    }
+    let def_id = TraitId { number };
+    let args = cx.mk_args(&args)?;
+    Ok(TraitRef { def_id, args })
+}
+
+/// The statement as a clause: that objects can be made of a trait is none.
+fn clause_of(cx: &mut Cx, names: &Names, own: Own) -> Result<ClauseKind, EvalError>
     ensures { Grows cx.old cx.new }
 {
     let clause = match own {
-        Own::Objects => return Ok(None),
+        Own::Objects(_) => return Err(EvalError::NoSolution),
         Own::Feature(symbol) => ClauseKind::UnstableFeature(symbol),
         Own::Evaluatable(konst) => ClauseKind::ConstEvaluatable(const_of(cx, names, konst)?),
         Own::HasType(konst, name) => {
@@ -84,17 +101,9 @@ fn clause_of(cx: &mut Cx, names: &Names, own: Own) -> Result<Option<ClauseKind>,
             let ty = ty_of(cx, names, name)?;
             ClauseKind::WellFormed(Term { node: ty.node })
         }
-        Own::HostEffect(Of(number, args)) => {
-            let args = names.terms(args)?;
-            if !args.iter().all(|arg| cx.holds(*arg)) {
-                return Err(EvalError::NoSolution);
-            }
-            let def_id = TraitId { number };
-            let args = cx.mk_args(&args)?;
-            ClauseKind::HostEffect(TraitRef { def_id, args })
-        }
+        Own::HostEffect(of) => ClauseKind::HostEffect(trait_of(cx, names, of)?),
     };
-    Ok(Some(clause))
+    Ok(clause)
 }
 
 fn ty_of(cx: &Cx, names: &Names, name: &str) -> Result<Ty, EvalError>

@@ -25,11 +25,17 @@ fn the_type_of_a_const(rt: HostRuntime) {
         Let("n", Make::ConstParam(0)),
     ];
     const ASKED: &[Asked] = &[
-        Goal(Says(HasType(Value("byte", 3), "byte")), Is(YES, HasChanged::No)),
+        Goal(
+            Says(HasType(Value("byte", 3), "byte")),
+            Is(YES, HasChanged::No),
+        ),
         Goal(Says(HasType(Value("byte", 3), "word")), Refused),
         Goal(Says(HasType(Error, "word")), Is(YES, HasChanged::No)),
         Goal(Says(HasType(Named("n"), "byte")), Is(DOUBT, HasChanged::No)),
-        Goal(Says(HasType(Value("byte", 3), "x")), Is(YES, HasChanged::Yes)),
+        Goal(
+            Says(HasType(Value("byte", 3), "x")),
+            Is(YES, HasChanged::Yes),
+        ),
         Asked::Resolves("x", "byte"),
     ];
     const PARTS: &[Part] = &[Part(By::Clauses, &[], ASKED)];
@@ -55,21 +61,48 @@ fn what_can_be_evaluated(rt: HostRuntime) {
     plays(&rt, rt.alloc(), TypingMode::Coherence, GIVEN, PARTS);
 }
 
-/// By a list of clauses objects can be made of each trait, and nothing else is judged. A trait that holds of everything has none.
+/// By a list of clauses objects can be made of each trait, and nothing else is judged. By a trait that holds of everything they can
+/// be made of none.
 #[test]
-fn what_handlers_judge(rt: HostRuntime) {
+fn what_rules_judge(rt: HostRuntime) {
     const GIVEN: &[Given] = &[Let("byte", BYTE), Trait(&[Sort::Ty])];
     const CLAUSES: &[Asked] = &[
-        Goal(Says(Objects), Is(YES, HasChanged::No)),
+        Goal(Says(Objects(Of(0, &["byte"]))), Is(YES, HasChanged::No)),
         Goal(Says(Feature(7)), Is(DOUBT, HasChanged::No)),
         Goal(Says(WellFormed("byte")), Is(DOUBT, HasChanged::No)),
         Goal(Says(HostEffect(Of(0, &["byte"]))), Refused),
     ];
-    const MARKER: &[Asked] = &[Goal(Says(Objects), Refused)];
+    const MARKER: &[Asked] = &[Goal(Says(Objects(Of(0, &["byte"]))), Refused)];
     const PARTS: &[Part] = &[
         Part(By::Clauses, &[], CLAUSES),
         Part(By::Marker(YES), &[], MARKER),
     ];
     plays(&rt, rt.alloc(), TypingMode::Coherence, GIVEN, PARTS);
+    plays(&rt, rt.alloc(), TypingMode::PostAnalysis, GIVEN, PARTS);
+}
+
+/// A handler that judges: of one trait objects can be made, and of another one not; it allows one feature, and of others nothing is
+/// known; and a type is well formed where the feature is allowed that it needs.
+#[test]
+fn what_a_handler_judges(rt: HostRuntime) {
+    const GIVEN: &[Given] = &[
+        Let("byte", BYTE),
+        Let("wrapped", Make::Wrap("byte")),
+        Trait(&[Sort::Ty]),
+        Trait(&[]),
+    ];
+    const ALLOWED: &[Asked] = &[
+        Goal(Says(Objects(Of(0, &["byte"]))), Is(YES, HasChanged::No)),
+        Goal(Says(Objects(Of(1, &[]))), Refused),
+        Goal(Says(Feature(7)), Is(YES, HasChanged::No)),
+        Goal(Says(Feature(8)), Is(DOUBT, HasChanged::No)),
+        Goal(Says(WellFormed("wrapped")), Is(YES, HasChanged::No)),
+        Goal(Says(WellFormed("byte")), Is(DOUBT, HasChanged::No)),
+    ];
+    const NOT_ALLOWED: &[Asked] = &[Goal(Says(WellFormed("wrapped")), Is(DOUBT, HasChanged::No))];
+    const PARTS: &[Part] = &[
+        Part(By::Judge(7), &[], ALLOWED),
+        Part(By::Judge(8), &[], NOT_ALLOWED),
+    ];
     plays(&rt, rt.alloc(), TypingMode::PostAnalysis, GIVEN, PARTS);
 }

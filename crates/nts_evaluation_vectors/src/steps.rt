@@ -11,13 +11,13 @@ use nts_certainty::Certainty;
 use nts_delegate::{Assembly, Clause, Clauses};
 use nts_fixtures::{Fixture, Make, Name, Names};
 use nts_leak_check::LeakChecked;
-use nts_marker::{Circular, Marker};
+use nts_marker::{Circular, Judge, Marker};
 use nts_model::Sort;
 use nts_store::EvalError;
 use nts_table::InferCtxt;
 use nts_terms::{
-    Binder, ClauseKind, Cx, DefId, GenericArgKind, Predicate, PredicateKind, TraitId, TraitRef,
-    TypingMode,
+    Binder, ClauseKind, ConstId, Cx, DefId, GenericArgKind, Predicate, PredicateKind, TraitId,
+    TraitRef, TypingMode,
 };
 use std::alloc::Global;
 use std::process::Abort;
@@ -53,6 +53,9 @@ pub enum By {
     Marker(Certainty),
     /// The trait of the number 0 holds where it holds.
     Circular,
+    /// Objects can be made of the trait of the number 0, the feature 7 is allowed, and a wrapped type is well formed where this
+    /// feature is.
+    Judge(u32),
 }
 
 /// A part of a test: a handler, its rules, and what is asked.
@@ -115,6 +118,7 @@ fn play(
     ensures { IsTable fixture.new.cx.nodes fixture.new.table }
 {
     let Part(by, rules, asked) = part;
+    let formed = fixture.one;
     let (cx, table) = (&mut fixture.cx, &mut fixture.table);
     let mut clauses = Clauses::new(cx.alloc);
     tell_all(rt, cx, names, &mut clauses, rules);
@@ -137,6 +141,16 @@ fn play(
             ask_all(rt, table, cx, names, kept, &marker, asked)
         }
         By::Circular => ask_all(rt, table, cx, names, kept, &Circular { id }, asked),
+        By::Judge(needs) => {
+            let judge = Judge {
+                objects: id,
+                feature: 7,
+                constant: ConstId { number: 0 },
+                formed,
+                needs: *needs,
+            };
+            ask_all(rt, table, cx, names, kept, &judge, asked)
+        }
     }
 }
 

@@ -15,3 +15,6 @@ ask_all-requires-in-Marker-clause-table g c = IsTable-extended c.tell_all.ensure
 
 pub ask_all-requires-in-Circular-clause-table : goal.ask_all-requires-in-Circular-clause-table
 ask_all-requires-in-Circular-clause-table g c = IsTable-extended c.tell_all.ensures.grows.extends c.requires
+
+pub ask_all-requires-in-Judge-clause-table : goal.ask_all-requires-in-Judge-clause-table
+ask_all-requires-in-Judge-clause-table g c = IsTable-extended c.tell_all.ensures.grows.extends c.requires
