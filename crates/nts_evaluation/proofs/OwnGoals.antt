@@ -7,7 +7,6 @@ use Rattle.nts_model.specs.Derivations.Rules.{Mode, statement_of, statement_kind
 use Rattle.nts_model.specs.Derivations.Handlers.{Handler, Judgements, meaning, IsLawfulHandler}
 use Rattle.nts_model.specs.Derivations.Proofs.{Assumed}
 use Rattle.nts_model.specs.Searching.Stacks.{IsProvedFrom}
-use Rattle.nts_theory.specs.Telling.{IsTraitStatement}
 use Rattle.nts_store.specs.Growth.{tree_at, Extends}
 use Rattle.nts_store.specs.Formed.{AreFormed}
 use Rattle.nts_terms.specs.declared.handles.Goal.{Goal}
@@ -30,17 +29,7 @@ use Rattle.nts_trying.specs.declared.own.OwnGoal.TheVariants as own
 use Rattle.nts_trying.proofs.Opened.{affirmed_through, own_through, affirmed_told, own_told, nothing_through, denied_refuted, own_refuted}
 use Rattle.nts_evaluation.specs.Promises.{HoldsOwn, OwnTold, OwnRefuted}
 
--- no such goal is a trait's, or normalizes an alias
-own_no_trait : (ts : List Tree) (o : OwnGoal) → IsTraitStatement (tree_of_own ts o) → ⊥
-own_no_trait ts (own.DynCompatible i) h = h
-own_no_trait ts (own.UnstableFeature f) h = h
-own_no_trait ts (own.ConstEvaluatable c) h = h
-own_no_trait ts (own.ConstArgHasType c t) h = h
-own_no_trait ts (own.WellFormed t) h = h
-
-pub own_is_no_trait : (ts : List Tree) (g : Goal) (o : OwnGoal) → IsOwnGoal ts g o → IsTraitStatement (statement_of (tree_at ts g.predicate.node)) → ⊥
-own_is_no_trait ts g o says t = own_no_trait ts o (subst (λ z. IsTraitStatement (statement_of z)) says.binds_nothing t)
-
+-- no such goal normalizes an alias
 other_kind : (ts : List Tree) (o : OwnGoal) (z : ℕ → Bool) → statement_kind z (tree_of_own ts o) ≢ normalization
 other_kind ts (own.DynCompatible i) z e = (let x : other_goal ≡ normalization = e in cc x)
 other_kind ts (own.UnstableFeature f) z e = (let x : other_goal ≡ normalization = e in cc x)

@@ -1,4 +1,3 @@
-mod OwnGoals
 mod FirstEquations
 mod Numbered
 mod Tried

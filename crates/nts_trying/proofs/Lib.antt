@@ -16,3 +16,4 @@ pub mod Unasked
 pub mod Outliving
 pub mod Owning
 mod OutlivesExamples
+mod OwningExamples

@@ -19,6 +19,7 @@ use Rattle.nts_model.specs.Derivations.Sequents.{HasClosedStatement}
 use Rattle.nts_model.specs.Derivations.Rules.{statement_of}
 use Rattle.nts_model.specs.Derivations.Handlers.{Judgements, IsOver}
 use Rattle.nts_theory.specs.Affirming.{evaluatable, has_type, is_well_formed, IsAffirmed, evaluated_const, SaysAffirmed, plain_way, goals_there, IsOwnWay, HasOwnWay}
+use Rattle.nts_theory.specs.Telling.{IsTraitStatement}
 use Rattle.nts_theory.proofs.Derivations.ClosedStatements.{closed_unbound}
 use Rattle.nts_store.specs.Formed.{AreFormed}
 use Rattle.nts_store.specs.Growth.{tree_at, Extends, IsIn}
@@ -94,6 +95,17 @@ other_statement_tree ts predicate.Ambiguous n d o = o
 
 pub other_statement_own : (ts : List Tree) (k : PredicateKind) (o : OwnGoal) → ((c : ClauseKind) → k ≡ predicate.Clause c → ⊥) → ((i : _) → k ≡ predicate.DynCompatible i → ⊥) → tree_of_statement ts k ≡ tree_of_own ts o → ⊥
 other_statement_own ts k o n d same = other_statement_tree ts k n d (subst IsOwnTree (sym same) (own_tree ts o))
+
+-- no such goal is a trait's
+own_no_trait : (ts : List Tree) (o : OwnGoal) → IsTraitStatement (tree_of_own ts o) → ⊥
+own_no_trait ts (own.DynCompatible i) h = h
+own_no_trait ts (own.UnstableFeature f) h = h
+own_no_trait ts (own.ConstEvaluatable c) h = h
+own_no_trait ts (own.ConstArgHasType c t) h = h
+own_no_trait ts (own.WellFormed t) h = h
+
+pub own_is_no_trait : (ts : List Tree) (g : Goal) (o : OwnGoal) → IsOwnGoal ts g o → IsTraitStatement (statement_of (tree_at ts g.predicate.node)) → ⊥
+own_is_no_trait ts g o says t = own_no_trait ts o (subst (λ z. IsTraitStatement (statement_of z)) says.binds_nothing t)
 
 -- a goal of the store by what the tests of it see
 row_of_none : (t : Tree) → IsRow t → row_length t ≡ 0 → t ≡ empty

@@ -9,7 +9,7 @@ use Rattle.nts_meaning.specs.Meant.{offers_of}
 use Rattle.nts_meaning.proofs.Evaluating.{Goes-trans, Goes-extends, IsPosed-later, offers-kept, goes-back}
 use Rattle.nts_explaining.specs.Explaining.GivesReasons.{of_candidates}
 use Rattle.nts_explaining.proofs.Tried.{unasked_reasons, unopened_reasons}
-use Rattle.nts_explaining.proofs.OwnGoals.{own_unasked}
+use Rattle.nts_trying.proofs.Owning.{own_is_no_trait}
 use Rattle.nts_explaining.proofs.candidates.explain_here.Goals as goal
 
 pub returns-in-Unopened-clause-reasons : goal.returns-in-Unopened-clause-reasons
@@ -23,7 +23,7 @@ returns-in-Outlives-clause-reasons g c =
 pub returns-in-Own-clause-reasons : goal.returns-in-Own-clause-reasons
 returns-in-Own-clause-reasons g c =
     let o = c.in_ok-opened.ensures in
-    unasked_reasons _ (search rules) c.enter_forall.new.cx.nodes c.enter_forall.new.table _ (rw c.in-Own.ensures.0 at o.opened) (own_unasked c.enter_forall.new.cx.nodes _ _ c.in-Own.ensures.1)
+    unasked_reasons _ (search rules) c.enter_forall.new.cx.nodes c.enter_forall.new.table _ (rw c.in-Own.ensures.0 at o.opened) (λ asked. own_is_no_trait c.enter_forall.new.cx.nodes _ _ c.in-Own.ensures.1 (let t = asked.trait_goal in t.statement))
 
 pub returns-in-Unanswered-clause-reasons : goal.returns-in-Unanswered-clause-reasons
 returns-in-Unanswered-clause-reasons g c =

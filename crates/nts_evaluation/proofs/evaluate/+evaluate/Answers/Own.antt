@@ -25,12 +25,13 @@ use Rattle.nts_trying.specs.Owning.{IsJudgedSo}
 use Rattle.nts_trying.specs.declared.own.Judged.TheVariants as judged
 use Rattle.nts_trying.proofs.Labels.{only_same}
 use Rattle.nts_trying.proofs.Opened.{labels_through}
+use Rattle.nts_trying.proofs.Owning.{own_is_no_trait}
 use Rattle.nts_trying.proofs.Outcomes.{found_earlier}
 use Rattle.nts_trying.proofs.Probed.{found_in, doubtful}
 use Rattle.nts_evaluation.proofs.DecidedGoals.{is_asked_here}
 use Rattle.nts_evaluation.proofs.FactTrials.{fact_asked}
 use Rattle.nts_evaluation.proofs.Failing.{own_failed}
-use Rattle.nts_evaluation.proofs.OwnGoals.{own_is_no_trait, own_normalizes_none, posed_plain, judged_before, own_holds, own_says, own_none}
+use Rattle.nts_evaluation.proofs.OwnGoals.{own_normalizes_none, posed_plain, judged_before, own_holds, own_says, own_none}
 use Rattle.nts_evaluation.proofs.evaluate.+evaluate.Goals as goal
 
 pub compute_goal-evaluate_own-response-requires : goal.compute_goal-evaluate_own-response-requires
