@@ -9,8 +9,8 @@ use crate::steps::Of;
 use nts_fixtures::{Name, Names};
 use nts_store::EvalError;
 use nts_terms::{
-    Binder, ClauseKind, Const, ConstKind, Cx, DefId, Predicate, PredicateKind, Term, TraitId,
-    TraitRef, Ty,
+    AliasDefId, AliasTerm, Binder, ClauseKind, Const, ConstId, ConstKind, Cx, DefId, Predicate,
+    PredicateKind, Term, TraitId, TraitRef, Ty,
 };
 
 /// What a goal says that the engine answers by itself, or by what the handler judges.
@@ -39,6 +39,8 @@ pub enum Konst {
     Value(Name, u128),
     /// An error.
     Error,
+    /// The const of that number, which takes no arguments, before it is evaluated.
+    Unevaluated(usize),
 }
 
 /// The statement as a predicate that binds nothing.
@@ -130,7 +132,19 @@ fn const_of(cx: &mut Cx, names: &Names, konst: Konst) -> Result<Const, EvalError
             Ok(cx.mk_const(ConstKind::Value { ty, bits })?)
         }
         Konst::Error => Ok(cx.mk_const(ConstKind::Error)?),
+        Konst::Unevaluated(number) => unevaluated(cx, number),
     }
+}
+
+fn unevaluated(cx: &mut Cx, number: usize) -> Result<Const, EvalError>
+    ensures { Grows cx.old cx.new }
+{
+    let def_id = AliasDefId::Const(ConstId { number });
+    let args = cx.mk_args(&[])?;
+    if !cx.fits(DefId::Alias(def_id), args) {
+        return Err(EvalError::NoSolution);
+    }
+    Ok(cx.mk_const(ConstKind::Unevaluated(AliasTerm { def_id, args }))?)
 }
 
 /// Whether a clause is of this store, and a trait's arguments are of the sorts that were declared.

@@ -3,9 +3,9 @@ use crate::asking::Answer::{Is, Refused};
 use crate::asking::Asked::{self, Goal};
 use crate::asking::DOUBT;
 use crate::asking::Wanted::Says;
-use crate::own::Konst::{Error, Named, Value};
+use crate::own::Konst::{Error, Named, Unevaluated, Value};
 use crate::own::Own::{Evaluatable, Feature, HasType, HostEffect, Objects, WellFormed};
-use crate::steps::Given::{Let, Trait};
+use crate::steps::Given::{Const, Let, Trait, Universe};
 use crate::steps::{By, Given, Of, Part, plays};
 use nts_certainty::{Certainty, HasChanged};
 use nts_fixtures::{BYTE, Make, WORD};
@@ -15,7 +15,7 @@ use nts_terms::TypingMode;
 const YES: Certainty = Certainty::Yes;
 
 /// A value has the type that its own type can be equated with: so a variable comes to stand for that. An error has each type. Of
-/// a parameter nothing is known.
+/// a parameter, a placeholder or a const that is not evaluated nothing is known.
 #[test]
 fn the_type_of_a_const(rt: HostRuntime) {
     const GIVEN: &[Given] = &[
@@ -23,6 +23,9 @@ fn the_type_of_a_const(rt: HostRuntime) {
         Let("word", WORD),
         Let("x", Make::Var(VariableKind::Ty)),
         Let("n", Make::ConstParam(0)),
+        Universe,
+        Let("p", Make::ConstPlaceholder(1, 0)),
+        Const("byte"),
     ];
     const ASKED: &[Asked] = &[
         Goal(
@@ -32,6 +35,11 @@ fn the_type_of_a_const(rt: HostRuntime) {
         Goal(Says(HasType(Value("byte", 3), "word")), Refused),
         Goal(Says(HasType(Error, "word")), Is(YES, HasChanged::No)),
         Goal(Says(HasType(Named("n"), "byte")), Is(DOUBT, HasChanged::No)),
+        Goal(Says(HasType(Named("p"), "byte")), Is(DOUBT, HasChanged::No)),
+        Goal(
+            Says(HasType(Unevaluated(0), "byte")),
+            Is(DOUBT, HasChanged::No),
+        ),
         Goal(
             Says(HasType(Value("byte", 3), "x")),
             Is(YES, HasChanged::Yes),
@@ -43,21 +51,35 @@ fn the_type_of_a_const(rt: HostRuntime) {
     plays(&rt, rt.alloc(), TypingMode::PostAnalysis, GIVEN, PARTS);
 }
 
-/// What is a value, a parameter or an error can be evaluated. Of a variable nothing is known.
+/// What is a value, a parameter, a placeholder or an error can be evaluated, and so can what the handler evaluates. Of a variable, and
+/// of what it does not, nothing is known.
 #[test]
 fn what_can_be_evaluated(rt: HostRuntime) {
     const GIVEN: &[Given] = &[
         Let("byte", BYTE),
         Let("n", Make::ConstParam(0)),
         Let("c", Make::Var(VariableKind::Const)),
+        Universe,
+        Let("p", Make::ConstPlaceholder(1, 0)),
+        Const("byte"),
+        Const("byte"),
     ];
     const ASKED: &[Asked] = &[
         Goal(Says(Evaluatable(Value("byte", 3))), Is(YES, HasChanged::No)),
         Goal(Says(Evaluatable(Named("n"))), Is(YES, HasChanged::No)),
+        Goal(Says(Evaluatable(Named("p"))), Is(YES, HasChanged::No)),
         Goal(Says(Evaluatable(Error)), Is(YES, HasChanged::No)),
         Goal(Says(Evaluatable(Named("c"))), Is(DOUBT, HasChanged::No)),
+        Goal(Says(Evaluatable(Unevaluated(0))), Is(DOUBT, HasChanged::No)),
     ];
-    const PARTS: &[Part] = &[Part(By::Clauses, &[], ASKED)];
+    const EVALUATES: &[Asked] = &[
+        Goal(Says(Evaluatable(Unevaluated(0))), Is(YES, HasChanged::No)),
+        Goal(Says(Evaluatable(Unevaluated(1))), Is(DOUBT, HasChanged::No)),
+    ];
+    const PARTS: &[Part] = &[
+        Part(By::Clauses, &[], ASKED),
+        Part(By::Judge(7), &[], EVALUATES),
+    ];
     plays(&rt, rt.alloc(), TypingMode::Coherence, GIVEN, PARTS);
 }
 

@@ -17,7 +17,7 @@ use nts_store::EvalError;
 use nts_table::InferCtxt;
 use nts_terms::{
     Binder, ClauseKind, ConstId, Cx, DefId, GenericArgKind, Predicate, PredicateKind, TraitId,
-    TraitRef, TypingMode,
+    TraitRef, Ty, TypingMode,
 };
 use std::alloc::Global;
 use std::process::Abort;
@@ -28,6 +28,8 @@ pub enum Given {
     Let(Name, Make),
     /// A trait over parameters of these sorts. The first one has the number 0.
     Trait(&'static [Sort]),
+    /// A const of that type, which takes no arguments.
+    Const(Name),
     /// One more universe.
     Universe,
     /// Goals are asked without short cuts.
@@ -53,8 +55,8 @@ pub enum By {
     Marker(Certainty),
     /// The trait of the number 0 holds where it holds.
     Circular,
-    /// Objects can be made of the trait of the number 0, the feature 7 is allowed, and a wrapped type is well formed where this
-    /// feature is.
+    /// Objects can be made of the trait of the number 0, the feature 7 is allowed, the const of the number 0 is an error, and a
+    /// wrapped type is well formed where the feature of this number is allowed.
     Judge(u32),
 }
 
@@ -97,6 +99,16 @@ fn give(fixture: &mut Fixture, names: &mut Names, given: &Given) -> Result<(), E
         Given::Let(name, make) => fixture.name(names, *name, *make)?,
         Given::Trait(sorts) => {
             fixture.cx.declare_trait(sorts)?;
+        }
+        Given::Const(name) => {
+            let ty = Ty {
+                node: names.term(name)?.node,
+            };
+            let cx = &mut fixture.cx;
+            if !cx.holds(ty) || !cx.is_const_type(&[], ty)? {
+                return Err(EvalError::NoSolution);
+            }
+            cx.declare_const(&[], ty)?;
         }
         Given::Universe => {
             fixture.universe()?;
