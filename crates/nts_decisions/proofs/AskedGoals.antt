@@ -48,7 +48,7 @@ not_more f (label.Clause x) c a b e = absurd (cc e)
 not_more f (label.Predicate x) c a b e = absurd (cc e)
 not_more f (label.List x) c a b e = absurd (cc e)
 
-not_empty : (f : Leaf → Leaf) (l : Label) (c : Tree) → put (λ x. leaf_tree (f x)) l c ≡ empty → ⊥
+pub not_empty : (f : Leaf → Leaf) (l : Label) (c : Tree) → put (λ x. leaf_tree (f x)) l c ≡ empty → ⊥
 not_empty f (label.Leaf x) c e = absurd (cc e)
 not_empty f (label.Bound s i n) c e = absurd (cc e)
 not_empty f (label.Ty x) c e = absurd (cc e)

@@ -19,7 +19,7 @@ use Rattle.nts_model.specs.Refutation.Opening.{binds, placeholder_in}
 use Rattle.nts_decisions.specs.Deciding.{blurred_leaf, blurred, top_level, opened_next, IsDecided}
 use Rattle.nts_model.proofs.Terms.Substituting.{no_children, leaf_alone, IsFormed-replace}
 use Rattle.nts_model.proofs.Terms.Unpositioned.{or_false}
-use Rattle.nts_decisions.proofs.Deciding.{decided_by}
+use Rattle.nts_decisions.proofs.Deciding.{infer_none}
 use Rattle.nts_decisions.proofs.BlurredWorlds.{merged_leaf, blurred_kinds, blurred_leaf_formed}
 use Rattle.nts_decisions.proofs.DecidingRenamed.{labels_renamed}
 use Rattle.nts_decisions.proofs.Reopening.{binding}
@@ -82,9 +82,7 @@ decided_no_infer h mode e n u b f d = go (two_ways (binds (blurred u)))
   where
     plain : any_label is_infer (opened_next e (blurred u)) ≡ false
     plain =
-        (let x = decided_by h mode e (blurred u) n b d in
-        let p = x.plain in
-        let q = or_false (any_label is_infer e) (any_label is_infer (opened_next e (blurred u)) || false) p.no_infer in
+        (let q = or_false (any_label is_infer e) (any_label is_infer (opened_next e (blurred u)) || false) (infer_none h mode e (blurred u) n b d) in
         (or_false (any_label is_infer (opened_next e (blurred u))) false q.1).0)
 
     whole : IsFormed (blurred u)

@@ -123,7 +123,7 @@ environment_off ρ s t h k e =
 
 -- a plain renaming of a goal is decided as the goal is
 pub plainly_renamed : (h : Handler) → IsLawfulHandler h → (mode : Mode) (e : Tree) (ρ : Renaming) → IsPlain ρ → (n : ℕ) (g : Tree) (b : Bool) → IsDecided h mode e n g b → IsDecided h mode (rename ρ e) n (rename ρ g) b
-plainly_renamed h law mode e ρ p n g b d = decided_renamed h law mode e (λ r q k i. reopens r q e k) ρ p n g b d
+plainly_renamed h law mode e ρ p n g b d = decided_renamed h law mode e (λ r q k. reopens r q e k) ρ p n g b d
 
 -- one canonical form, one decision
 pub form_decided : (h : Handler) → IsLawfulHandler h → (mode : Mode) (n : ℕ) (b : Bool) (i j : Input) → IsInput i → IsInput j → canonical_of i ≡ canonical_of j

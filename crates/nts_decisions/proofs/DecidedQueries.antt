@@ -1,5 +1,5 @@
--- A decided goal in the table of its query: handlers are asked for it, and how what they offer fares.
-use Rattle.std.proofs.Common.{◌≡◌, inl, inr, ℕ, ◌+◌, ◌≤◌, Bool, true, false, map, refl, sym, ap, subst, ◌∙◌, arith}
+-- A decided goal in the table of its query: handlers are asked for it, and how what they offer fares; or it says something of a region.
+use Rattle.std.proofs.Common.{◌≡◌, inl, inr, ⊎_elim, ℕ, ◌+◌, ◌≤◌, Bool, true, false, map, refl, sym, ap, subst, ◌∙◌, arith}
 use Rattle.std.specs.Prelude.{◌⊎◌, ◌||◌}
 use Rattle.nts_model.specs.declared.labels.FreeRegion.TheVariants as region
 use Rattle.nts_model.specs.declared.labels.Constant.TheVariants as constant
@@ -7,22 +7,23 @@ use Rattle.nts_model.specs.declared.labels.Leaf.{Leaf}
 use Rattle.nts_model.specs.declared.labels.Leaf.TheVariants as leaf
 use Rattle.nts_model.specs.declared.labels.Label.{Label}
 use Rattle.nts_model.specs.declared.labels.Label.TheVariants as label
-use Rattle.nts_model.specs.Terms.Trees.{Tree, empty, more, node, any_label, is_alias, is_canonical, IsFormed}
+use Rattle.nts_model.specs.Terms.Trees.{Tree, empty, more, node, any_label, is_alias, is_canonical, IsClosed, IsFormed}
 use Rattle.nts_model.specs.Terms.Scoping.{IsWellBound}
 use Rattle.nts_model.specs.Tables.Contents.{Content}
 use Rattle.nts_model.specs.Tables.Resolving.{IsSound}
 use Rattle.nts_model.specs.Tables.Solvable.{IsSolvable}
 use Rattle.nts_model.specs.Terms.Substitutions.{leaf_tree, put, Occurs}
 use Rattle.nts_model.specs.Lists.{Among}
-use Rattle.nts_model.specs.Derivations.Related.{pair, unbound, no_sorts}
+use Rattle.nts_model.specs.Derivations.Related.{Constraint, pair, unbound, no_sorts}
+use Rattle.nts_model.specs.Derivations.Sequents.{HasClosedStatements}
 use Rattle.nts_model.specs.Derivations.Rules.{Mode, statement_of, opened, bound}
 use Rattle.nts_model.specs.Derivations.Handlers.{Handler, Candidate, certain, IsAsked, IsLawfulHandler, IsCandidateFor}
 use Rattle.nts_model.specs.Refutation.Opening.{binds, placeholder_in, entered_table, opened_in}
 use Rattle.nts_model.proofs.Terms.Listed.{either as two_ways}
 use Rattle.nts_model.proofs.Terms.Unpositioned.{or_false, false_or}
-use Rattle.nts_decisions.specs.Deciding.{blurred, blurred_but_static, blurred_environment, blurred_candidate, IsPlainGoal, OneHolds, top_level, opened_next, IsGoalDecided}
+use Rattle.nts_decisions.specs.Deciding.{blurred, blurred_but_static, blurred_environment, blurred_candidate, SaysOfRegion, IsPlainGoal, IsRegionGoal, IsJudged, IsJudgedGoal, OneHolds, top_level, opened_next, IsGoalDecided}
 use Rattle.nts_decisions.proofs.BlurredWorlds.{merged_leaf}
-use Rattle.nts_decisions.proofs.Deciding.{decided_by}
+use Rattle.nts_decisions.proofs.Deciding.{DecidedBy, decided_by}
 use Rattle.nts_decisions.proofs.DecidingRenamed.{labels_renamed}
 use Rattle.nts_decisions.proofs.Reopening.{binding}
 use Rattle.nts_decisions.proofs.DecidedOpening.{as_leaves, opened_so}
@@ -30,7 +31,9 @@ use Rattle.nts_model.proofs.Terms.Substituting.{replace-equal}
 use Rattle.nts_decisions.proofs.ConstantGoals.{no_variables, top_below, opened_constants, candidate_constants, candidate_names}
 use Rattle.nts_decisions.proofs.Faring.{among_by, IsConstantEnvironment, IsConstantCandidate, all_fare}
 use Rattle.nts_decisions.proofs.RootedInputs.{static_leaf, static_is}
-use Rattle.nts_decisions.proofs.AskedGoals.{by_leaves, asked_raw}
+use Rattle.nts_decisions.proofs.AskedGoals.{by_leaves, closed_raw, unbound_raw, statements_raw, asked_raw}
+use Rattle.nts_decisions.proofs.OpenedStatements.{region_blurred, says_outlives}
+use Rattle.nts_theory.specs.Outliving.{IsOutlives}
 use Rattle.nts_decisions.specs.Queries.{AreConstants, IsNamedConstant}
 use Rattle.nts_decisions.specs.Faring.{OneFares}
 
@@ -155,6 +158,69 @@ module _ (e o : Tree) (t : IsOfTermsOpened e o) (p : IsPlainGoal (blurred_enviro
       false_or (any_label is_alias e) (any_label is_alias o || false) (sym (ap (any_label is_alias) (as_static e) ∙ alias_by static_leaf e t.environment_formed) ∙ q.0)
       (false_or (any_label is_alias o) false (sym (ap (any_label is_alias) (as_leaves o) ∙ alias_by merged_leaf o t.formed) ∙ r.0) refl)
 
+-- a goal that says of a type or a region that it outlives a region, with its regions
+pub record SaysOutlivesHere (e o : Tree) : Type 0 where
+  pub constraint : Constraint
+  pub says : IsOutlives o constraint
+  pub closed : IsClosed e
+  pub statements : HasClosedStatements e
+  pub no_alias : any_label is_alias (pair e o) ≡ false
+
+pub region_here : (e o : Tree) → IsOfTermsOpened e o → IsRegionGoal (blurred_environment e) (blurred o) → SaysOutlivesHere e o
+region_here e o t y =
+    let u = unbound_raw merged_leaf o y.statement (sym (as_leaves o) ∙ y.binds_nothing) in
+    let one : IsFormed (unbound u.says) = subst IsFormed u.is t.formed in
+    let formed : IsFormed u.says = one.1.1.0 in
+    let k = y.closed in
+    let inner : IsClosed (by_leaves merged_leaf u.says) = subst IsClosed (sym u.same) k.1.0 in
+    let x = says_outlives u.says (region_blurred u.says (subst SaysOfRegion (sym u.same) y.says)) formed in
+    let q = or_false (any_label is_alias (blurred_environment e)) (any_label is_alias (blurred o) || false) y.no_alias in
+    let r = or_false (any_label is_alias (blurred o)) false q.1 in
+    record {
+      constraint = x.0;
+      says = record { statement = u.says; binds_nothing = u.is; says = x.1; formed = formed; closed = closed_raw merged_leaf 0 u.says formed inner };
+      closed = closed_raw static_leaf 0 e t.environment_formed (subst IsClosed (as_static e) k.0);
+      statements = statements_raw static_leaf e t.environment_formed (subst HasClosedStatements (as_static e) y.statements);
+      no_alias = false_or (any_label is_alias e) (any_label is_alias o || false) (sym (ap (any_label is_alias) (as_static e) ∙ alias_by static_leaf e t.environment_formed) ∙ q.0)
+          (false_or (any_label is_alias o) false (sym (ap (any_label is_alias) (as_leaves o) ∙ alias_by merged_leaf o t.formed) ∙ r.0) refl);
+    }
+
+-- what it says of a region is yes
+pub record IsRegionHere (e o : Tree) (b : Bool) : Type 0 where
+  pub says : SaysOutlivesHere e o
+  pub yes : b ≡ true
+
+-- a goal that is as the handler judges, with its regions
+pub record IsJudgedHere (h : Handler) (e o : Tree) (b : Bool) : Type 0 where
+  pub statement : Tree
+  pub is : o ≡ unbound statement
+  pub judged : IsJudged h.judges e statement b
+  pub formed : IsFormed statement
+  pub closed : IsClosed statement
+  pub environment : IsClosed e
+  pub statements : HasClosedStatements e
+
+pub judged_here : (h : Handler) (e o : Tree) (b : Bool) → IsOfTermsOpened e o → IsJudgedGoal h (blurred_environment e) (blurred o) b → IsJudgedHere h e o b
+judged_here h e o b t y =
+    let u = unbound_raw merged_leaf o y.statement (sym (as_leaves o) ∙ y.binds_nothing) in
+    let one : IsFormed (unbound u.says) = subst IsFormed u.is t.formed in
+    let formed : IsFormed u.says = one.1.1.0 in
+    let k = y.closed in
+    let inner : IsClosed (by_leaves merged_leaf u.says) = subst IsClosed (sym u.same) k.1.0 in
+    record {
+      statement = u.says;
+      is = u.is;
+      judged = y.alike e u.says (t.environment_formed, (formed, tt)) refl (as_leaves u.says ∙ u.same);
+      formed = formed;
+      closed = closed_raw merged_leaf 0 u.says formed inner;
+      environment = closed_raw static_leaf 0 e t.environment_formed (subst IsClosed (as_static e) k.0);
+      statements = statements_raw static_leaf e t.environment_formed (subst HasClosedStatements (as_static e) y.statements);
+    }
+
+-- what handlers are not asked: that is of a region, or as they judge
+abbrev pub IsUnofferedHere : Handler → Tree → Tree → Bool → Type 0
+IsUnofferedHere h e o b = IsRegionHere e o b ⊎ IsJudgedHere h e o b
+
 -- how what is offered fares
 pub record IsDecidedHere (h : Handler) (mode : Mode) (n : ℕ) (c : Content) (e o : Tree) (b : Bool) : Type 0 where
   pub plain : IsPlainGoal (blurred_environment e) (blurred o)
@@ -166,9 +232,8 @@ module _ (h : Handler) (law : IsLawfulHandler h) (mode : Mode) (n : ℕ) (c : Co
   opened_same : blurred (opened_in c g) ≡ opened_next (blurred_environment e) (blurred g)
   opened_same = opened_so c e g (sym u)
 
-  pub decided_here : IsDecidedHere h mode n (entered_table c g) e (opened_in c g) b
-  decided_here =
-      let x = decided_by h mode (blurred_environment e) (blurred g) n b d in
+  by_offers : DecidedBy h mode (blurred_environment e) n (blurred g) b → IsDecidedHere h mode n (entered_table c g) e (opened_in c g) b
+  by_offers x =
       let plain : IsPlainGoal (blurred_environment e) (blurred (opened_in c g)) = subst (IsPlainGoal (blurred_environment e)) (sym opened_same) x.plain in
       let asked : IsAsked e (opened_in c g) = is_asked e (opened_in c g) t plain in
       let v = x.uniform in
@@ -189,3 +254,12 @@ module _ (h : Handler) (law : IsLawfulHandler h) (mode : Mode) (n : ℕ) (c : Co
         fares = all_fare h mode e env (entered_table c g) sound solvable n (h.offers mode e (opened_in c g)) n b each (omega arith) (subst (λ z. OneHolds h mode (blurred_environment e) n z b) (sym offers) x.holds);
         sure = λ y i. v.sure (blurred_candidate y) (subst (λ z. Among z (blurred_candidate y)) offers (among_by blurred_candidate (h.offers mode e (opened_in c g)) y i));
       }
+
+  -- by candidates, or by what it says of a region, or as the handler judges
+  pub decided_here : IsDecidedHere h mode n (entered_table c g) e (opened_in c g) b ⊎ IsUnofferedHere h e (opened_in c g) b
+  decided_here =
+      ⊎_elim (λ x. inl (by_offers x))
+      (λ w. inr (⊎_elim
+      (λ y. inl (record { says = region_here e (opened_in c g) t (subst (IsRegionGoal (blurred_environment e)) (sym opened_same) y.region); yes = y.yes }))
+      (λ y. inr (judged_here h e (opened_in c g) b t (subst (λ z. IsJudgedGoal h (blurred_environment e) z b) (sym opened_same) y.judged))) w))
+      (decided_by h mode (blurred_environment e) (blurred g) n b d)

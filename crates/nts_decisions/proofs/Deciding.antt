@@ -1,13 +1,18 @@
 -- One goal has one height and one answer, and goals are lower than the goal that they serve.
-use Rattle.std.proofs.Common.{◌≡◌, inl, inr, ℕ, suc, ◌<◌, ◌≤◌, true, false, List, ◌∷◌, refl, sym, ap, subst, ◌∙◌, arith}
-use Rattle.std.specs.Prelude.{Bool, max}
-use Rattle.nts_model.specs.Terms.Trees.{Tree}
+use Rattle.std.proofs.Common.{◌≡◌, ◌⊎◌, inl, inr, ⊎_elim, ℕ, suc, ◌<◌, ◌≤◌, true, false, List, ◌∷◌, refl, sym, ap, subst, ◌∙◌, arith}
+use Rattle.std.specs.Prelude.{Bool, max, false}
+use Rattle.nts_model.specs.declared.labels.ClauseHead.TheVariants as clause
+use Rattle.nts_model.specs.declared.labels.Label.TheVariants as label
+use Rattle.nts_model.specs.Terms.Trees.{Tree, node, any_label, is_infer, IsClosed, IsFormed}
+use Rattle.nts_model.specs.Derivations.Related.{pair, unbound}
 use Rattle.nts_model.specs.Lists.{Among}
 use Rattle.nts_model.specs.Derivations.Sequents.{Premise}
-use Rattle.nts_model.specs.Derivations.Rules.{Mode}
+use Rattle.nts_model.specs.Derivations.Rules.{Mode, IsHandlers}
 use Rattle.nts_model.specs.Terms.Substitutions.{filled}
-use Rattle.nts_model.specs.Derivations.Handlers.{Handler, Candidate}
-use Rattle.nts_decisions.specs.Deciding.{blurred, IsPlainGoal, IsUniform, opened_next, IsDecided, by_candidates, OneHolds, none_left, then_fails, then_holds, CandidateIs, is_unmet, is_met, GoalsAre, all_yes, one_yes, one_no}
+use Rattle.nts_model.specs.Derivations.Handlers.{Handler, Candidate, Judgements}
+use Rattle.nts_theory.specs.Affirming.{IsAffirmed, feature_allowed, has_objects, named_const, value_const, error_const, error_type, evaluated_const, IsDenied}
+use Rattle.nts_theory.proofs.Refutation.Affirming.{affirmed_no_handlers, denied_no_handlers}
+use Rattle.nts_decisions.specs.Deciding.{blurred, IsDecidable, SaysOfRegion, IsPlainGoal, IsRegionGoal, IsJudged, IsJudgedGoal, IsUniform, opened_next, IsDecided, by_candidates, by_region, by_judgement, OneHolds, none_left, then_fails, then_holds, CandidateIs, is_unmet, is_met, GoalsAre, all_yes, one_yes, one_no}
 
 pub record AreSame (n m : ℕ) (b c : Bool) : Type 0 where
   pub height : n ≡ m
@@ -15,6 +20,81 @@ pub record AreSame (n m : ℕ) (b c : Bool) : Type 0 where
 
 one_max : (n m k n2 m2 k2 : ℕ) → n ≡ max m k → n2 ≡ max m2 k2 → m ≡ m2 → k ≡ k2 → n ≡ n2
 one_max n m k n2 m2 k2 e f p q = cc
+
+-- a goal of a trait says nothing of a region
+says_one : (s : Tree) → IsDecidable s → SaysOfRegion s → ⊥
+says_one (node (label.Clause (clause.Trait i)) ts) a b = b
+says_one (node (label.Clause (clause.HostEffect i)) ts) a b = b
+says_one s a b = absurd a
+
+one_said : (s t : Tree) → unbound s ≡ unbound t → s ≡ t
+one_said s t q = cc q
+
+pub plain_or_region : (e g : Tree) → IsPlainGoal e g → IsRegionGoal e g → ⊥
+plain_or_region e g p y =
+    let a = p.asked in
+    says_one y.statement (subst IsDecidable (one_said a.statement y.statement (sym a.binds_nothing ∙ y.binds_nothing)) p.kind) y.says
+
+-- no goal of a trait is judged, nor one that says something of a region, and none is judged both ways
+trait_handlers : (s : Tree) → IsDecidable s → IsHandlers s
+trait_handlers (node (label.Clause (clause.Trait i)) ts) d = tt
+trait_handlers (node (label.Clause (clause.HostEffect i)) ts) d = tt
+trait_handlers s d = absurd d
+
+judged_no_trait : (j : Judgements) (e s : Tree) (b : Bool) → IsJudged j e s b → IsDecidable s → ⊥
+judged_no_trait j e s true x d = affirmed_no_handlers j e s x (trait_handlers s d)
+judged_no_trait j e s false x d = denied_no_handlers j s x (trait_handlers s d)
+
+affirmed_no_region : (j : Judgements) (e s : Tree) → IsAffirmed j e s → SaysOfRegion s → ⊥
+affirmed_no_region j e s (feature_allowed x) h = h
+affirmed_no_region j e s (has_objects x) h = h
+affirmed_no_region j e s named_const h = h
+affirmed_no_region j e s value_const h = h
+affirmed_no_region j e s error_const h = h
+affirmed_no_region j e s error_type h = h
+affirmed_no_region j e s (evaluated_const x) h = h
+
+judged_no_region : (j : Judgements) (e s : Tree) (b : Bool) → IsJudged j e s b → SaysOfRegion s → ⊥
+judged_no_region j e s true x h = affirmed_no_region j e s x h
+judged_no_region j e s false x h = subst SaysOfRegion x.is h
+
+no_clash : true ≡ false → ⊥
+no_clash q = cc q
+
+not_both : (j : Judgements) (e s : Tree) → IsAffirmed j e s → IsDenied j s → ⊥
+not_both j e s (has_objects {i = i} x) d = no_clash (sym x ∙ (let same : i ≡ d.of_trait = (let e = d.is in cc e) in ap j.is_dyn_compatible same) ∙ d.has_none)
+not_both j e s (feature_allowed x) d = (let e = d.is in cc e)
+not_both j e s named_const d = (let e = d.is in cc e)
+not_both j e s value_const d = (let e = d.is in cc e)
+not_both j e s error_const d = (let e = d.is in cc e)
+not_both j e s error_type d = (let e = d.is in cc e)
+not_both j e s (evaluated_const x) d = (let e = d.is in cc e)
+
+one_judgement : (j : Judgements) (e s : Tree) (b c : Bool) → IsJudged j e s b → IsJudged j e s c → b ≡ c
+one_judgement j e s true true x y = refl
+one_judgement j e s false false x y = refl
+one_judgement j e s true false x y = absurd (not_both j e s x y)
+one_judgement j e s false true x y = absurd (not_both j e s y x)
+
+-- it is judged as it stands
+pub judged_itself : (h : Handler) (e g : Tree) (b : Bool) (y : IsJudgedGoal h e g b) → IsJudged h.judges e y.statement b
+judged_itself h e g b y =
+    let f : IsFormed (pair e (unbound y.statement)) = subst (λ z. IsFormed (pair e z)) y.binds_nothing y.formed in
+    y.alike e y.statement (f.0, (f.1.0.1.1.0, tt)) y.blurred_environment y.blurred
+
+pub plain_or_judged : (h : Handler) (e g : Tree) (b : Bool) → IsPlainGoal e g → IsJudgedGoal h e g b → ⊥
+plain_or_judged h e g b p y =
+    let a = p.asked in
+    judged_no_trait h.judges e y.statement b (judged_itself h e g b y) (subst IsDecidable (one_said a.statement y.statement (sym a.binds_nothing ∙ y.binds_nothing)) p.kind)
+
+pub region_or_judged : (h : Handler) (e g : Tree) (b : Bool) → IsRegionGoal e g → IsJudgedGoal h e g b → ⊥
+region_or_judged h e g b r y =
+    judged_no_region h.judges e y.statement b (judged_itself h e g b y) (subst SaysOfRegion (one_said r.statement y.statement (sym r.binds_nothing ∙ y.binds_nothing)) r.says)
+
+pub judged_once : (h : Handler) (e g : Tree) (b c : Bool) → IsJudgedGoal h e g b → IsJudgedGoal h e g c → b ≡ c
+judged_once h e g b c x y =
+    let same : x.statement ≡ y.statement = one_said x.statement y.statement (sym x.binds_nothing ∙ y.binds_nothing) in
+    one_judgement h.judges e y.statement b c (subst (λ z. IsJudged h.judges e z b) same (judged_itself h e g b x)) (judged_itself h e g c y)
 
 module _ (h : Handler) (mode : Mode) (e : Tree) where
   -- a goal with one environment is offered one list of candidates
@@ -27,14 +107,55 @@ module _ (h : Handler) (mode : Mode) (e : Tree) where
     pub uniform : IsUniform h mode e (opened_next e g) candidates
     pub holds : OneHolds h mode e n candidates b
 
-  pub decided_by : (g : Tree) (n : ℕ) (b : Bool) → IsDecided h mode e n g b → DecidedBy n g b
-  decided_by g n b (by_candidates xs p u o) = record { candidates = xs; plain = p; uniform = u; holds = o }
+  -- .. or by what it says of a region
+  pub record DecidedByRegion (n : ℕ) (g : Tree) (b : Bool) : Type 0 where
+    pub region : IsRegionGoal e (opened_next e g)
+    pub low : n ≡ 0
+    pub yes : b ≡ true
+
+  -- .. or as the handler judges
+  pub record DecidedByJudgement (n : ℕ) (g : Tree) (b : Bool) : Type 0 where
+    pub judged : IsJudgedGoal h e (opened_next e g) b
+    pub low : n ≡ 0
+
+  pub decided_by : (g : Tree) (n : ℕ) (b : Bool) → IsDecided h mode e n g b → DecidedBy n g b ⊎ (DecidedByRegion n g b ⊎ DecidedByJudgement n g b)
+  decided_by g n b (by_candidates xs p u o) = inl (record { candidates = xs; plain = p; uniform = u; holds = o })
+  decided_by g n b (by_region y) = inr (inl (record { region = y; low = refl; yes = refl }))
+  decided_by g n b (by_judgement y) = inr (inr (record { judged = y; low = refl }))
+
+  -- no variable but of regions stands in it once it is opened, and it is closed
+  pub infer_none : (g : Tree) (n : ℕ) (b : Bool) → IsDecided h mode e n g b → any_label is_infer (pair e (opened_next e g)) ≡ false
+  infer_none g n b (by_candidates xs p u o) = p.no_infer
+  infer_none g n b (by_region y) = y.no_infer
+  infer_none g n b (by_judgement y) = y.no_infer
+
+  pub record IsClosedOnce (o : Tree) : Type 0 where
+    pub statement : Tree
+    pub binds_nothing : o ≡ unbound statement
+    pub closed : IsClosed statement
+
+  pub closed_once : (g : Tree) (n : ℕ) (b : Bool) → IsDecided h mode e n g b → IsClosedOnce (opened_next e g)
+  closed_once g n b (by_candidates xs p u o) = (let a = p.asked in let k = a.closed in record { statement = a.statement; binds_nothing = a.binds_nothing; closed = k.1.0 })
+  closed_once g n b (by_region y) = (let k = y.closed in record { statement = y.statement; binds_nothing = y.binds_nothing; closed = k.1.0 })
+  closed_once g n b (by_judgement y) = (let k = y.closed in record { statement = y.statement; binds_nothing = y.binds_nothing; closed = k.1.0 })
 
   mutual
     pub one_decision : (g k : Tree) (n m : ℕ) (b c : Bool) → g ≡ k → IsDecided h mode e n g b → IsDecided h mode e m k c → AreSame n m b c
     one_decision g k n m b c q d (by_candidates ys p v r) =
-        let x = decided_by k n b (subst (λ z. IsDecided h mode e n z b) q d) in
-        one_holds ys n m b c (subst (λ z. OneHolds h mode e n z b) (one_list (opened_next e k) x.candidates ys x.plain x.uniform v) x.holds) r
+        ⊎_elim
+        (λ x. one_holds ys n m b c (subst (λ z. OneHolds h mode e n z b) (one_list (opened_next e k) x.candidates ys x.plain x.uniform v) x.holds) r)
+        (λ w. ⊎_elim (λ y. absurd (plain_or_region e (opened_next e k) p y.region)) (λ y. absurd (plain_or_judged h e (opened_next e k) b p y.judged)) w)
+        (decided_by k n b (subst (λ z. IsDecided h mode e n z b) q d))
+    one_decision g k n m b c q d (by_region y) =
+        ⊎_elim
+        (λ x. absurd (plain_or_region e (opened_next e k) x.plain y))
+        (λ w. ⊎_elim (λ z. record { height = z.low; answer = z.yes }) (λ z. absurd (region_or_judged h e (opened_next e k) b y z.judged)) w)
+        (decided_by k n b (subst (λ z. IsDecided h mode e n z b) q d))
+    one_decision g k n m b c q d (by_judgement y) =
+        ⊎_elim
+        (λ x. absurd (plain_or_judged h e (opened_next e k) c x.plain y))
+        (λ w. ⊎_elim (λ z. absurd (region_or_judged h e (opened_next e k) c z.region y)) (λ z. record { height = z.low; answer = judged_once h e (opened_next e k) b c z.judged y }) w)
+        (decided_by k n b (subst (λ z. IsDecided h mode e n z b) q d))
 
     one_holds : (xs : List Candidate) (n m : ℕ) (b c : Bool) → OneHolds h mode e n xs b → OneHolds h mode e m xs c → AreSame n m b c
     one_holds xs n m b c none_left none_left = record { height = refl; answer = refl }

@@ -1,18 +1,21 @@
--- A goal without candidates is no, one with a fact is yes, and one with a fact and a clause whose goal is no is yes, at height one.
+-- A goal without candidates is no, one with a fact is yes, and one with a fact and a clause whose goal is no is yes, at height one;
+-- and a goal that says something of a region is yes.
 use Rattle.std.proofs.Common.{◌≡◌, inl, inr, ℕ, zero, List, [], ◌∷◌, map, true, false, refl, sym, ap, subst}
 use Rattle.std.specs.Prelude.{Option, Some}
 use Rattle.nts_model.specs.declared.labels.ClauseHead.TheVariants as clause
+use Rattle.nts_model.specs.declared.labels.FreeRegion.TheVariants as region
+use Rattle.nts_model.specs.declared.labels.Leaf.TheVariants as leaf
 use Rattle.nts_model.specs.declared.labels.Label.{Label}
 use Rattle.nts_model.specs.declared.labels.Label.TheVariants as label
 use Rattle.nts_model.specs.Terms.Trees.{Tree, empty, more, node, label_of, IsInRow, IsFormed}
-use Rattle.nts_model.specs.Derivations.Related.{constructor, arguments, unbound}
+use Rattle.nts_model.specs.Derivations.Related.{constructor, arguments, pair, unbound}
 use Rattle.nts_model.specs.Lists.{Among}
 use Rattle.nts_model.specs.Derivations.Sequents.{impl_where_bound, Premise}
 use Rattle.nts_model.specs.Derivations.Rules.{coherence, Equation, related, statement_of}
-use Rattle.nts_model.specs.Terms.Substitutions.{filled}
-use Rattle.nts_model.specs.Derivations.Handlers.{Handler, never_leaks, no_judgements, Candidate, certain, never, IsAsked}
+use Rattle.nts_model.specs.Terms.Substitutions.{leaf_tree, filled}
+use Rattle.nts_model.specs.Derivations.Handlers.{Handler, never_leaks, never_at_once, no_judgements, Candidate, certain, never, IsAsked}
 use Rattle.nts_model.specs.Refutation.Choosing.{left_of, right_of}
-use Rattle.nts_decisions.specs.Deciding.{blurred, blurred_candidate, MeetsBlurred, IsPlainGoal, IsFormedCandidate, IsUniform, IsDecided, by_candidates, none_left, then_fails, then_holds, is_met, all_yes, one_no}
+use Rattle.nts_decisions.specs.Deciding.{blurred, blurred_candidate, MeetsBlurred, IsPlainGoal, IsRegionGoal, IsFormedCandidate, IsUniform, IsDecided, by_candidates, by_region, none_left, then_fails, then_holds, is_met, all_yes, one_no}
 use Rattle.nts_theory.proofs.Examples.InputExamples.{no_clauses as nowhere}
 use Rattle.nts_theory.proofs.Examples.ProofExamples.{no_predicates}
 
@@ -55,7 +58,7 @@ offered_by (Some (label.Clause (clause.Trait zero))) g = by_goal ∷ fact g ∷ 
 offered_by l g = []
 
 abbrev pub two_rules : Handler
-two_rules = record { applies = λ mode a. ⊥; offers = λ mode e g. offered_by (label_of (statement_of (blurred g))) (blurred g); is_coinductive = λ i. false; leaks = never_leaks; judges = no_judgements }
+two_rules = record { applies = λ mode a. ⊥; offers = λ mode e g. offered_by (label_of (statement_of (blurred g))) (blurred g); is_coinductive = λ i. false; leaks = never_leaks; judges = no_judgements; at_once = never_at_once }
 
 uniform_one : IsUniform two_rules coherence nowhere (list_goal 1) []
 uniform_one =
@@ -116,3 +119,26 @@ one_candidate_holds =
     alone : (vs us : List Tree) (p : Premise) → MeetsBlurred by_goal vs → MeetsBlurred by_goal us → Among (let g = by_goal in g.goals) p → blurred (filled vs p.predicate) ≡ blurred (filled us p.predicate)
     alone vs us p m n (inl e) = subst (λ z. blurred (filled vs z.predicate) ≡ blurred (filled us z.predicate)) (sym e) refl
     alone vs us p m n (inr i) = absurd i
+
+-- that one region outlives another is yes, whatever they are
+abbrev pub outlives_goal : Tree
+outlives_goal = unbound (node (label.Clause clause.RegionOutlives) (pair (leaf_tree (leaf.Region region.Erased)) (leaf_tree (leaf.Region region.Erased))))
+
+outlives_says : IsRegionGoal nowhere outlives_goal
+outlives_says =
+    record {
+      statement = node (label.Clause clause.RegionOutlives) (pair (leaf_tree (leaf.Region region.Erased)) (leaf_tree (leaf.Region region.Erased)));
+      binds_nothing = refl;
+      says = tt;
+      formed = ((tt, tt), (((refl, (refl, tt)), ((tt, tt), (((refl, (refl, tt)), ((tt, tt), ((tt, tt), tt))), tt))), tt));
+      closed = ((tt, tt), ((tt, ((tt, tt), ((tt, tt), tt))), tt));
+      statements = λ ps p e i. absurd (subst (IsInRow p) (no_predicates ps e) i);
+      no_alias = refl;
+      no_infer = refl;
+      blurred_environment = refl;
+      blurred = refl;
+    }
+
+pub outlives_is_yes : IsDecided two_rules coherence nowhere 0 outlives_goal true
+unfolding outlives_says
+outlives_is_yes = by_region outlives_says

@@ -10,6 +10,7 @@ use Rattle.nts_model.specs.declared.labels.Leaf.{Leaf}
 use Rattle.nts_model.specs.declared.labels.Leaf.TheVariants as leaf
 use Rattle.nts_model.specs.declared.labels.BoundVarIndexKind.TheVariants as index
 use Rattle.nts_model.specs.declared.labels.ClauseHead.TheVariants as clause
+use Rattle.nts_model.specs.declared.labels.AliasHead.TheVariants as alias_of
 use Rattle.nts_model.specs.declared.labels.PredicateHead.TheVariants as predicate
 use Rattle.nts_model.specs.declared.labels.Label.{Label}
 use Rattle.nts_model.specs.declared.labels.Label.TheVariants as label
@@ -17,13 +18,14 @@ use Rattle.nts_model.specs.Terms.Trees.{Tree, empty, more, node, any_label, is_i
 use Rattle.nts_model.specs.Terms.Regions.{of_variable, of_free}
 use Rattle.nts_model.specs.Terms.Fitting.{Fits}
 use Rattle.nts_model.specs.Terms.Substitutions.{leaf_tree, put, replace, FitsLeaf, Instance, LeafSort, of_variable as sort_of_variable, of_constant, leaf_sort, Renaming, rename, IsPlain, filled, filled_under, position_of, value_or}
-use Rattle.nts_model.specs.Derivations.Related.{pair}
+use Rattle.nts_model.specs.Derivations.Related.{pair, unbound, alias}
 use Rattle.nts_model.specs.Lists.{Among}
 use Rattle.nts_model.specs.Derivations.Sequents.{Premise}
 use Rattle.nts_model.specs.Derivations.Rules.{Mode, Equation, related, alike, IsHandlers}
-use Rattle.nts_model.specs.Derivations.Handlers.{Handler, Candidate, equation_by, premise_by, AreValuesOf, kind_of_sort, renamed_candidate, IsAsked, IsLawfulHandler}
+use Rattle.nts_model.specs.Derivations.Handlers.{Handler, Candidate, equation_by, premise_by, AreValuesOf, kind_of_sort, renamed_candidate, IsAsked, Judgements, JudgementsAreKept, IsLawfulHandler}
 use Rattle.nts_model.specs.Refutation.Choosing.{left_of, right_of}
-use Rattle.nts_decisions.specs.Deciding.{blurred_leaf, blurred_but_static, blurred, blurred_environment, blurred_premise, blurred_candidate, MeetsBlurred, FixesGoals, IsDecidable, IsPlainGoal, IsFormedCandidate, IsUniform, opened_next, IsDecided, by_candidates, OneHolds, none_left, then_fails, then_holds, CandidateIs, is_unmet, is_met, GoalsAre, all_yes, one_yes, one_no}
+use Rattle.nts_decisions.specs.Deciding.{blurred_leaf, blurred_but_static, blurred, blurred_environment, blurred_premise, blurred_candidate, MeetsBlurred, FixesGoals, IsDecidable, SaysOfRegion, IsPlainGoal, IsRegionGoal, IsJudged, IsJudgedGoal, IsFormedCandidate, IsUniform, opened_next, IsDecided, by_candidates, by_region, by_judgement, OneHolds, none_left, then_fails, then_holds, CandidateIs, is_unmet, is_met, GoalsAre, all_yes, one_yes, one_no}
+use Rattle.nts_theory.specs.Affirming.{evaluatable, IsAffirmed, feature_allowed, has_objects, named_const, value_const, error_const, error_type, evaluated_const}
 use Rattle.nts_model.proofs.Terms.Substituting.{replace-replace, replace-equal, replace-leaf, leaf_alone}
 use Rattle.nts_model.proofs.Terms.Composing.{IsFormed-instance, IsClosed-instance, Fits-instance, leaf_tree-inj as one_leaf}
 use Rattle.nts_theory.proofs.Derivations.ClosedStatements.{closed_statements_instance}
@@ -242,6 +244,69 @@ plain_renamed ρ p e g h =
       blurred = blurred_renamed ρ p g ∙ ap (rename ρ) h.blurred;
     }
 
+region_clause : (f : Leaf → Tree) (l : Label) (c d : Tree) → SaysOfRegion (node l c) → SaysOfRegion (put f l d)
+region_clause f (label.Clause clause.RegionOutlives) c d h = tt
+region_clause f (label.Clause clause.TypeOutlives) c d h = tt
+region_clause f l c d h = absurd h
+
+region_says : (f : Leaf → Tree) (t : Tree) → SaysOfRegion t → SaysOfRegion (replace f t)
+region_says f (node l c) h = region_clause f l c (replace f c) h
+region_says f t h = absurd h
+
+pub region_renamed : (ρ : Renaming) → IsPlain ρ → (e g : Tree) → IsRegionGoal e g → IsRegionGoal (rename ρ e) (rename ρ g)
+region_renamed ρ p e g y =
+    record {
+      statement = rename ρ y.statement;
+      binds_nothing = ap (rename ρ) y.binds_nothing;
+      says = region_says (λ l. leaf_tree (ρ.to l)) y.statement y.says;
+      formed = IsFormed-instance (by_renaming ρ p) (pair e g) y.formed;
+      closed = IsClosed-instance (by_renaming ρ p) (pair e y.statement) y.closed;
+      statements = closed_statements_instance (by_renaming ρ p) e (let f = y.formed in f.0) y.statements;
+      no_alias = labels_renamed is_alias ρ.to (λ l. refl) (pair e g) y.formed ∙ y.no_alias;
+      no_infer = labels_renamed is_infer ρ.to (infer_kept ρ) (pair e g) y.formed ∙ y.no_infer;
+      blurred_environment = environment_renamed ρ p e ∙ ap (rename ρ) y.blurred_environment;
+      blurred = blurred_renamed ρ p g ∙ ap (rename ρ) y.blurred;
+    }
+
+-- what a handler judges
+affirmed_renamed : (h : Handler) → JudgementsAreKept h → (ρ : Renaming) → IsPlain ρ → (e s : Tree) → IsFormed (pair e s) → IsAffirmed h.judges e s → IsAffirmed h.judges (rename ρ e) (rename ρ s)
+affirmed_renamed h law ρ p e s k (feature_allowed {f = n} x) = feature_allowed (law.allows e n (by_renaming ρ p) k.0 x)
+affirmed_renamed h law ρ p e s k (has_objects x) = has_objects x
+affirmed_renamed h law ρ p e s k (named_const {c = c}) = (let x = fits_leaf ρ (leaf.ConstConstant c) in subst (λ z. IsAffirmed h.judges (rename ρ e) (evaluatable z)) (sym x.1) named_const)
+affirmed_renamed h law ρ p e s k value_const = value_const
+affirmed_renamed h law ρ p e s k error_const = error_const
+affirmed_renamed h law ρ p e s k error_type = error_type
+affirmed_renamed h law ρ p e s k (evaluated_const {i = i} {ts = ts} {v = v} q) = evaluated_const (law.evaluates e (alias (alias_of.Const i) ts) v (by_renaming ρ p) (k.0, (k.1.0.1.0, tt)) q)
+
+judged_so : (h : Handler) → JudgementsAreKept h → (ρ : Renaming) → IsPlain ρ → (e s : Tree) (b : Bool) → IsFormed (pair e s) → IsJudged h.judges e s b → IsJudged h.judges (rename ρ e) (rename ρ s) b
+judged_so h law ρ p e s true k x = affirmed_renamed h law ρ p e s k x
+judged_so h law ρ p e s false k x = record { of_trait = x.of_trait; is = ap (rename ρ) x.is; has_none = x.has_none }
+
+pub judged_renamed : (h : Handler) → JudgementsAreKept h → (ρ : Renaming) → IsPlain ρ → (e g : Tree) (b : Bool) → IsJudgedGoal h e g b → IsJudgedGoal h (rename ρ e) (rename ρ g) b
+judged_renamed h law ρ p e g b y =
+    let whole : IsFormed (pair e (unbound y.statement)) = subst (λ z. IsFormed (pair e z)) y.binds_nothing y.formed in
+    let fs : IsFormed y.statement = whole.1.0.1.1.0 in
+    record {
+      statement = rename ρ y.statement;
+      binds_nothing = ap (rename ρ) y.binds_nothing;
+      alike = λ f s k ee es.
+          (let f1 : Tree = rename (inverse ρ) f in
+          let s1 : Tree = rename (inverse ρ) s in
+          let p1 : IsPlain (inverse ρ) = inverse_plain ρ p in
+          let k1 : IsFormed (pair f1 s1) = IsFormed-instance (by_renaming (inverse ρ) p1) (pair f s) k in
+          let ef : blurred_environment f1 ≡ e = environment_renamed (inverse ρ) p1 f ∙ ap (rename (inverse ρ)) ee ∙ rename_back ρ e whole.0 in
+          let eq : blurred s1 ≡ y.statement = blurred_renamed (inverse ρ) p1 s ∙ ap (rename (inverse ρ)) es ∙ rename_back ρ y.statement fs in
+          let bf : rename ρ f1 ≡ f = rename_forth ρ f k.0 in
+          let bs : rename ρ s1 ≡ s = rename_forth ρ s (k.1.0) in
+          subst (λ z. IsJudged h.judges z s b) bf (subst (λ z. IsJudged h.judges (rename ρ f1) z b) bs (judged_so h law ρ p f1 s1 b k1 (y.alike f1 s1 k1 ef eq))));
+      formed = IsFormed-instance (by_renaming ρ p) (pair e g) y.formed;
+      closed = IsClosed-instance (by_renaming ρ p) (pair e y.statement) y.closed;
+      statements = closed_statements_instance (by_renaming ρ p) e whole.0 y.statements;
+      no_infer = labels_renamed is_infer ρ.to (infer_kept ρ) (pair e g) y.formed ∙ y.no_infer;
+      blurred_environment = environment_renamed ρ p e ∙ ap (rename ρ) y.blurred_environment;
+      blurred = blurred_renamed ρ p y.statement ∙ ap (rename ρ) y.blurred;
+    }
+
 -- equations and goals of candidates
 equation_renamed : (ρ : Renaming) → IsPlain ρ → (q : Equation) → equation_by blurred (equation_by (rename ρ) q) ≡ equation_by (rename ρ) (equation_by blurred q)
 equation_renamed ρ p (related a b) = rw (blurred_renamed ρ p a, blurred_renamed ρ p b) refl
@@ -392,11 +457,11 @@ pub record Reopens (ρ : Renaming) (e g : Tree) : Type 0 where
   pub environment : rename to e ≡ rename ρ e
   pub opened : rename to (opened_next e g) ≡ opened_next (rename ρ e) (rename ρ g)
 
-module _ (h : Handler) (law : IsLawfulHandler h) (mode : Mode) (e : Tree) (reopens : (ρ : Renaming) → IsPlain ρ → (g : Tree) → IsPlainGoal e (opened_next e g) → Reopens ρ e g) where
+module _ (h : Handler) (law : IsLawfulHandler h) (mode : Mode) (e : Tree) (reopens : (ρ : Renaming) → IsPlain ρ → (g : Tree) → Reopens ρ e g) where
   mutual
     pub decided_renamed : (ρ : Renaming) → IsPlain ρ → (n : ℕ) (g : Tree) (b : Bool) → IsDecided h mode e n g b → IsDecided h mode (rename ρ e) n (rename ρ g) b
     decided_renamed ρ p n g b (by_candidates xs q u o) =
-        let r = reopens ρ p g q in
+        let r = reopens ρ p g in
         let a = q.asked in
         let f = a.formed in
         let plain : IsPlainGoal (rename r.to e) (rename r.to (opened_next e g)) = plain_renamed r.to r.plain e (opened_next e g) q in
@@ -406,6 +471,12 @@ module _ (h : Handler) (law : IsLawfulHandler h) (mode : Mode) (e : Tree) (reope
         (subst (λ z. IsPlainGoal z (opened_next (rename ρ e) (rename ρ g))) r.environment (subst (IsPlainGoal (rename r.to e)) r.opened plain))
         (subst (λ z. IsUniform h mode z (opened_next (rename ρ e) (rename ρ g)) (map (renamed_candidate r.to) xs)) r.environment (subst (λ z. IsUniform h mode (rename r.to e) z (map (renamed_candidate r.to) xs)) r.opened uniform))
         (subst (λ z. OneHolds h mode z n (map (renamed_candidate r.to) xs) b) r.environment holds)
+    decided_renamed ρ p n g b (by_region y) =
+        let r = reopens ρ p g in
+        by_region (subst (λ z. IsRegionGoal z (opened_next (rename ρ e) (rename ρ g))) r.environment (subst (IsRegionGoal (rename r.to e)) r.opened (region_renamed r.to r.plain e (opened_next e g) y)))
+    decided_renamed ρ p n g b (by_judgement y) =
+        let r = reopens ρ p g in
+        by_judgement (subst (λ z. IsJudgedGoal h z (opened_next (rename ρ e) (rename ρ g)) b) r.environment (subst (λ z. IsJudgedGoal h (rename r.to e) z b) r.opened (judged_renamed h law.judges r.to r.plain e (opened_next e g) b y)))
 
     holds_renamed : (ρ : Renaming) → IsPlain ρ → (n : ℕ) (xs : List Candidate) (b : Bool) → ((x : Candidate) → Among xs x → IsFormedCandidate x) → OneHolds h mode e n xs b → OneHolds h mode (rename ρ e) n (map (renamed_candidate ρ) xs) b
     holds_renamed ρ p n xs b f none_left = none_left

@@ -11,7 +11,7 @@ use Rattle.nts_model.specs.Terms.Substitutions.{leaf_tree, filled_under}
 use Rattle.nts_model.specs.Lists.{Among}
 use Rattle.nts_model.specs.Derivations.Related.{constructor, arguments, unbound}
 use Rattle.nts_model.specs.Derivations.Rules.{coherence, Equation, related}
-use Rattle.nts_model.specs.Derivations.Handlers.{Handler, never_leaks, no_judgements, Candidate, certain, never, IsAsked}
+use Rattle.nts_model.specs.Derivations.Handlers.{Handler, never_leaks, never_at_once, no_judgements, Candidate, certain, never, IsAsked}
 use Rattle.nts_model.specs.Tables.Worlds.{World, IsValue, SolvesState}
 use Rattle.nts_model.specs.Refutation.Choosing.{IsCandidateMet, left_of, right_of}
 use Rattle.nts_decisions.specs.Deciding.{blurred, blurred_candidate, IsFormedCandidate, IsUniform}
@@ -51,10 +51,10 @@ abbrev fact_of : ℕ → Tree → Candidate
 fact_of i g = record { fresh = []; equations = related g (unbound (node (label.Clause (clause.Trait 0)) (arguments (more (constructor i empty) empty)))) ∷ []; constraints = []; hidden = []; goals = []; certainty = certain; accesses = never }
 
 abbrev pub one_fact : Handler
-one_fact = record { applies = λ mode a. ⊥; offers = λ mode e g. fact_of 1 (blurred g) ∷ []; is_coinductive = λ i. false; leaks = never_leaks; judges = no_judgements }
+one_fact = record { applies = λ mode a. ⊥; offers = λ mode e g. fact_of 1 (blurred g) ∷ []; is_coinductive = λ i. false; leaks = never_leaks; judges = no_judgements; at_once = never_at_once }
 
 abbrev pub two_facts : Handler
-two_facts = record { applies = λ mode a. ⊥; offers = λ mode e g. fact_of 1 (blurred g) ∷ fact_of 2 (blurred g) ∷ []; is_coinductive = λ i. false; leaks = never_leaks; judges = no_judgements }
+two_facts = record { applies = λ mode a. ⊥; offers = λ mode e g. fact_of 1 (blurred g) ∷ fact_of 2 (blurred g) ∷ []; is_coinductive = λ i. false; leaks = never_leaks; judges = no_judgements; at_once = never_at_once }
 
 fact_formed : (i : ℕ) → IsFormedCandidate (fact_of i variable_goal)
 fact_formed i = record { equations = λ q a. equation_formed q a; goals = λ p a. absurd a }

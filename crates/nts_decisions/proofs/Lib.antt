@@ -18,8 +18,10 @@ pub mod FactsKept
 pub mod FactsOver
 pub mod FactsSettled
 pub mod FactsThere
+pub mod FastDecisions
 pub mod Faring
 pub mod GrantedFacts
+pub mod JudgingExamples
 pub mod MergedAnswers
 pub mod MetFacts
 pub mod OfferedFacts

@@ -1,6 +1,5 @@
--- A decided goal that binds variables is a trait goal from which no variable escapes: so it can be opened. And one that binds none is
--- a goal that handlers are asked.
-use Rattle.std.proofs.Common.{◌≡◌, ◌≢◌, inl, inr, ℕ, ◌<◌, ◌+◌, Bool, true, false, Some, refl, sym, ap, subst, ◌∙◌, arith}
+-- From a decided goal that binds variables none escapes: so it can be opened. And a plain goal is one that handlers are asked.
+use Rattle.std.proofs.Common.{◌≡◌, ◌≢◌, inl, inr, ℕ, ◌<◌, ◌+◌, Bool, true, false, Some, [], ◌∷◌, refl, sym, ap, subst, ◌∙◌, arith}
 use Rattle.std.specs.Prelude.{◌==◌, if◌then◌else◌}
 use Rattle.std.proofs.lemmas.Bool.Decides.{eqb_tells}
 use Rattle.nts_model.specs.declared.labels.Sort.{Sort}
@@ -8,9 +7,10 @@ use Rattle.nts_model.specs.declared.labels.Leaf.{Leaf}
 use Rattle.nts_model.specs.declared.labels.BoundVarIndexKind.TheVariants as index
 use Rattle.nts_model.specs.declared.labels.ClauseHead.TheVariants as clause
 use Rattle.nts_model.specs.declared.labels.ListHead.TheVariants as list
+use Rattle.nts_model.specs.declared.labels.Relation.TheVariants as relation
 use Rattle.nts_model.specs.declared.labels.Label.{Label}
 use Rattle.nts_model.specs.declared.labels.Label.TheVariants as label
-use Rattle.nts_model.specs.Terms.Trees.{Tree, empty, more, node, kind_of, one_sort, is, AllFit, binders, IsClosedUnder, IsClosed, IsFormed}
+use Rattle.nts_model.specs.Terms.Trees.{Tree, empty, more, node, kind_of, one_sort, is, Place, a_type, a_region, HavePlaces, AllFit, binders, IsClosedUnder, IsClosed, IsFormed}
 use Rattle.nts_model.specs.Tables.Contents.{Content}
 use Rattle.nts_model.specs.Terms.Substitutions.{leaf_tree}
 use Rattle.nts_model.specs.Derivations.Related.{Constraint, pair, unbound}
@@ -22,9 +22,9 @@ use Rattle.nts_theory.specs.Outliving.{SaysOutlives, region_outlives, type_outli
 use Rattle.nts_theory.specs.Affirming.{SaysAffirmed, IsDenied, HasOwnWay}
 use Rattle.nts_theory.specs.Telling.{IsTraitStatement}
 use Rattle.nts_theory.proofs.Refutation.Affirming.{affirmed_no_handlers, denied_no_handlers, way_no_handlers}
-use Rattle.nts_decisions.specs.Deciding.{blurred, blurred_environment, IsDecidable, IsPlainGoal, top_level, opened_next, IsGoalDecided}
+use Rattle.nts_decisions.specs.Deciding.{blurred, blurred_environment, IsDecidable, SaysOfRegion, IsPlainGoal, top_level, opened_next, IsGoalDecided}
 use Rattle.nts_decisions.proofs.BlurredWorlds.{merged_leaf}
-use Rattle.nts_decisions.proofs.Deciding.{decided_by}
+use Rattle.nts_decisions.proofs.Deciding.{closed_once}
 use Rattle.nts_decisions.proofs.DecidedOpening.{as_leaves, opened_so}
 use Rattle.nts_decisions.proofs.Reopening.{binding}
 use Rattle.nts_decisions.proofs.AskedGoals.{by_leaves, unbound_raw}
@@ -85,6 +85,30 @@ trait_is_plain is_coinductive (node (label.Clause (clause.Trait i)) ts) h = by_t
 trait_is_plain is_coinductive (node (label.Clause (clause.HostEffect i)) ts) h = λ e. cc e
 trait_is_plain is_coinductive t h = absurd h
 
+-- what says something of a region says so with its regions
+pub region_blurred : (t : Tree) → SaysOfRegion (by_leaves merged_leaf t) → SaysOfRegion t
+region_blurred (node (label.Clause clause.RegionOutlives) ts) h = tt
+region_blurred (node (label.Clause clause.TypeOutlives) ts) h = tt
+region_blurred t h = absurd h
+
+pub region_of : (s : Tree) (x : Constraint) → SaysOutlives x s → SaysOfRegion s
+region_of s x region_outlives = tt
+region_of s x type_outlives = tt
+
+-- the two sides
+sides : (p q : Place) (c : Tree) → HavePlaces (p ∷ q ∷ []) c → (a : Tree) × (b : Tree) × (c ≡ pair a b)
+sides p q (more a (more b empty)) h = (a, b, refl)
+sides p q (more a empty) h = absurd h.1
+sides p q (more a (node l c)) h = absurd h.1
+sides p q (more a (more b (more c d))) h = absurd h.1.1
+sides p q (more a (more b (node l c))) h = absurd h.1.1
+sides p q c h = absurd h
+
+pub says_outlives : (s : Tree) → SaysOfRegion s → IsFormed s → (x : Constraint) × SaysOutlives x s
+says_outlives (node (label.Clause clause.RegionOutlives) ts) h f = (let w = sides a_region a_region ts f.0 in (_, subst (λ z. SaysOutlives (record { relation = relation.RegionOutlives; left = w.0; right = w.1 }) (node (label.Clause clause.RegionOutlives) z)) (sym w.2) region_outlives))
+says_outlives (node (label.Clause clause.TypeOutlives) ts) h f = (let w = sides a_type a_region ts f.0 in (_, subst (λ z. SaysOutlives (record { relation = relation.TypeOutlives; left = w.0; right = w.1 }) (node (label.Clause clause.TypeOutlives) z)) (sym w.2) type_outlives))
+says_outlives s h f = absurd h
+
 -- what is closed once it is opened is closed but for one binder
 if_closed : (b : Bool) (c d n : ℕ) (s : Sort) (x : Leaf) (u : Tree) → (b ≡ true → d ≡ c) → IsClosedUnder c (blurred (if b then leaf_tree x else node (label.Bound s (index.Bound d) n) u)) → d < c + 1
 if_closed true c d n s x u e h = (let q : d ≡ c = e refl in omega (arith, q))
@@ -121,30 +145,20 @@ sorts_closed d empty h f = tt
 sorts_closed d (more a b) h f = (sort_closed d a h.0 f.0, sorts_closed d b h.1 f.1)
 sorts_closed d (node l c) h f = absurd h
 
--- a decided goal that binds variables
-pub record CanBeOpened (g : Tree) : Type 0 where
-  pub statement : IsTraitStatement (statement_of g)
-  pub closed : IsClosed g
-
 unbound_statement : (s t : Tree) → unbound s ≡ unbound t → s ≡ t
 unbound_statement s t e = cc e
 
-pub can_be_opened : (h : Handler) (mode : Mode) (n : ℕ) (c : Content) (e g : Tree) (b : Bool) → c.universe ≡ top_level (pair (blurred_environment e) (blurred g)) → IsFormed g → binds g ≡ true → IsGoalDecided h mode n e g b → CanBeOpened g
-can_be_opened h mode n c e g b u formed some d =
-    let x = decided_by h mode (blurred_environment e) (blurred g) n b d in
+-- a decided goal that binds variables is closed
+pub decided_is_closed : (h : Handler) (mode : Mode) (n : ℕ) (c : Content) (e g : Tree) (b : Bool) → c.universe ≡ top_level (pair (blurred_environment e) (blurred g)) → IsFormed g → binds g ≡ true → IsGoalDecided h mode n e g b → IsClosed g
+decided_is_closed h mode n c e g b u formed some d =
+    let a = closed_once h mode (blurred_environment e) (blurred g) n b d in
     let o : blurred (opened_in c g) ≡ opened_next (blurred_environment e) (blurred g) = opened_so c e g (sym u) in
-    let plain : IsPlainGoal (blurred_environment e) (blurred (opened_in c g)) = subst (IsPlainGoal (blurred_environment e)) (sym o) x.plain in
     let f : Sort → ℕ → Leaf = placeholder_in (c.universe + 1) in
     let shown : opened_in c g ≡ unbound (opened f 0 (statement_of g)) = rw some refl in
-    let statement : IsTraitStatement (opened f 0 (statement_of g)) = subst IsTraitStatement (ap statement_of shown) (plain_statement e (opened_in c g) plain) in
-    let a = plain.asked in
-    let same : blurred (opened f 0 (statement_of g)) ≡ a.statement = unbound_statement (blurred (opened f 0 (statement_of g))) a.statement (ap blurred (sym shown) ∙ a.binds_nothing) in
-    let inner : IsClosedUnder 0 (blurred (opened f 0 (statement_of g))) = subst IsClosed (sym same) (let k = a.closed in k.1.0) in
+    let same : blurred (opened f 0 (statement_of g)) ≡ a.statement = unbound_statement (blurred (opened f 0 (statement_of g))) a.statement (ap blurred (sym shown) ∙ o ∙ a.binds_nothing) in
+    let inner : IsClosedUnder 0 (blurred (opened f 0 (statement_of g))) = subst IsClosed (sym same) a.closed in
     let y = binding g some in
     let whole : IsFormed (bound (more y.sort y.sorts) y.says) = subst IsFormed y.is formed in
     let says : IsFormed (statement_of g) = subst IsFormed (sym (ap statement_of y.is)) whole.1.1.0 in
     let under : IsClosedUnder 1 (statement_of g) = closed_once_opened f 0 (statement_of g) says inner in
-    record {
-      statement = trait_opened f (statement_of g) statement;
-      closed = subst IsClosed (sym y.is) (tt, ((tt, sorts_closed 1 (more y.sort y.sorts) whole.1.0.0 whole.1.0.1), (subst (IsClosedUnder 1) (ap statement_of y.is) under, tt)));
-    }
+    subst IsClosed (sym y.is) (tt, ((tt, sorts_closed 1 (more y.sort y.sorts) whole.1.0.0 whole.1.0.1), (subst (IsClosedUnder 1) (ap statement_of y.is) under, tt)))

@@ -22,7 +22,7 @@ use Rattle.nts_model.proofs.Terms.Substituting.{replace-equal}
 use Rattle.nts_model.proofs.Terms.Unpositioned.{or_false}
 use Rattle.nts_model.proofs.Canonical.CanonicalForms.{originals_are_leaves}
 use Rattle.nts_decisions.specs.Deciding.{blurred, blurred_but_static, blurred_environment, opened_next, IsGoalDecided}
-use Rattle.nts_decisions.proofs.Deciding.{decided_by}
+use Rattle.nts_decisions.proofs.Deciding.{infer_none}
 use Rattle.nts_decisions.proofs.DecidingRenamed.{labels_renamed}
 use Rattle.nts_decisions.proofs.DecidedInfer.{decided_no_infer}
 use Rattle.nts_decisions.specs.Queries.{AreRootKinds}
@@ -127,9 +127,7 @@ kinds_from r whole done (l ∷ rest) e d h =
 -- of a decided goal
 pub no_infer_environment : (h : Handler) (mode : Mode) (n : ℕ) (e g : Tree) (b : Bool) → IsFormed e → IsGoalDecided h mode n e g b → any_label is_infer e ≡ false
 no_infer_environment h mode n e g b f d =
-    let x = decided_by h mode (blurred_environment e) (blurred g) n b d in
-    let p = x.plain in
-    sym (environment_infer e f) ∙ (or_false (any_label is_infer (blurred_environment e)) (any_label is_infer (opened_next (blurred_environment e) (blurred g)) || false) p.no_infer).0
+    sym (environment_infer e f) ∙ (or_false (any_label is_infer (blurred_environment e)) (any_label is_infer (opened_next (blurred_environment e) (blurred g)) || false) (infer_none h mode (blurred_environment e) (blurred g) n b d)).0
 
 pub decided_kinds : (h : Handler) (mode : Mode) (n : ℕ) (b : Bool) (i : Input) → IsInput i → i.hidden ≡ empty → IsGoalDecided h mode n i.environment i.predicate b → AreRootKinds 0 (canonical_of i).kinds
 decided_kinds h mode n b i p none d =

@@ -6,16 +6,17 @@ use Rattle.nts_model.specs.declared.labels.Leaf.{Leaf}
 use Rattle.nts_model.specs.declared.labels.Leaf.TheVariants as leaf
 use Rattle.nts_model.specs.declared.labels.ClauseHead.TheVariants as clause
 use Rattle.nts_model.specs.declared.labels.Label.TheVariants as label
-use Rattle.nts_model.specs.Terms.Trees.{Tree, empty, more, node, any_label, is_infer, is_alias, IsFormed}
+use Rattle.nts_model.specs.Terms.Trees.{Tree, empty, more, node, any_label, is_infer, is_alias, IsClosed, IsFormed}
 use Rattle.nts_model.specs.Terms.Substitutions.{leaf_tree, replace, filled}
 use Rattle.nts_model.specs.Derivations.Related.{pair, unbound}
 use Rattle.nts_model.specs.Lists.{Among}
-use Rattle.nts_model.specs.Derivations.Sequents.{Premise}
+use Rattle.nts_model.specs.Derivations.Sequents.{Premise, HasClosedStatements}
 use Rattle.nts_model.specs.Derivations.Rules.{Mode, Equation, statement_of, opened}
-use Rattle.nts_model.specs.Derivations.Handlers.{Handler, Candidate, certain, equation_by, AreValuesOf, IsAsked}
+use Rattle.nts_model.specs.Derivations.Handlers.{Handler, Candidate, Judgements, certain, equation_by, AreValuesOf, IsAsked}
 use Rattle.nts_model.specs.Refutation.Choosing.{left_of, right_of}
 use Rattle.nts_model.specs.Refutation.Opening.{binds, placeholder_in}
 use Rattle.nts_model.specs.Terms.Placeholders.{leaf_level}
+use Rattle.nts_theory.specs.Affirming.{IsAffirmed, IsDenied}
 
 -- free regions and region variables made one; in an environment 'static is left
 abbrev pub blurred_leaf : Leaf → Tree
@@ -63,6 +64,42 @@ pub record IsPlainGoal (e g : Tree) : Type 0 where
   pub blurred_environment : blurred_environment e ≡ e
   pub blurred : blurred g ≡ g
 
+-- what says of a type or a region that it outlives a region
+abbrev pub SaysOfRegion : Tree → Type 0
+SaysOfRegion (node (label.Clause clause.RegionOutlives) ts) = Unit {0}
+SaysOfRegion (node (label.Clause clause.TypeOutlives) ts) = Unit {0}
+SaysOfRegion t = ⊥
+
+-- a goal that says so, of terms without aliases and without variables of types, numbers and consts
+pub record IsRegionGoal (e g : Tree) : Type 0 where
+  pub statement : Tree
+  pub binds_nothing : g ≡ unbound statement
+  pub says : SaysOfRegion statement
+  pub formed : IsFormed (pair e g)
+  pub closed : IsClosed (pair e statement)
+  pub statements : HasClosedStatements e
+  pub no_alias : any_label is_alias (pair e g) ≡ false
+  pub no_infer : any_label is_infer (pair e g) ≡ false
+  pub blurred_environment : blurred_environment e ≡ e
+  pub blurred : blurred g ≡ g
+
+-- how a handler judges a statement in an environment: it affirms or denies it
+abbrev pub IsJudged : Judgements → Tree → Tree → Bool → Type 0
+IsJudged j e s true = IsAffirmed j e s
+IsJudged j e s false = IsDenied j s
+
+-- a goal without variables of types, numbers and consts, where the handler judges so all statements that are its own but for regions
+pub record IsJudgedGoal (h : Handler) (e g : Tree) (b : Bool) : Type 0 where
+  pub statement : Tree
+  pub binds_nothing : g ≡ unbound statement
+  pub alike : (f s : Tree) → IsFormed (pair f s) → blurred_environment f ≡ e → blurred s ≡ statement → IsJudged h.judges f s b
+  pub formed : IsFormed (pair e g)
+  pub closed : IsClosed (pair e statement)
+  pub statements : HasClosedStatements e
+  pub no_infer : any_label is_infer (pair e g) ≡ false
+  pub blurred_environment : blurred_environment e ≡ e
+  pub blurred : blurred statement ≡ statement
+
 -- the terms of its equations and goals are terms
 pub record IsFormedCandidate (x : Candidate) : Type 0 where
   pub equations : (q : Equation) → Among x.equations q → IsFormed (left_of q) × IsFormed (right_of q)
@@ -90,10 +127,12 @@ opened_next e g = if binds g then blurred (unbound (opened (placeholder_in (suc 
 
 -- Environment and goal are blurred, and the goals of candidates too.
 mutual
-  -- the goal is yes, or no; the number is its height: the most goals above a goal of the tree that decides it
+  -- the goal is yes, or no; the number is its height: the most goals above a goal of the tree that decides it. What a goal says of a
   pub data IsDecided (h : Handler) (mode : Mode) (e : Tree) : ℕ → Tree → Bool → Type 0 where
     by_candidates : {n : ℕ} {g : Tree} {b : Bool} (xs : List Candidate) → IsPlainGoal e (opened_next e g) → IsUniform h mode e (opened_next e g) xs
         → OneHolds h mode e n xs b → IsDecided h mode e n g b
+    by_region : {g : Tree} → IsRegionGoal e (opened_next e g) → IsDecided h mode e 0 g true
+    by_judgement : {g : Tree} {b : Bool} → IsJudgedGoal h e (opened_next e g) b → IsDecided h mode e 0 g b
 
   -- all candidates fail but one, which holds; or all fail
   pub data OneHolds (h : Handler) (mode : Mode) (e : Tree) : ℕ → List Candidate → Bool → Type 0 where
@@ -114,3 +153,7 @@ mutual
 -- a goal, with its regions, is decided
 abbrev pub IsGoalDecided : Handler → Mode → ℕ → Tree → Tree → Bool → Type 0
 IsGoalDecided h mode n e g b = IsDecided h mode (blurred_environment e) n (blurred g) b
+
+-- the handler answers nothing yes at once that is decided no
+abbrev pub IsFairAtOnce : Handler → Type 0
+IsFairAtOnce h = (mode : Mode) (n : ℕ) (e g : Tree) → IsGoalDecided h mode n e g false → h.at_once e g certain → ⊥

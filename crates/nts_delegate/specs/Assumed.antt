@@ -10,7 +10,7 @@ use Rattle.nts_model.specs.Terms.Substitutions.{Occurs}
 use Rattle.nts_model.specs.Derivations.Handlers.{Candidate, IsAsked, IsOver, IsCandidateFor, RulesHaveSources, CandidatesKeep, IsLawfulHandler}
 use Rattle.nts_delegate.specs.Offers.{trait_of}
 use Rattle.nts_delegate.specs.ClauseHandlers.{trait_goal}
-use Rattle.nts_delegate.specs.Judging.{objects_judged}
+use Rattle.nts_delegate.specs.Judging.{objects_judged, FastAnswersHold-never}
 use Rattle.nts_delegate.specs.HandlerLaws.{IsTraitGoal, IsOtherGoal, trait_or_other, asked_of, args_over, equations_over}
 use Rattle.nts_delegate.specs.Assumptions.{rows_of, sorts_in, positioned, assumed_offer, offers_over, assumed_offers, assumed_clause, assuming}
 use Rattle.nts_delegate.specs.Positioned.{positioned_leaves, positioned_closed, positioned_names}
@@ -95,4 +95,4 @@ sources : RulesHaveSources assuming
 sources = record { each = λ mode a q m among. let none : Among [] q = rw m.no_goals at among in absurd none }
 
 pub IsLawfulHandler-assuming : IsLawfulHandler assuming
-IsLawfulHandler-assuming = record { commute = commute; rules = rules; sources = sources; keep = keep; judges = objects_judged assuming (λ i. false) refl }
+IsLawfulHandler-assuming = record { commute = commute; rules = rules; sources = sources; keep = keep; judges = objects_judged assuming (λ i. false) refl; at_once = FastAnswersHold-never assuming (λ e g c x. x) }

@@ -190,4 +190,4 @@ RulesAreOffered-assuming =
 
 -- it means the same in each store
 pub MeansSame-assuming : MeansSame assuming assuming
-MeansSame-assuming = record { applies = λ mode a. (λ x. x, λ x. x); offers = λ mode e g. refl; is_coinductive = λ i. refl; judges = refl; leaks = λ c u l. l }
+MeansSame-assuming = record { applies = λ mode a. (λ x. x, λ x. x); offers = λ mode e g. refl; is_coinductive = λ i. refl; judges = refl; leaks = λ c u l. l; at_once = λ e g c x. x }

@@ -11,7 +11,7 @@ use Rattle.nts_model.specs.Terms.Trees.{Tree, empty, more, node, binders, childr
 use Rattle.nts_model.specs.Derivations.Related.{pair, arguments}
 use Rattle.nts_model.specs.Terms.Scoping.{sorts_of}
 use Rattle.nts_model.specs.Derivations.Rules.{Application}
-use Rattle.nts_model.specs.Derivations.Handlers.{Candidate, certain, never, AreValuesOf, Handler, never_leaks, no_judgements}
+use Rattle.nts_model.specs.Derivations.Handlers.{Candidate, certain, never, AreValuesOf, Handler, never_leaks, never_at_once, no_judgements}
 use Rattle.nts_delegate.specs.Offers.{trait_of}
 use Rattle.nts_delegate.specs.ClauseHandlers.{equations_of, trait_goal}
 
@@ -123,4 +123,5 @@ assuming =
       is_coinductive = λ i. false;
       leaks = never_leaks;
       judges = no_judgements;
+      at_once = never_at_once;
     }

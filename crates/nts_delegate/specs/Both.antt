@@ -1,5 +1,6 @@
 -- Two handlers as one, over trees: the rules of both, the offers of the first before those of the second, the leaks of both, and what
--- the second judges.
+-- the second judges. Nothing is answered at once: what has a proof by the rules of one may have none by those of both, where the other
+-- says that a trait is coinductive, or judges otherwise.
 use Rattle.std.specs.Prelude.{◌⊎◌, ◌||◌, List, [], ◌∷◌, ◌++◌}
 use Rattle.std.proofs.Common.{inl, inr, sym, ◌∙◌}
 use Rattle.std.proofs.lemmas.List.{map-append}
@@ -7,9 +8,10 @@ use Rattle.nts_model.specs.Terms.Substitutions.{Instance}
 use Rattle.nts_model.specs.Terms.Trees.{Tree}
 use Rattle.nts_model.specs.Lists.{Among}
 use Rattle.nts_model.specs.Derivations.Rules.{Mode, coherence, Application}
-use Rattle.nts_model.specs.Derivations.Handlers.{Handler, Candidate, renamed_candidate, IsLawfulHandler, CandidatesCommute, InstancesAreRules, RulesHaveSources, CandidatesKeep, JudgementsAreKept}
+use Rattle.nts_model.specs.Derivations.Handlers.{Handler, Candidate, renamed_candidate, IsLawfulHandler, CandidatesCommute, InstancesAreRules, RulesHaveSources, CandidatesKeep, JudgementsAreKept, never_at_once}
 use Rattle.nts_model.specs.Refutation.Coherence.{Covers, RulesAreOffered}
 use Rattle.nts_delegate.specs.SameHandlers.{MeansSame}
+use Rattle.nts_delegate.specs.Judging.{FastAnswersHold-never}
 
 abbrev pub either : Handler → Handler → Handler
 either h k =
@@ -19,6 +21,7 @@ either h k =
       is_coinductive = λ i. h.is_coinductive i || k.is_coinductive i;
       leaks = λ c u. h.leaks c u ⊎ k.leaks c u;
       judges = k.judges;
+      at_once = never_at_once;
     }
 
 -- what stands in one of two lists, one behind the other
@@ -73,7 +76,7 @@ judged h k q = record { allows = q.allows; evaluates = q.evaluates; well_formed 
 
 pub IsLawfulHandler-either : (h k : Handler) → IsLawfulHandler h → IsLawfulHandler k → IsLawfulHandler (either h k)
 IsLawfulHandler-either h k p q =
-    record { commute = commute h k p.commute q.commute; rules = rules h k p.rules q.rules; sources = sources h k p.sources q.sources; keep = keep h k p.keep q.keep; judges = judged h k q.judges }
+    record { commute = commute h k p.commute q.commute; rules = rules h k p.rules q.rules; sources = sources h k p.sources q.sources; keep = keep h k p.keep q.keep; judges = judged h k q.judges; at_once = FastAnswersHold-never (either h k) (λ e g c x. x) }
 
 -- what one of them offers for a rule covers it
 pub in_first : {X : Type 0} (xs ys : List X) (x : X) → Among xs x → Among (xs ++ ys) x
@@ -127,4 +130,5 @@ MeansSame-either {h} {l} {k} {m} p q =
         | inl a ↦ inl (p.leaks c u a)
         | inr b ↦ inr (q.leaks c u b)
       ];
+      at_once = λ e g c x. x;
     }

@@ -10,7 +10,7 @@ use Rattle.nts_model.specs.Lists.{Among}
 use Rattle.nts_model.specs.Derivations.Sequents.{impl_where_bound, Premise}
 use Rattle.nts_model.specs.Derivations.Rules.{Equation, related, Application}
 use Rattle.nts_model.specs.Terms.Substitutions.{filled}
-use Rattle.nts_model.specs.Derivations.Handlers.{Candidate, certain, never, AreValuesOf, Handler, never_leaks}
+use Rattle.nts_model.specs.Derivations.Handlers.{Candidate, certain, never, AreValuesOf, Handler, never_leaks, never_at_once}
 use Rattle.nts_delegate.specs.Judging.{objects_alone}
 use Rattle.nts_store.specs.Growth.{tree_at}
 use Rattle.nts_delegate.specs.Clauses.{clauses_of, coinductive_of}
@@ -92,6 +92,7 @@ handler_by clauses is_coinductive =
       is_coinductive = is_coinductive;
       leaks = never_leaks;
       judges = objects_alone (λ i. true);
+      at_once = never_at_once;
     }
 
 -- the clauses of a store as trees

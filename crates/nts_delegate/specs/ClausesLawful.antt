@@ -147,4 +147,5 @@ MeansSame-kept a b h r e =
       is_coinductive = λ i. refl;
       judges = refl;
       leaks = λ c u l. l;
+      at_once = λ x y z w. w;
     }

@@ -22,7 +22,7 @@ use Rattle.nts_model.proofs.Terms.Composing.{IsFormed-instance, IsClosed-instanc
 use Rattle.nts_terms.proofs.Standing.{args_tree}
 use Rattle.nts_delegate.specs.Clauses.{is_foreign}
 use Rattle.nts_delegate.specs.Offers.{trait_of}
-use Rattle.nts_delegate.specs.Judging.{objects_judged}
+use Rattle.nts_delegate.specs.Judging.{objects_judged, FastAnswersHold-never}
 use Rattle.nts_delegate.specs.ClauseHandlers.{offers_of_clauses, ClauseTree, ClausesOfTraits, equations_of, asked_in, trait_goal, IsInstanceOfClause, offer_by, takes_all, offers_by, handler_by}
 use Rattle.nts_delegate.specs.OwnTerms.{both_false, KeepsFixed, names_nothing, leaves_fixed, IsRow-replace, row_length-replace}
 use Rattle.nts_delegate.specs.OwnClauses.{IsOwnTerm, AreOwnTerms, IsOwnClause, AreOwnClauses, AreOwn, own_among, replaced_equations, filled_equations, moved_equations, replaced_goals, filled_goals, moved_goals}
@@ -308,7 +308,7 @@ sources clauses is_coinductive =
 
 pub IsLawfulHandler-clauses : (clauses : ClausesOfTraits) (is_coinductive : ℕ → Bool) → AreOwn clauses → IsLawfulHandler (handler_by clauses is_coinductive)
 IsLawfulHandler-clauses clauses is_coinductive own =
-    record { commute = commute clauses is_coinductive own; rules = rules clauses is_coinductive own; sources = sources clauses is_coinductive; keep = keep clauses is_coinductive own; judges = objects_judged (handler_by clauses is_coinductive) (λ i. true) refl }
+    record { commute = commute clauses is_coinductive own; rules = rules clauses is_coinductive own; sources = sources clauses is_coinductive; keep = keep clauses is_coinductive own; judges = objects_judged (handler_by clauses is_coinductive) (λ i. true) refl; at_once = FastAnswersHold-never (handler_by clauses is_coinductive) (λ e g c x. x) }
 
 -- every rule for an instance of a goal is one of an offered candidate
 offer_has : (cs : List ClauseTree) (d : ClauseTree) (e us : Tree) → Among cs d → takes_all us d ≡ true → Among (offers_of_clauses e us cs) (offer_by e us d)

@@ -1,8 +1,8 @@
--- What a handler judges of goals of the engine's own kinds, as its calls answer it.
+-- What a handler judges of goals of the engine's own kinds, and what it answers at once, as its calls answer it.
 use Rattle.std.specs.Prelude.{◌≡◌, ℕ, Bool, true, false, List, Option, Some, None, map}
 use Rattle.std.proofs.Common.{subst}
 use Rattle.nts_model.specs.Terms.Trees.{Tree}
-use Rattle.nts_model.specs.Derivations.Handlers.{Handler, Judgements, no_judgements, JudgementsAreKept}
+use Rattle.nts_model.specs.Derivations.Handlers.{Handler, Certainty, Judgements, no_judgements, JudgementsAreKept, FastAnswersHold}
 use Rattle.nts_store.specs.Growth.{tree_at}
 use Rattle.nts_terms.specs.declared.handles.Goal.{Goal}
 use Rattle.nts_terms.specs.declared.handles.ParamEnv.{ParamEnv}
@@ -49,4 +49,12 @@ objects_judged h f same =
       evaluates = λ e c v ι k q. absurd (not_given (subst (λ (z : Judgements). z.evaluates e c ≡ Some v) same q));
       well_formed = λ e t ps ι k q. absurd (not_given (subst (λ (z : Judgements). z.well_formed e t ≡ Some ps) same q));
       goals = λ e t ps p k q i. absurd (not_given (subst (λ (z : Judgements). z.well_formed e t ≡ Some ps) same q));
+    }
+
+-- a handler that answers nothing at once keeps the law of its fast path
+pub FastAnswersHold-never : (h : Handler) → ((e g : Tree) (c : Certainty) → h.at_once e g c → ⊥) → FastAnswersHold h
+FastAnswersHold-never h none =
+    record {
+      proved = λ mode v e g asked x. absurd (none e g _ x);
+      doubted = λ e g why b asked x. absurd (none e g _ x);
     }

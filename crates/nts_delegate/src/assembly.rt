@@ -5,6 +5,7 @@ use crate::assumptions::Assumptions;
 use crate::both::Both;
 use crate::delegate::{FetchEligibleAssocItemResponse, GoalHandler};
 use nts_candidates::CandidateData;
+use nts_certainty::Certainty;
 use nts_store::{EvalError, Fault};
 use nts_table::InferCtxt;
 use nts_terms::{
@@ -169,6 +170,10 @@ impl<H: GoalHandler> GoalHandler for &H {
         term: Term,
     ) -> Result<Option<Vec<Goal>>, Fault> {
         (**self).well_formed_goals(cx, env, term)
+    }
+
+    fn compute_goal_fast_path(&self, cx: &Cx, goal: Goal) -> Option<Certainty> {
+        (**self).compute_goal_fast_path(cx, goal)
     }
 
     fn fetch_eligible_assoc_item(

@@ -15,7 +15,7 @@ use nts_terms::{
 
 /// The rules of two handlers, as one handler: it offers the candidates of the first, and then those of the second. A trait is
 /// coinductive if it is for one of them, and a leak is one for one of them. Of goals of the engine's own kinds the second judges
-/// alone. So a caller who has rules of his own for some traits writes a handler for these alone,
+/// alone. It has no fast path: what has a proof by the rules of one may have none by those of both. So a caller who has rules of his own for some traits writes a handler for these alone,
 /// and puts it beside `Clauses`.
 #[derive(Drop)]
 pub struct Both<A: GoalHandler + Drop, B: GoalHandler + Drop> {

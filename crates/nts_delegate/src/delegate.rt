@@ -6,6 +6,7 @@ ghost use Rattle.nts_store.specs.Growth.{Extends};
 ghost use Rattle.nts_terms.specs.Rest.{Grows};
 
 use nts_candidates::CandidateData;
+use nts_certainty::Certainty;
 use nts_store::{EvalError, Fault};
 use nts_table::InferCtxt;
 use nts_terms::{
@@ -32,20 +33,21 @@ pub trait GoalHandler {
     ghost use Rattle.nts_store.specs.Growth.{tree_at};
     ghost use Rattle.nts_store.specs.Formed.{AreFormed};
     ghost use Rattle.nts_delegate.specs.Candidates.{IsAskedIn, AreCandidates};
-    ghost use Rattle.nts_candidates.specs.Offered.{candidates_of};
+    ghost use Rattle.nts_candidates.specs.Offered.{candidates_of, certainty_of};
     ghost use Rattle.nts_delegate.specs.Relevant.{LeavesOut};
     ghost use Rattle.nts_terms.specs.Modes.{mode_of};
     ghost use Rattle.nts_delegate.specs.SameHandlers.{MeansSame};
     ghost use Rattle.nts_unify.specs.Reading.{content_of};
     ghost use Rattle.nts_table.specs.Tables.{IsTable};
-    ghost use Rattle.nts_terms.specs.Handles.{HoldsEnv, HoldsArgs, HoldsTerm, HoldsConst, IsAliasOf};
+    ghost use Rattle.nts_terms.specs.Handles.{HoldsEnv, HoldsArgs, HoldsTerm, HoldsConst, HoldsGoal, IsAliasOf};
     ghost use Rattle.nts_terms.specs.Kinds.{tree_of_alias};
     ghost use Rattle.nts_delegate.specs.Judging.{makes_objects, allows_in, evaluates_in, well_formed_in, predicates_read, IsGoalIn};
 
     /// The handler's own terms are of a store of these trees.
     ghost ready: { List Tree → Self → Type 0 };
 
-    /// What the handler means, where a store has these trees: its rules, its offers, its coinductive traits, and what it judges.
+    /// What the handler means, where a store has these trees: its rules, its offers, its coinductive traits, what it judges, and what
+    /// it may answer at once.
     ghost handler: { List Tree → Self → Handler };
 
     /// The ways in which a goal may hold, in the order in which they are tried.
@@ -137,6 +139,21 @@ pub trait GoalHandler {
         ensures grows { Grows cx.old cx.new }
         ensures memory { IsOkUnless result Fault.Memory };
 
+    /// What a goal is answered at once, without a query, if the handler knows: its fast path. It is asked for each goal that is added
+    /// in an evaluation, with its variables resolved. A yes says that the goal has a proof by the handler's rules that rests on
+    /// nothing, in every mode: then the goal is done. A doubt comes only where a variable of a type, a number or a const stands in
+    /// the goal: then it waits for the next step. A handler that has no fast path says nothing, as this body does.
+    fn compute_goal_fast_path(&self, cx: &Cx, goal: Goal) -> Option<Certainty>
+        requires ready { ready cx.now.nodes self.now }
+        requires goal { HoldsGoal cx.now.nodes goal }
+        ensures known { IfSome result (λ c. (handler cx.now.nodes self.now).at_once
+            (tree_at cx.now.nodes goal.param_env.node) (tree_at cx.now.nodes goal.predicate.node)
+            (certainty_of c)) }
+    {
+        let _ = (cx.alloc, goal);
+        None
+    }
+
     /// Whether an impl has an item of a trait, for a use of the trait. The engine never asks, and nothing rests on the answer.
     fn fetch_eligible_assoc_item(
         &self,
@@ -168,7 +185,8 @@ pub trait GoalHandler {
     }
 
     /// The handler keeps the laws: candidates commute with plain renaming, their instances are rules, rules are closed
-    /// under instances, and candidates keep the environment and have no foreign leaves, sorts or sources.
+    /// under instances, candidates keep the environment and have no foreign leaves, sorts or sources, what is judged is kept under
+    /// instances, and what is answered at once holds.
     ghost lawful: { (ts : List Tree) (s : Self) → AreFormed ts → ready ts s → IsLawfulHandler (handler ts s) };
 
     /// In coherence each rule for an instance of a goal is one of a candidate that is offered for the goal, and that asks for

@@ -98,6 +98,7 @@ decides_later {h} {a} {b} {g} {k} {n} {d} {j} m e s w same l deep c =
       steps = rw r.steps c.steps;
       rounds = rw r.rounds c.rounds;
       tight = c.tight;
+      fair = c.fair;
     }
 
 pub decides_grown : {h : Handler} {a b : Cx} {g : SearchGraph} {n d j : ℕ} → IsSearch a g j → Grows a b → CanDecide h a g n d → CanDecide h b g n d
@@ -114,6 +115,7 @@ begun_decides {h} {b = b} {depth = depth} {s = s} d w may none off =
       steps = rw r.steps may.steps;
       rounds = rw r.rounds may.rounds;
       tight = may.tight;
+      fair = may.fair;
     }
 
 -- whether it may hold

@@ -73,4 +73,4 @@ fact_stands {h} mode {ts} {t} {g} table admitted law tight fact r =
 pub begun_facts : {h : Handler} {a b : Cx} {s : SearchGraph} (depth : ℕ) → Grows a b → MayAnswer h a → s.has_overflowed ≡ false → CanDecide h b s 0 (depth + 1)
 begun_facts {h} {b = b} {s = s} depth w may off =
     let r = w.rest in
-    record { deep = omega arith; above = nothing_above h b.nodes s; unmarked = off; steps = rw r.steps may.steps; rounds = rw r.rounds may.rounds; tight = may.tight }
+    record { deep = omega arith; above = nothing_above h b.nodes s; unmarked = off; steps = rw r.steps may.steps; rounds = rw r.rounds may.rounds; tight = may.tight; fair = may.fair }

@@ -41,4 +41,4 @@ pub try_failed : {Proved : List Assumed → List Tree → Table → Type 0} {Tol
 try_failed {R = R} r fails other all same grows searches = record { same = same; grows = grows; searches = searches; found = IfOk-from_err r _ fails; told = λ s tells. IfOk-from_err r _ fails; refuted = λ s tells n. absurd (other n); decided = λ s n b d can. decides_fault r fails other; facts = λ s tells. all (R.handler s.base) }
 
 pub own_failed : {R : Rules} {a b : Cx} {g h : SearchGraph} {t : Table} {goal : Goal} {values : List GenericArg} {depth : ℕ} (r : Result (Box (Canonical Response)) EvalError) → is_err r ≡ true → r ≢ Err error.NoSolution → Grows a b → Searches a b g h → AnswersOwn R a b g h t goal values depth r
-own_failed r fails other grows searches = record { grows = grows; searches = searches; found = IfOk-from_err r _ fails; told = λ s tells. IfOk-from_err r _ fails; refuted = λ s tells n. absurd (other n) }
+own_failed r fails other grows searches = record { grows = grows; searches = searches; found = IfOk-from_err r _ fails; told = λ s tells. IfOk-from_err r _ fails; refuted = λ s tells n. absurd (other n); decided = λ s n b d can. decides_fault r fails other }

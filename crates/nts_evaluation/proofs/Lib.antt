@@ -1,4 +1,5 @@
 mod Failing
+mod Fast
 mod FactQueries
 pub mod FactRoots
 mod FactTrials

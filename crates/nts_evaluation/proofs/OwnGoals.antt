@@ -1,5 +1,5 @@
 -- A goal of the engine's own kinds, which was opened: what is known of it where it was opened is known of the goal.
-use Rattle.std.proofs.Common.{◌≡◌, ◌≢◌, inl, inr, ℕ, Bool, List, sym, subst}
+use Rattle.std.proofs.Common.{◌≡◌, ◌≢◌, inl, inr, ℕ, Bool, true, false, List, refl, sym, subst, ◌∙◌}
 use Rattle.nts_model.specs.declared.labels.Variance.{Variance}
 use Rattle.nts_model.specs.Terms.Trees.{Tree}
 use Rattle.nts_model.specs.Tables.Holding.{Continues}
@@ -23,7 +23,13 @@ use Rattle.nts_response.specs.declared.types.Response.{Response}
 use Rattle.nts_meaning.specs.Evaluation.{Goes, IsPosed, NormalizesNone}
 use Rattle.nts_meaning.specs.Meant.{IsTold, IsRefuted}
 use Rattle.nts_trying.specs.Opening.{IsOpenedTo}
-use Rattle.nts_trying.specs.Owning.{IsOwnGoal, IsPlainGoal, tree_of_own}
+use Rattle.std.specs.Global.{Box}
+use Rattle.nts_candidates.specs.declared.data.CandidateData.{CandidateData}
+use Rattle.nts_theory.specs.Affirming.{SaysAffirmed, IsDenied}
+use Rattle.nts_trying.specs.Owning.{IsOwnGoal, IsPlainGoal, IsAllJudged, tree_of_own}
+use Rattle.nts_trying.specs.declared.own.Judged.{Judged}
+use Rattle.nts_trying.specs.declared.own.Judged.TheVariants as judged
+use Rattle.nts_evaluation.specs.Deciding.{SaysJudged}
 use Rattle.nts_trying.specs.declared.own.OwnGoal.{OwnGoal}
 use Rattle.nts_trying.specs.declared.own.OwnGoal.TheVariants as own
 use Rattle.nts_trying.proofs.Opened.{affirmed_through, own_through, affirmed_told, own_told, nothing_through, denied_refuted, own_refuted}
@@ -58,6 +64,38 @@ judged_before {h} {k} {a} {b} {g} P same up holds x =
     subst (λ j. P j (tree_at a g.param_env.node) (tree_at a g.predicate.node)) same.judges
     (subst (λ z. P h.judges z (tree_at a g.predicate.node)) (up.kept g.param_env.node holds.env.within)
     (subst (λ z. P h.judges (tree_at b g.param_env.node) z) (up.kept g.predicate.node holds.predicate.within) x))
+
+-- where the handler affirms or denies a goal of an earlier store, that is known
+module _ {h k : Handler} {a b : List Tree} {g : Goal} (same : MeansSame h k) (up : Extends a b) (holds : HoldsGoal a g) (x : Judged) (all : IsAllJudged h.judges b g x) where
+  later : (P : Judgements → Tree → Tree → Type 0) → P k.judges (tree_at a g.param_env.node) (tree_at a g.predicate.node) → P h.judges (tree_at b g.param_env.node) (tree_at b g.predicate.node)
+  later P y =
+      subst (λ j. P j (tree_at b g.param_env.node) (tree_at b g.predicate.node)) (sym same.judges)
+      (subst (λ z. P k.judges z (tree_at b g.predicate.node)) (sym (up.kept g.param_env.node holds.env.within))
+      (subst (λ z. P k.judges (tree_at a g.param_env.node) z) (sym (up.kept g.predicate.node holds.predicate.within)) y))
+
+  abbrev answer : Bool → Judged
+  answer true = judged.Yes
+  answer false = judged.No
+
+  known : (c : Bool) → SaysJudged k.judges (tree_at a g.param_env.node) (tree_at a g.predicate.node) c → x ≡ answer c
+  known true y = all.affirmed (later SaysAffirmed y)
+  known false y = all.denied (later (λ j e p. IsDenied j (statement_of p)) y)
+
+  pub judged_yes : (c : Bool) → x ≡ judged.Yes → SaysJudged k.judges (tree_at a g.param_env.node) (tree_at a g.predicate.node) c → c ≡ true
+  judged_yes true q y = refl
+  judged_yes false q y = (let clash : judged.Yes ≡ judged.No = sym q ∙ known false y in absurd (cc clash))
+
+  pub judged_no : (c : Bool) → x ≡ judged.No → SaysJudged k.judges (tree_at a g.param_env.node) (tree_at a g.predicate.node) c → c ≡ false
+  judged_no false q y = refl
+  judged_no true q y = (let clash : judged.No ≡ judged.Yes = sym q ∙ known true y in absurd (cc clash))
+
+  pub judged_unknown : (c : Bool) → x ≡ judged.Unknown → SaysJudged k.judges (tree_at a g.param_env.node) (tree_at a g.predicate.node) c → ⊥
+  judged_unknown true q y = (let clash : judged.Unknown ≡ judged.Yes = sym q ∙ known true y in cc clash)
+  judged_unknown false q y = (let clash : judged.Unknown ≡ judged.No = sym q ∙ known false y in cc clash)
+
+  pub judged_way : (c : Bool) (w : Box CandidateData) → x ≡ judged.Way w → SaysJudged k.judges (tree_at a g.param_env.node) (tree_at a g.predicate.node) c → ⊥
+  judged_way true w q y = (let clash : judged.Way w ≡ judged.Yes = sym q ∙ known true y in cc clash)
+  judged_way false w q y = (let clash : judged.Way w ≡ judged.No = sym q ∙ known false y in cc clash)
 
 module _ {a b : List Tree} {t u : Table} {g o : Goal} (posed : IsPosed a t g) (opens : IsOpenedTo a b t u g o) (up : Extends a b) (there : IsPosed b u o) (x : OwnGoal) (says : IsOwnGoal b o x) where
   pub own_holds : (h : Handler) (V : ℕ → List Variance) (mode : Mode) (A : List Assumed) {d : List Tree} {v : Table} → Goes b d u v → Continues (content_of a t.entries) (content_of d v.entries) → AreFormed d → IsLawfulHandler h

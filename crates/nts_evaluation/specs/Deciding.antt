@@ -3,14 +3,15 @@ use Rattle.std.specs.Prelude.{◌≡◌, ℕ, ◌<◌, ◌≤◌, Bool, true, fa
 use Rattle.nts_model.specs.Terms.Trees.{Tree, empty, IsFormed}
 use Rattle.nts_model.specs.Lists.{Among}
 use Rattle.nts_model.specs.Derivations.Related.{pair}
-use Rattle.nts_model.specs.Derivations.Rules.{Mode}
-use Rattle.nts_model.specs.Derivations.Handlers.{Handler, Candidate, certain, IsCandidateFor, HasNoLeaks}
+use Rattle.nts_model.specs.Derivations.Rules.{Mode, statement_of}
+use Rattle.nts_model.specs.Derivations.Handlers.{Handler, Judgements, Candidate, certain, IsCandidateFor, HasNoLeaks}
 use Rattle.nts_model.specs.Refutation.Choosing.{IsCandidateMet}
+use Rattle.nts_theory.specs.Affirming.{SaysAffirmed, IsDenied}
 use Rattle.nts_theory.specs.Telling.{AreTermsOfKinds}
 use Rattle.nts_model.specs.Tables.Resolving.{deeply_resolved}
 use Rattle.nts_model.specs.Canonical.Inputs.{Input, IsInput, canonical_of, CanonicalInput as Form, PositionKind}
 use Rattle.nts_model.specs.Answers.Responses.{Response as Answer, IsIdentity}
-use Rattle.nts_decisions.specs.Deciding.{IsGoalDecided}
+use Rattle.nts_decisions.specs.Deciding.{IsGoalDecided, IsFairAtOnce}
 use Rattle.nts_decisions.specs.Facts.{IsFactIn, IsOnlyFactIn}
 use Rattle.nts_decisions.specs.Faring.{AreDecidedHere, Fares, OneFares}
 use Rattle.nts_decisions.specs.FirstTables.{IsFirstQuery, IsSettledFact}
@@ -50,12 +51,17 @@ pub record IsQueryDecided (h : Handler) (mode : Mode) (n : ℕ) (f : Form) (b : 
   pub form : canonical_of asked ≡ f
   pub decided : IsGoalDecided h mode n asked.environment asked.predicate b
 
+-- the handler affirms a goal of the engine's own kinds, or denies it
+abbrev pub SaysJudged : Judgements → Tree → Tree → Bool → Type 0
+SaysJudged j e g true = SaysAffirmed j e g
+SaysJudged j e g false = IsDenied j (statement_of g)
+
 -- no goal on the stack is decided lower than n
 abbrev pub IsAbove : Handler → List Tree → ℕ → SearchGraph → Type 0
 IsAbove h ts n g = All (λ x. (m : ℕ) (b : Bool) → m < n → IsQueryDecided h (mode_of x.input.typing_mode) m (form_of ts x.input) b → ⊥) g.stack.items
 
 -- a search in which what is decided lower than n is answered so, where it may go so deep: nothing above is decided as low, no
--- overflow was met, and a round and a step are allowed; and the handler has no leaks
+-- overflow was met, and a round and a step are allowed; and the handler has no leaks, and answers nothing yes at once that is no
 pub record CanDecide (h : Handler) (a : Cx) (g : SearchGraph) (n depth : ℕ) : Type 0 where
   pub deep : n ≤ depth
   pub above : IsAbove h a.nodes n g
@@ -63,6 +69,7 @@ pub record CanDecide (h : Handler) (a : Cx) (g : SearchGraph) (n depth : ℕ) : 
   pub steps : 0 < a.step_limit
   pub rounds : 0 < a.round_limit
   pub tight : HasNoLeaks h
+  pub fair : IsFairAtOnce h
 
 -- decided lower than n
 abbrev pub IsBelow : ℕ → (ℕ → Type 0) → Type 0
@@ -79,11 +86,12 @@ pub record IsDeterminate (h : Handler) (mode : TypingMode) (ts : List Tree) (t :
   pub low : height ≤ depth
   pub decided : (let c = content_of ts t.entries in IsGoalDecided h (mode_of mode) height (deeply_resolved c (tree_at ts g.param_env.node)) (deeply_resolved c (tree_at ts g.predicate.node)) b)
 
--- a round and a step are allowed, and the handler has no leaks
+-- a round and a step are allowed, and the handler has no leaks, and answers nothing yes at once that is decided no
 pub record MayAnswer (h : Handler) (a : Cx) : Type 0 where
   pub steps : 0 < a.step_limit
   pub rounds : 0 < a.round_limit
   pub tight : HasNoLeaks h
+  pub fair : IsFairAtOnce h
 
 -- an answer that is so where the goal is decided yes, and that there is no solution where it is decided no; else want of memory,
 -- or of a universe

@@ -24,7 +24,7 @@ use Rattle.nts_model.specs.Canonical.Inputs.{canonical_of, IsInput}
 use Rattle.nts_canonical.specs.Building.{kinds_of}
 use Rattle.nts_response.specs.declared.types.Response.{Response}
 use Rattle.nts_response.specs.Forms.{response_at}
-use Rattle.nts_candidates.specs.Offered.{path_kind_of, candidate_of}
+use Rattle.nts_candidates.specs.Offered.{path_kind_of, candidate_of, certainty_of}
 use Rattle.nts_search.specs.declared.stack.SearchGraph.{SearchGraph}
 use Rattle.nts_meaning.specs.Meant.{Since, Rules, Always, meaning_since, IsQueryTold, IsQueryRefuted, AreOffered, HoldsSince, IsServedSince, IsProvedNow, IsProvedFromSince, IsNestedSince, EvaluatesGoal, IsRefusedIn, EvaluatesUnder, IsRefusedUnder, IsTold, IsRefuted, HaveOutcomes, CandidatesTell, RepliesWith, FailsIn, HasRunTo, ReachesBy}
 use Rattle.nts_meaning.specs.Searching.{Searches, HeadsTell, IsCut, assumed_in, IsHeadAnswer, IsAnswerTold, IsGoalCut}
@@ -45,7 +45,7 @@ use Rattle.nts_trying.specs.declared.steps.Step.{Step}
 use Rattle.nts_meaning.specs.declared.round.Round.{Round}
 use Rattle.nts_meaning.specs.declared.round.Ended.{Ended}
 use Rattle.nts_trying.specs.Found.{Found}
-use Rattle.nts_evaluation.specs.Deciding.{IsQueryDecided, CanDecide, IsBelow, IsAsBefore, Decides, IsYes, IsYesUnchanged, IsOwnYes, IsRoundDecided, IsRootQuery, AreRootValues, CandidatesSettled, IsSettled, GoalsSettled, IsQueryAtFirst, IsFactHere, IsPlainCandidate, ArePlainCandidates, IsOverIfSilent, IsFactForm, IsRoundYes}
+use Rattle.nts_evaluation.specs.Deciding.{IsQueryDecided, SaysJudged, CanDecide, IsBelow, IsAsBefore, Decides, IsYes, IsYesUnchanged, IsOwnYes, IsRoundDecided, IsRootQuery, AreRootValues, CandidatesSettled, IsSettled, GoalsSettled, IsQueryAtFirst, IsFactHere, IsPlainCandidate, ArePlainCandidates, IsOverIfSilent, IsFactForm, IsRoundYes}
 use Rattle.nts_decisions.specs.Deciding.{IsGoalDecided}
 use Rattle.nts_trying.specs.Stopping.{StopsIn}
 use Rattle.nts_trying.specs.Stepping.{ArePosed, AreLeft, AreSettled, terms_of, bound_of}
@@ -111,15 +111,20 @@ pub record AsksGoal (R : Rules) (a b : Cx) (g h : SearchGraph) (t u : Table) (go
   -- at the root: where one candidate without goals decides the goal of its query, and it is not refused, it is answered yes
   pub facts : WhereTold R a g (λ m. (IsInput (input_of a.nodes t.entries goal []) → IsFactForm m (mode_of t.mode) (canonical_of (input_of a.nodes t.entries goal []))) → (IsRefusedIn m t.mode a.nodes t goal → ⊥) → g.stack.items ≡ [] → CanDecide m a g 0 (depth + 1) → Decides true r (λ e. IsYes e.certainty) g h)
 
--- .. as the table knows it; or not at all, where no depth is left for it: then the overflow is marked
+-- a goal of a table, as the table knows it, is answered so at once: the store has fast paths, and the handler's says so
+pub record AnsweredAtOnce (h : Handler) (a : Cx) (t : Table) (g : Goal) (c : Certainty) : Type 0 where
+  pub on : a.disable_fast_paths ≡ false
+  pub answers : (let k = content_of a.nodes t.entries in h.at_once (deeply_resolved k (tree_at a.nodes g.param_env.node)) (deeply_resolved k (tree_at a.nodes g.predicate.node)) (certainty_of c))
+
+-- .. as the table knows it; or not at all, where it is answered at once, or no depth is left for it: then the overflow is marked
 pub record AsksAdded (R : Rules) (a b : Cx) (g h : SearchGraph) (t u : Table) (goal : Goal) (step : PathKind) (depth : AvailableDepth) (r : Result Evaluated EvalError) : Type 0 where
   pub runs : Runs a b t u
   pub searches : Searches a b g h
   pub err : OnErr r (u ≡ t)
   pub labels : OnOk r (BringsOnlyOf (asked_terms a.nodes goal) a t b u)
   pub proved : Always R a (λ s. IfSure r (IsProvedFromSince R.handler s t.mode (assumed_behind step b h) b.nodes u goal))
-  pub marks : bound_of depth ≡ 0 → IsTrue h.has_overflowed
-  pub told : WhereTold R a g (λ m. IfOk r (λ e. EvaluatesUnder m t.mode a.nodes t b.nodes u goal e.certainty e.has_changed ⊎ (bound_of depth ≡ 0) × (u.entries ≡ t.entries)))
+  pub marks : Always R a (λ s. bound_of depth ≡ 0 → IfOk r (λ e. IsTrue h.has_overflowed ⊎ AnsweredAtOnce (R.handler s.base) a t goal e.certainty))
+  pub told : WhereTold R a g (λ m. IfOk r (λ e. EvaluatesUnder m t.mode a.nodes t b.nodes u goal e.certainty e.has_changed ⊎ ((bound_of depth ≡ 0) ⊎ AnsweredAtOnce m a t goal e.certainty) × (u.entries ≡ t.entries)))
   pub refuted : WhereTold R a g (λ m. r ≡ Err error.NoSolution → IsRefusedUnder m t.mode a.nodes t goal ⊎ (let c = content_of a.nodes t.entries in IsGoalCut a.nodes g c t.mode (deeply_resolved c (tree_at a.nodes goal.param_env.node)) (deeply_resolved c (tree_at a.nodes goal.predicate.node)) step))
   pub decided : AnswersDecided R a g h (bound_of depth) (λ m n b. IsBelow n (λ k. (let c = content_of a.nodes t.entries in IsGoalDecided m (mode_of t.mode) k (deeply_resolved c (tree_at a.nodes goal.param_env.node)) (deeply_resolved c (tree_at a.nodes goal.predicate.node)) b))) r IsYesUnchanged
 
@@ -178,6 +183,8 @@ pub record AnswersOwn (R : Rules) (a b : Cx) (g h : SearchGraph) (t : Table) (go
   pub found : IfAnswered r (Found (λ c v. Always R a (λ s. HoldsOwn (R.handler s.base) (meaning_since R.handler s) (mode_of t.mode) (assumed_in b.nodes h) a.nodes goal (content_of c v.entries))) a.nodes b.nodes t goal values)
   pub told : WhereTold R a g (λ m. IfAnswered r (OwnTold m t.mode a.nodes t goal values b.nodes))
   pub refuted : WhereTold R a g (λ m. r ≡ Err error.NoSolution → OwnRefuted m t.mode a.nodes t goal)
+  -- what the handler affirms or denies is answered so
+  pub decided : AnswersDecided R a g h depth (λ m n b. SaysJudged m.judges (tree_at a.nodes goal.param_env.node) (tree_at a.nodes goal.predicate.node) b) r (λ x. IsYes x.value.value.certainty)
 
 -- .. by candidates: what is proved where the answer is certain; what is told and refuted of them; how they fare where the goal is
 -- decided; and what is so where one of them decides it, which has no goals

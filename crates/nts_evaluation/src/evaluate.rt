@@ -27,7 +27,7 @@ use nts_table::InferCtxt;
 use nts_terms::{Cx, GenericArg, Goal};
 use nts_trying::{
     AvailableDepth, GoalRow, Judged, OwnGoal, Step, Trial, answer_outlives, check_leaks,
-    enter_forall, equate, goal_kind, goal_row, judge, keep_response, merge_responses,
+    enter_forall, equate, fast_answer, goal_kind, goal_row, judge, keep_response, merge_responses,
     record_constraints,
 };
 
@@ -432,7 +432,7 @@ fn evaluate_step<H: GoalHandler>(
     Ok(step)
 }
 
-/// Asks a goal as the table knows it, unless it is nested too deep.
+/// Asks a goal as the table knows it, unless the handler answers it at once, or it is nested too deep.
 #[cycle(evaluate)]
 fn evaluate_added<H: GoalHandler>(
     table: &mut InferCtxt,
@@ -449,6 +449,14 @@ fn evaluate_added<H: GoalHandler>(
     ensures { AsksAdded (rules_of H.ready H.handler handler.now) cx.old cx.new graph.old graph.new
         table.old table.new goal step depth result }
 {
+    cx.terms_are_formed();
+    let asked = resolve_goal(table, cx, goal)?;
+    if let Some(certainty) = fast_answer(cx, handler, asked) {
+        return Ok(Evaluated {
+            certainty,
+            has_changed: HasChanged::No,
+        });
+    }
     match depth.next(graph.has_overflowed, cx.depth_division()) {
         None => {
             graph.has_overflowed = true;
@@ -457,9 +465,6 @@ fn evaluate_added<H: GoalHandler>(
                 has_changed: HasChanged::No,
             })
         }
-        Some(below) => {
-            let asked = resolve_goal(table, cx, goal)?;
-            evaluate_goal(table, cx, handler, graph, asked, step, below)
-        }
+        Some(below) => evaluate_goal(table, cx, handler, graph, asked, step, below),
     }
 }

@@ -6,6 +6,8 @@ mod asking;
 #[cfg(test)]
 mod evaluation_tests;
 #[cfg(test)]
+mod fast_tests;
+#[cfg(test)]
 mod outlives_tests;
 #[cfg(test)]
 mod own;

@@ -14,8 +14,8 @@ use nts_terms::TypingMode;
 
 const YES: Certainty = Certainty::Yes;
 
-/// A value has the type that its own type can be equated with: so a variable comes to stand for that. An error has each type. Of
-/// a parameter, a placeholder or a const that is not evaluated nothing is known.
+/// A value has the type that its own type can be equated with: so a variable comes to stand for that. An error has each type, an
+/// alias too. Of a parameter, a placeholder or a const that is not evaluated nothing is known, nor of a value where the type is an alias.
 #[test]
 fn the_type_of_a_const(rt: HostRuntime) {
     const GIVEN: &[Given] = &[
@@ -26,6 +26,7 @@ fn the_type_of_a_const(rt: HostRuntime) {
         Universe,
         Let("p", Make::ConstPlaceholder(1, 0)),
         Const("byte"),
+        Let("alias", Make::AliasOf("byte")),
     ];
     const ASKED: &[Asked] = &[
         Goal(
@@ -34,6 +35,11 @@ fn the_type_of_a_const(rt: HostRuntime) {
         ),
         Goal(Says(HasType(Value("byte", 3), "word")), Refused),
         Goal(Says(HasType(Error, "word")), Is(YES, HasChanged::No)),
+        Goal(Says(HasType(Error, "alias")), Is(YES, HasChanged::No)),
+        Goal(
+            Says(HasType(Value("byte", 3), "alias")),
+            Is(DOUBT, HasChanged::No),
+        ),
         Goal(Says(HasType(Named("n"), "byte")), Is(DOUBT, HasChanged::No)),
         Goal(Says(HasType(Named("p"), "byte")), Is(DOUBT, HasChanged::No)),
         Goal(

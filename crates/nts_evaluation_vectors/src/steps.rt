@@ -11,7 +11,7 @@ use nts_certainty::Certainty;
 use nts_delegate::{Assembly, Clause, Clauses};
 use nts_fixtures::{Fixture, Make, Name, Names};
 use nts_leak_check::LeakChecked;
-use nts_marker::{Circular, Judge, Marker};
+use nts_marker::{AtOnce, Circular, Judge, Marker};
 use nts_model::Sort;
 use nts_store::EvalError;
 use nts_table::InferCtxt;
@@ -34,6 +34,8 @@ pub enum Given {
     Universe,
     /// Goals are asked without short cuts.
     NoFastPaths,
+    /// Goals may be nested so deep.
+    Depth(usize),
 }
 
 /// The trait of this number, and the names of its arguments.
@@ -55,6 +57,8 @@ pub enum By {
     Marker(Certainty),
     /// The trait of the number 0 holds where it holds.
     Circular,
+    /// A list of clauses, and the trait of the number 0 holds of everything, and is answered at once.
+    AtOnce,
     /// Objects can be made of the trait of the number 0, the feature 7 is allowed, the const of the number 0 is an error, and a
     /// wrapped type is well formed where the feature of this number is allowed.
     Judge(u32),
@@ -114,6 +118,7 @@ fn give(fixture: &mut Fixture, names: &mut Names, given: &Given) -> Result<(), E
             fixture.universe()?;
         }
         Given::NoFastPaths => fixture.cx.set_disable_fast_paths(true),
+        Given::Depth(limit) => fixture.cx.set_recursion_limit(*limit),
     }
     Ok(())
 }
@@ -153,6 +158,10 @@ fn play(
             ask_all(rt, table, cx, names, kept, &marker, asked)
         }
         By::Circular => ask_all(rt, table, cx, names, kept, &Circular { id }, asked),
+        By::AtOnce => {
+            let known = AtOnce { id, rules: clauses };
+            ask_all(rt, table, cx, names, kept, &known, asked)
+        }
         By::Judge(needs) => {
             let judge = Judge {
                 objects: id,

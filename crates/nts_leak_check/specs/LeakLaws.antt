@@ -1,4 +1,4 @@
--- The laws of a handler don't depend on its leaks.
+-- The laws of a handler don't depend on its leaks, nor does what it answers at once.
 use Rattle.std.specs.Prelude.{◌⊎◌}
 use Rattle.std.proofs.Common.{inl, inr}
 use Rattle.nts_model.specs.Terms.Trees.{Tree}
@@ -17,6 +17,7 @@ IsLawfulHandler-checking h p =
       sources = (let x = p.sources in record { each = x.each });
       keep = (let x = p.keep in record { each = x.each });
       judges = (let x = p.judges in record { allows = x.allows; evaluates = x.evaluates; well_formed = x.well_formed; goals = x.goals });
+      at_once = (let x = p.at_once in record { proved = x.proved; doubted = x.doubted });
     }
 
 covered : (h : Handler) (e g : Tree) (ι : Instance) (a : Application) → Covers h coherence e g ι a → Covers (checking h) coherence e g ι a
@@ -46,4 +47,5 @@ MeansSame-checking {h} {k} p =
         | inl a ↦ inl (p.leaks c u a)
         | inr b ↦ inr b
       ];
+      at_once = p.at_once;
     }

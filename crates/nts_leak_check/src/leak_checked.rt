@@ -4,6 +4,7 @@ ghost use Rattle.nts_store.specs.Growth.{tree_at, IsIn};
 ghost use Rattle.nts_unify.specs.Reading.{recorded_of};
 ghost use Rattle.nts_leak_check.specs.Leaking.{IsRigid, HasRigidRegion, EquatesRigid, AreSidesIn, OneEquatesRigid};
 
+use nts_certainty::Certainty;
 use nts_delegate::{CandidateData, FetchEligibleAssocItemResponse, GoalHandler};
 use nts_model::{FreeRegion, Label, Leaf, Relation};
 use nts_store::{EvalError, Fault, NodeId};
@@ -75,6 +76,10 @@ impl<H: GoalHandler + Drop> GoalHandler for LeakChecked<H> {
         term: Term,
     ) -> Result<Option<Vec<Goal>>, Fault> {
         self.rules.well_formed_goals(cx, env, term)
+    }
+
+    fn compute_goal_fast_path(&self, cx: &Cx, goal: Goal) -> Option<Certainty> {
+        self.rules.compute_goal_fast_path(cx, goal)
     }
 
     fn fetch_eligible_assoc_item(

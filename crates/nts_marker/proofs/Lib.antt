@@ -1,1 +1,3 @@
 pub mod Circles
+pub mod Fairness
+mod AnsweringExamples

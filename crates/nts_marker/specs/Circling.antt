@@ -3,7 +3,7 @@ use Rattle.std.specs.Prelude.{◌≡◌, ℕ, true, false, List, [], ◌∷◌, 
 use Rattle.nts_model.specs.Terms.Trees.{Tree}
 use Rattle.nts_model.specs.Derivations.Sequents.{Premise, type_relating}
 use Rattle.nts_model.specs.Derivations.Rules.{Application}
-use Rattle.nts_model.specs.Derivations.Handlers.{Handler, Candidate, certain, never, never_leaks, no_judgements}
+use Rattle.nts_model.specs.Derivations.Handlers.{Handler, Candidate, certain, never, never_leaks, never_at_once, no_judgements}
 use Rattle.nts_marker.specs.Marking.{marks}
 
 -- the goal itself, as relating would ask for it: by a step that is inductive
@@ -30,4 +30,5 @@ circling i =
       is_coinductive = λ j. false;
       leaks = never_leaks;
       judges = no_judgements;
+      at_once = never_at_once;
     }

@@ -13,7 +13,7 @@ use Rattle.nts_model.specs.Derivations.Handlers.{Candidate, equation_by, constra
 use Rattle.nts_model.specs.Refutation.Coherence.{Covers, RulesAreOffered}
 use Rattle.nts_model.proofs.Terms.Substituting.{closed_under_more}
 use Rattle.nts_delegate.specs.OwnTerms.{both_false, filled_nowhere, names_nothing}
-use Rattle.nts_delegate.specs.Judging.{objects_judged}
+use Rattle.nts_delegate.specs.Judging.{objects_judged, FastAnswersHold-never}
 use Rattle.nts_marker.specs.Marking.{is_of, marks}
 use Rattle.nts_marker.specs.MarkerLaws.{marks_asked, marks_kept}
 use Rattle.nts_marker.specs.Circling.{same_goal, again, IsAgain, circling}
@@ -130,7 +130,7 @@ keep i =
     record { each = λ mode e g c asked among. (let o = offered_is e g (marks i g) c among in subst (IsCandidateFor e g) (sym o.is) (keeps i e g asked o.marked)) }
 
 pub IsLawfulHandler-circling : (i : ℕ) → IsLawfulHandler (circling i)
-IsLawfulHandler-circling i = record { commute = commute i; rules = rules i; sources = sources i; keep = keep i; judges = objects_judged (circling i) (λ j. false) refl }
+IsLawfulHandler-circling i = record { commute = commute i; rules = rules i; sources = sources i; keep = keep i; judges = objects_judged (circling i) (λ j. false) refl; at_once = FastAnswersHold-never (circling i) (λ e g c x. x) }
 
 same_at : {e f g h : Tree} → e ≡ f → g ≡ h → same_goal f h ≡ same_goal e g
 same_at p q = cc (p, q)

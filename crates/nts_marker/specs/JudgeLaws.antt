@@ -10,6 +10,7 @@ use Rattle.nts_model.specs.Terms.Substitutions.{replace, Occurs, instance_of}
 use Rattle.nts_model.specs.Lists.{Among}
 use Rattle.nts_model.specs.Derivations.Rules.{const_error, statement_of}
 use Rattle.nts_model.specs.Derivations.Handlers.{IsOver, IsEmitted, CandidatesCommute, InstancesAreRules, JudgementsAreKept, IsLawfulHandler}
+use Rattle.nts_delegate.specs.Judging.{FastAnswersHold-never}
 use Rattle.nts_model.specs.Refutation.Coherence.{RulesAreOffered}
 use Rattle.nts_marker.specs.Judgement.{is_constant, is_constructor, allowed, judging}
 
@@ -87,6 +88,7 @@ IsLawfulHandler-judging o f c d n =
       sources = record { each = λ mode a q m among. absurd m };
       keep = record { each = λ mode e g x asked among. absurd among };
       judges = judges o f c d n;
+      at_once = FastAnswersHold-never (judging o f c d n) (λ e g c x. x);
     }
 
 -- there are no rules

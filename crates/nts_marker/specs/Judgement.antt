@@ -7,7 +7,7 @@ use Rattle.nts_model.specs.declared.labels.Label.TheVariants as label
 use Rattle.nts_model.specs.Terms.Trees.{Tree, empty, node}
 use Rattle.nts_model.specs.Derivations.Related.{unbound}
 use Rattle.nts_model.specs.Derivations.Rules.{const_error}
-use Rattle.nts_model.specs.Derivations.Handlers.{Handler, Judgements, never_leaks}
+use Rattle.nts_model.specs.Derivations.Handlers.{Handler, Judgements, never_leaks, never_at_once}
 
 -- whether a term is the const, and whether it is a type of the constructor
 abbrev pub is_constant : ℕ → Tree → Bool
@@ -39,4 +39,5 @@ judging objects feature constant formed needs =
       is_coinductive = λ j. false;
       leaks = never_leaks;
       judges = judgement objects feature constant formed needs;
+      at_once = never_at_once;
     }

@@ -4,3 +4,5 @@ pub mod Circling
 pub mod CircularLaws
 pub mod Judgement
 pub mod JudgeLaws
+pub mod Answering
+pub mod AnsweringLaws

@@ -13,7 +13,7 @@ use Rattle.nts_model.specs.Lists.{Among}
 use Rattle.nts_model.specs.Derivations.Rules.{Mode, coherence, Application, IsHandlers}
 use Rattle.nts_model.specs.Derivations.Handlers.{Handler, Candidate, Certainty, certain, equation_by, constraint_by, hidden_by, premise_by, use_of, IsInstanceFor, application_under, renamed_candidate, IsAsked, IsCandidateFor, CandidatesCommute, InstancesAreRules, RulesHaveSources, CandidatesKeep, IsLawfulHandler}
 use Rattle.nts_model.specs.Refutation.Coherence.{Covers, RulesAreOffered}
-use Rattle.nts_delegate.specs.Judging.{objects_judged}
+use Rattle.nts_delegate.specs.Judging.{objects_judged, FastAnswersHold-never}
 use Rattle.nts_delegate.specs.SameHandlers.{MeansSame}
 use Rattle.nts_marker.specs.Marking.{is_of, marks, fact, IsMarked, marking}
 
@@ -98,7 +98,7 @@ keep i z =
     record { each = λ mode e g c asked among. subst (IsCandidateFor e g) (sym ((offered_is z (marks i g) c among).is)) (fact_keeps z e g) }
 
 pub IsLawfulHandler-marking : (i : ℕ) (z : Certainty) → IsLawfulHandler (marking i z)
-IsLawfulHandler-marking i z = record { commute = commute i z; rules = rules i z; sources = sources i z; keep = keep i z; judges = objects_judged (marking i z) (λ j. false) refl }
+IsLawfulHandler-marking i z = record { commute = commute i z; rules = rules i z; sources = sources i z; keep = keep i z; judges = objects_judged (marking i z) (λ j. false) refl; at_once = FastAnswersHold-never (marking i z) (λ e g c x. x) }
 
 -- each rule for an instance of a goal is the fact's
 fact_offered : (z : Certainty) (b : Bool) → b ≡ true → Among (if b then fact z ∷ [] else []) (fact z)
@@ -124,4 +124,4 @@ RulesAreOffered-marking i z =
 
 -- it means the same in each store
 pub MeansSame-itself : (h : Handler) → MeansSame h h
-MeansSame-itself h = record { applies = λ mode a. (λ x. x, λ x. x); offers = λ mode e g. refl; is_coinductive = λ i. refl; judges = refl; leaks = λ c u l. l }
+MeansSame-itself h = record { applies = λ mode a. (λ x. x, λ x. x); offers = λ mode e g. refl; is_coinductive = λ i. refl; judges = refl; leaks = λ c u l. l; at_once = λ e g c x. x }

@@ -4,7 +4,7 @@ use Rattle.nts_model.specs.declared.labels.ClauseHead.TheVariants as clause
 use Rattle.nts_model.specs.declared.labels.Label.TheVariants as label
 use Rattle.nts_model.specs.Terms.Trees.{Tree, node}
 use Rattle.nts_model.specs.Derivations.Rules.{Application, statement_of}
-use Rattle.nts_model.specs.Derivations.Handlers.{Handler, Candidate, Certainty, certain, never, never_leaks, no_judgements}
+use Rattle.nts_model.specs.Derivations.Handlers.{Handler, Candidate, Certainty, certain, never, never_leaks, never_at_once, no_judgements}
 
 -- whether a statement is of the trait, and whether a goal is
 abbrev pub is_of : ℕ → Tree → Bool
@@ -35,4 +35,5 @@ marking i c =
       is_coinductive = λ j. false;
       leaks = never_leaks;
       judges = no_judgements;
+      at_once = never_at_once;
     }

@@ -1,5 +1,5 @@
 -- What relating by a variance leaves of a table, with the goals in an environment.
-use Rattle.std.proofs.Common.{◌≡◌, inl, inr, ⊎_elim, Option, None, ℕ, zero, suc, ◌+◌, ◌<◌, Bool, true, false, List, [], ◌∷◌, ◌++◌, Some, length, get_or, take, refl, sym, ap, ◌∙◌, subst, arith}
+use Rattle.std.proofs.Common.{◌≡◌, inl, inr, ⊎_elim, Option, None, ℕ, zero, suc, ◌+◌, ◌<◌, ◌≤◌, Bool, true, false, List, [], ◌∷◌, ◌++◌, Some, length, get_or, take, refl, sym, ap, ◌∙◌, subst, arith}
 use Rattle.std.specs.Prelude.{Result, Ok, Err, IfOk, OnOk}
 use Rattle.std.proofs.lemmas.List.{take_more}
 use Rattle.nts_model.specs.declared.labels.Sort.{Sort}
@@ -39,7 +39,7 @@ use Rattle.nts_variance.specs.declared.along.Relating.{Relating}
 use Rattle.nts_variance.specs.Terms.{pair_at, pairs_at, IsGoal, AreGoals, ArePairs}
 use Rattle.nts_variance.specs.Due.{IsNoType, AreUnvaluedPairs}
 use Rattle.nts_variance.specs.Goals.{goal_head, goal_of}
-use Rattle.nts_variance.proofs.Dues.{list_fresh}
+use Rattle.nts_variance.proofs.Dues.{aliases_due, list_fresh}
 use Rattle.nts_variance.specs.Pairs.{Refuses}
 use Rattle.nts_variance.specs.Taking.{Takes, IsPairSide}
 use Rattle.nts_variance.specs.Equating.{GoalsRelate}
@@ -251,7 +251,7 @@ one_made ts us ws env ps gs g i d h first ext all at within is l =
 module _ (declared : ℕ → List Variance) where
   -- of two lists, and of two terms
   pub rows_sides : (ts us : List Tree) (e f : Entries) (v : Variance) (a b : Tree) (gs : List Relating) → is_list a ≡ true → RowsRelate declared ts us e f a b gs → LeavesPairs declared ts us e f v a b gs
-  rows_sides ts us e f v a b gs is r = record { related = record { long = λ q. r.long; known = r.known; are_goals = r.are_goals; takes = rw is r.takes }; due = λ c f. r.due c }
+  rows_sides ts us e f v a b gs is r = record { related = record { long = λ q. r.long; known = r.known; are_goals = r.are_goals; takes = rw is r.takes }; due = λ c le h. aliases_due c (content_of us f) (pairs_at us gs) r.due }
 
   pub terms_sides : (ts us : List Tree) (e f : Entries) (v w : Variance) (p q : NodeId) (gs : List Relating) → is_list (tree_at ts p) ≡ false → w ≡ variance_at (tree_at ts p) v → GoalsRelate declared ts us e f (record { variance = w; left = p; right = q }) gs → LeavesPairs declared ts us e f v (tree_at ts p) (tree_at ts q) gs
   terms_sides ts us e f v w p q gs is same r =
@@ -262,7 +262,7 @@ module _ (declared : ℕ → List Variance) where
           are_goals = r.are_goals;
           takes = rw (is, ← same) r.takes;
         };
-        due = λ c. rw (is, ← same) (λ f. r.due c f.0);
+        due = λ c le. rw (is, ← same) (λ f. r.due c le f.0);
       }
 
   pub rows_refused : (c : Content) (v : Variance) (a b : Tree) → is_list a ≡ true → RefusesRows declared c a b → RefusesSides declared c v a b
@@ -285,7 +285,7 @@ module _ (declared : ℕ → List Variance) where
       let known = goals_later ps ext (grown_refl d) r.known in
       record {
         pairs = ps;
-        left = record { related = at_content ts ws e f v a b ps d same r.long known (rw kept r.are_goals) (rw kept r.takes); due = λ c h. rw (same, kept) (l.due c h) };
+        left = record { related = at_content ts ws e f v a b ps d same r.long known (rw kept r.are_goals) (rw kept r.takes); due = λ c le h. rw (same, kept) (l.due c le h) };
         goals = rw same (are_goals_of us ws d env ps gs ext r.known r.are_goals made);
       }
 
@@ -321,6 +321,7 @@ module _ (declared : ℕ → List Variance) where
   resolved_sides ts us ws e f env v a b gs lawful ext ka kb kind r =
       let c = content_of ts e in
       let same : content_of us e ≡ c = content_of-extended ext lawful in
+      let all : length c.slots ≤ length (content_of us e).slots = omega (arith, ap (λ (y : Content). length y.slots) same) in
       let l = r.left in
       let s = l.related in
       let before : kind_of (resolved c a) ≡ Some (of_sort sort.Ty) = kind_of-resolved c a lawful.sound ka ∙ kind in
@@ -334,7 +335,7 @@ module _ (declared : ℕ → List Variance) where
           takes = rw (type_pairs v a b kind) (takes_resolved c (content_of ws f) v a b (pairs_at ws r.pairs) lawful.sound ka kb t);
         };
         goals = r.goals;
-        due = l.due c (rw (type_pairs v (resolved c a) (resolved c b) before) (inr (inr (unset_resolved c a lawful.sound ka, unset_resolved c b lawful.sound kb)), tt));
+        due = l.due c all (rw (type_pairs v (resolved c a) (resolved c b) before) (inr (inr (unset_resolved c a lawful.sound ka, unset_resolved c b lawful.sound kb)), tt));
       }
 
   -- .. and where the sides are no types, none of which varies
@@ -348,7 +349,7 @@ module _ (declared : ℕ → List Variance) where
   pub other_sides : (ts us : List Tree) (e f : Entries) (env : ParamEnv) (v : Variance) (a b : Tree) (gs : List Goal) → IsNoType a → LeavesGoals declared ts us e f env v a b gs → IsRelatedBy declared ts us e f env v a b gs
   other_sides ts us e f env v a b gs h r =
       let l = r.left in
-      record { pairs = r.pairs; related = l.related; goals = r.goals; due = l.due (content_of ts e) (no_type_fresh (content_of ts e) v a b h) }
+      record { pairs = r.pairs; related = l.related; goals = r.goals; due = l.due (content_of ts e) (omega arith) (no_type_fresh (content_of ts e) v a b h) }
 
   pub resolved_refused : (ts us : List Tree) (e : Entries) (v : Variance) (a b : Tree) → IsLawful ts e → Extends ts us → Knows (content_of ts e) a → kind_of a ≡ Some (of_sort sort.Ty)
       → RefusesSides declared (content_of us e) v (resolved (content_of ts e) a) (resolved (content_of ts e) b) → RefusesSides declared (content_of ts e) v a b

@@ -1,5 +1,5 @@
 -- Terms, or lists of arguments, that are related by a variance under a table, and the predicates of the goals that this leaves.
-use Rattle.std.specs.Prelude.{◌≡◌, ◌⊎◌, ℕ, Bool, true, false, cond, List, [], ◌∷◌, Option, Some}
+use Rattle.std.specs.Prelude.{◌≡◌, ◌⊎◌, ℕ, ◌≤◌, length, Bool, true, false, cond, List, [], ◌∷◌, Option, Some}
 use Rattle.nts_model.specs.declared.labels.Sort.{Sort}
 use Rattle.nts_model.specs.declared.labels.Sort.TheVariants as sort
 use Rattle.nts_model.specs.declared.labels.Variance.{Variance}
@@ -65,10 +65,11 @@ pub record SidesRelate (declared : ℕ → List Variance) (ts us : List Tree) (e
   pub are_goals : AreGoals (pairs_at us gs)
   pub takes : Takes declared (content_of ts e) (content_of us f) (related_pairs v a b) [] (pairs_at us gs)
 
--- relating two terms, or two lists, leaves these pairs as goals; they are due since each table in which no variable of the sides had a value
+-- relating two terms, or two lists, leaves these pairs as goals; they are due since each table that has no more variables than the first
+-- one, and in which no variable of the sides had a value
 pub record LeavesPairs (declared : ℕ → List Variance) (ts us : List Tree) (e f : Entries) (v : Variance) (a b : Tree) (gs : List Relating) : Type 0 where
   pub related : SidesRelate declared ts us e f v a b gs
-  pub due : (c : Content) → AreUnvaluedPairs c (related_pairs v a b) → AreGoalsDue c (content_of us f) (pairs_at us gs)
+  pub due : (c : Content) → length c.slots ≤ length (content_of ts e).slots → AreUnvaluedPairs c (related_pairs v a b) → AreGoalsDue c (content_of us f) (pairs_at us gs)
 
 -- the lists are not of one length, or no settled solution of the table relates the pairs
 abbrev pub RefusesSides : (ℕ → List Variance) → Content → Variance → Tree → Tree → Type 0
@@ -109,7 +110,8 @@ pub record LeavesGoals (declared : ℕ → List Variance) (ts us : List Tree) (e
   pub goals : AreGoalsOfPairs us (content_of us f) env pairs gs
 
 -- two terms, or the arguments of two lists, were related, and these goals alone are left, each of which is asked for: by an alias
--- without escaping bound variables, by two type variables, or by a type variable that had no value before and has one afterwards
+-- without escaping bound variables; by two type variables that had no value before, or one that had none and one that was made for it;
+-- or by a type variable that had no value before and has one afterwards, with another term
 pub record IsRelatedBy (declared : ℕ → List Variance) (ts us : List Tree) (e f : Entries) (env : ParamEnv) (v : Variance) (a b : Tree) (gs : List Goal) : Type 0 where
   pub pairs : List Relating
   pub related : SidesRelate declared ts us e f v a b pairs

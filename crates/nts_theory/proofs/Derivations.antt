@@ -11,3 +11,4 @@ pub mod Assuming
 pub mod Owing
 pub mod FromCandidate
 pub mod Rooted
+pub mod FastAnswers

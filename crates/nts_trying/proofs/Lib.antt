@@ -15,5 +15,6 @@ pub mod Instances
 pub mod Unasked
 pub mod Outliving
 pub mod Owning
+pub mod Judging
 mod OutlivesExamples
 mod OwningExamples

@@ -46,20 +46,12 @@ use Rattle.nts_delegate.specs.Candidates.{IsOverIn, AreNested, IsCandidate}
 use Rattle.nts_delegate.specs.Judging.{predicates_read, IsGoalIn}
 use Rattle.nts_delegate.specs.OwnTerms.{both_false, names_nothing}
 use Rattle.nts_trying.specs.Outliving.{IsClosedEnv}
-use Rattle.nts_trying.specs.Owning.{tree_of_own, OwnFits, IsOwnGoal, IsPlainGoal, IsPlainWay, misc_goal}
+use Rattle.nts_trying.specs.Owning.{tree_of_own, OwnFits, IsOwnStatement, IsOwnGoal, StatesOwn, IsPlainGoal, IsPlainWay, misc_goal}
 use Rattle.nts_trying.specs.declared.own.OwnGoal.{OwnGoal}
 use Rattle.nts_trying.specs.declared.own.OwnGoal.TheVariants as own
 
--- trees of such statements
-abbrev pub IsOwnTree : Tree → Type 0
-IsOwnTree (node (label.Predicate (predicate_head.DynCompatible i)) ts) = Unit {0}
-IsOwnTree (node (label.Clause (clause_head.UnstableFeature f)) ts) = Unit {0}
-IsOwnTree (node (label.Clause clause_head.ConstEvaluatable) ts) = Unit {0}
-IsOwnTree (node (label.Clause clause_head.ConstArgHasType) ts) = Unit {0}
-IsOwnTree (node (label.Clause clause_head.WellFormed) ts) = Unit {0}
-IsOwnTree t = ⊥
-
-own_tree : (ts : List Tree) (o : OwnGoal) → IsOwnTree (tree_of_own ts o)
+-- such statements
+pub own_tree : (ts : List Tree) (o : OwnGoal) → IsOwnStatement (tree_of_own ts o)
 own_tree ts (own.DynCompatible i) = tt
 own_tree ts (own.UnstableFeature f) = tt
 own_tree ts (own.ConstEvaluatable c) = tt
@@ -67,34 +59,27 @@ own_tree ts (own.ConstArgHasType c t) = tt
 own_tree ts (own.WellFormed t) = tt
 
 -- statements of other kinds
-other_clause_tree : (ts : List Tree) (k : ClauseKind) → ((f : ℕ) → k ≡ clause.UnstableFeature f → ⊥) → ((c : Const) → k ≡ clause.ConstEvaluatable c → ⊥) → ((c : Const) (t : Ty) → k ≡ clause.ConstArgHasType c t → ⊥) → ((t : Term) → k ≡ clause.WellFormed t → ⊥)
-    → IsOwnTree (tree_of_clause ts k) → ⊥
-other_clause_tree ts (clause.UnstableFeature f) u e h w o = u f refl
-other_clause_tree ts (clause.ConstEvaluatable c) u e h w o = e c refl
-other_clause_tree ts (clause.ConstArgHasType c t) u e h w o = h c t refl
-other_clause_tree ts (clause.WellFormed t) u e h w o = w t refl
-other_clause_tree ts (clause.Trait r) u e h w o = o
-other_clause_tree ts (clause.HostEffect r) u e h w o = o
-other_clause_tree ts (clause.Projection a t) u e h w o = o
-other_clause_tree ts (clause.TypeOutlives t r) u e h w o = o
-other_clause_tree ts (clause.RegionOutlives a b) u e h w o = o
+pub other_clause_own : (ts : List Tree) (k : ClauseKind) → ((f : ℕ) → k ≡ clause.UnstableFeature f → ⊥) → ((c : Const) → k ≡ clause.ConstEvaluatable c → ⊥) → ((c : Const) (t : Ty) → k ≡ clause.ConstArgHasType c t → ⊥) → ((t : Term) → k ≡ clause.WellFormed t → ⊥)
+    → IsOwnStatement (tree_of_clause ts k) → ⊥
+other_clause_own ts (clause.UnstableFeature f) u e h w o = u f refl
+other_clause_own ts (clause.ConstEvaluatable c) u e h w o = e c refl
+other_clause_own ts (clause.ConstArgHasType c t) u e h w o = h c t refl
+other_clause_own ts (clause.WellFormed t) u e h w o = w t refl
+other_clause_own ts (clause.Trait r) u e h w o = o
+other_clause_own ts (clause.HostEffect r) u e h w o = o
+other_clause_own ts (clause.Projection a t) u e h w o = o
+other_clause_own ts (clause.TypeOutlives t r) u e h w o = o
+other_clause_own ts (clause.RegionOutlives a b) u e h w o = o
 
-pub other_clause_own : (ts : List Tree) (k : ClauseKind) (o : OwnGoal) → ((f : ℕ) → k ≡ clause.UnstableFeature f → ⊥) → ((c : Const) → k ≡ clause.ConstEvaluatable c → ⊥) → ((c : Const) (t : Ty) → k ≡ clause.ConstArgHasType c t → ⊥) → ((t : Term) → k ≡ clause.WellFormed t → ⊥)
-    → tree_of_clause ts k ≡ tree_of_own ts o → ⊥
-other_clause_own ts k o u e h w same = other_clause_tree ts k u e h w (subst IsOwnTree (sym same) (own_tree ts o))
-
-other_statement_tree : (ts : List Tree) (k : PredicateKind) → ((c : ClauseKind) → k ≡ predicate.Clause c → ⊥) → ((i : _) → k ≡ predicate.DynCompatible i → ⊥) → IsOwnTree (tree_of_statement ts k) → ⊥
-other_statement_tree ts (predicate.Clause c) n d o = n c refl
-other_statement_tree ts (predicate.DynCompatible i) n d o = d i refl
-other_statement_tree ts (predicate.Subtype e a b) n d o = o
-other_statement_tree ts (predicate.Coerce a b) n d o = o
-other_statement_tree ts (predicate.ConstEquate a b) n d o = o
-other_statement_tree ts (predicate.NormalizesTo a t) n d o = o
-other_statement_tree ts (predicate.AliasRelate a b x) n d o = o
-other_statement_tree ts predicate.Ambiguous n d o = o
-
-pub other_statement_own : (ts : List Tree) (k : PredicateKind) (o : OwnGoal) → ((c : ClauseKind) → k ≡ predicate.Clause c → ⊥) → ((i : _) → k ≡ predicate.DynCompatible i → ⊥) → tree_of_statement ts k ≡ tree_of_own ts o → ⊥
-other_statement_own ts k o n d same = other_statement_tree ts k n d (subst IsOwnTree (sym same) (own_tree ts o))
+pub other_statement_own : (ts : List Tree) (k : PredicateKind) → ((c : ClauseKind) → k ≡ predicate.Clause c → ⊥) → ((i : _) → k ≡ predicate.DynCompatible i → ⊥) → IsOwnStatement (tree_of_statement ts k) → ⊥
+other_statement_own ts (predicate.Clause c) n d o = n c refl
+other_statement_own ts (predicate.DynCompatible i) n d o = d i refl
+other_statement_own ts (predicate.Subtype e a b) n d o = o
+other_statement_own ts (predicate.Coerce a b) n d o = o
+other_statement_own ts (predicate.ConstEquate a b) n d o = o
+other_statement_own ts (predicate.NormalizesTo a t) n d o = o
+other_statement_own ts (predicate.AliasRelate a b x) n d o = o
+other_statement_own ts predicate.Ambiguous n d o = o
 
 -- no such goal is a trait's
 own_no_trait : (ts : List Tree) (o : OwnGoal) → IsTraitStatement (tree_of_own ts o) → ⊥
@@ -124,14 +109,16 @@ module _ (ts : List Tree) (g : Goal) (b : Binder PredicateKind) (is : tree_at ts
       let whole : tree_at ts g.predicate.node ≡ unbound (tree_of_own ts o) = is ∙ ap (λ z. node (label.List list.Binder) (more z (more (tree_of_statement ts b.value) empty))) binder ∙ ap unbound says in
       record { binds_nothing = whole; fits = parts; closed = closed (tree_of_own ts o) whole; environment = env }
 
-  pub own_binds_none : IsOwnGoal ts g o → row_length (children (tree_at ts b.vars.node)) ≡ 0
-  own_binds_none h = ap (λ t. row_length (children (listed_of t))) (sym is ∙ h.binds_nothing)
+-- .. that states one, as trees
+module _ (ts : List Tree) (g : Goal) (b : Binder PredicateKind) (is : tree_at ts g.predicate.node ≡ tree_of_predicate ts b) (h : StatesOwn (tree_at ts g.param_env.node) (tree_at ts g.predicate.node)) where
+  pub own_binds_none : row_length (children (tree_at ts b.vars.node)) ≡ 0
+  own_binds_none = ap (λ t. row_length (children (listed_of t))) (sym is ∙ h.binds_nothing)
 
-  pub own_states : IsOwnGoal ts g o → tree_of_statement ts b.value ≡ tree_of_own ts o
-  own_states h = ap statement_of (sym is ∙ h.binds_nothing)
+  pub own_states : IsOwnStatement (tree_of_statement ts b.value)
+  own_states = subst IsOwnStatement (ap statement_of (sym h.binds_nothing ∙ is)) h.own
 
-  pub own_closed : IsOwnGoal ts g o → HasClosedStatement (tree_at ts g.predicate.node)
-  own_closed h = subst HasClosedStatement (sym h.binds_nothing) (closed_unbound (tree_of_own ts o) h.closed)
+  pub own_closed : HasClosedStatement (tree_at ts g.predicate.node)
+  own_closed = subst HasClosedStatement (sym h.binds_nothing) (closed_unbound h.statement h.closed)
 
 -- in a store that has grown
 own_kept : {a b : List Tree} (o : OwnGoal) → Extends a b → OwnFits a o → tree_of_own b o ≡ tree_of_own a o

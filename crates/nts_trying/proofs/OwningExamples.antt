@@ -3,13 +3,15 @@ use Rattle.std.proofs.Common.{◌≡◌, ℕ, true, false, List, [], ◌∷◌, 
 use Rattle.std.specs.Prelude.{◌==◌}
 use Rattle.nts_model.specs.declared.labels.ClauseHead.TheVariants as clause
 use Rattle.nts_model.specs.declared.labels.ListHead.TheVariants as list
+use Rattle.nts_model.specs.declared.labels.PredicateHead.TheVariants as predicate
 use Rattle.nts_model.specs.declared.labels.Label.TheVariants as label
 use Rattle.nts_model.specs.Terms.Trees.{Tree, empty, node, IsInRow}
 use Rattle.nts_model.specs.Derivations.Related.{unbound}
 use Rattle.nts_model.specs.Derivations.Handlers.{Judgements, no_judgements}
 use Rattle.nts_theory.specs.Affirming.{IsAffirmed, feature_allowed}
 use Rattle.nts_terms.specs.declared.handles.Goal.{Goal}
-use Rattle.nts_trying.specs.Owning.{IsOwnGoal, IsJudgedBy}
+use Rattle.nts_trying.specs.Outliving.{IsClosedEnv}
+use Rattle.nts_trying.specs.Owning.{IsOwnStatement, IsOwnGoal, StatesOwn, IsJudgedBy, IsAllJudged}
 use Rattle.nts_trying.specs.declared.own.OwnGoal.TheVariants as own
 use Rattle.nts_trying.specs.declared.own.Judged.TheVariants as judged
 
@@ -47,3 +49,23 @@ nothing_is_yes s = (let e = s.binds_nothing in let q : feature 7 ≡ s.statement
 
 nothing_is_no : IsJudgedBy no_judgements store allowed judged.No → ⊥
 nothing_is_no d = (let e = d.is in cc e)
+
+-- so a body that says nothing of what the handler allows does not say all
+all_known : IsAllJudged allows_it store allowed judged.Yes
+all_known = record { affirmed = λ x. refl; denied = λ d. absurd (let e = d.is in cc e) }
+
+doubt_is_less : IsAllJudged allows_it store allowed judged.Unknown → ⊥
+doubt_is_less a = (let e : judged.Unknown ≡ judged.Yes = a.affirmed affirmed_is_yes in cc e)
+
+-- the goal is of the engine's own kinds; one that is always ambiguous is not
+closed_there : IsClosedEnv nowhere
+closed_there = record { closed = (tt, tt); statements = λ ps p is found. absurd (let q : empty ≡ ps = cc is in subst (λ z. IsInRow p z → ⊥) q (λ x. x) found) }
+
+feature_states_own : StatesOwn nowhere (unbound (feature 7))
+feature_states_own = record { statement = feature 7; binds_nothing = refl; own = tt; closed = (tt, tt); environment = closed_there }
+
+abbrev ambiguous : Tree
+ambiguous = node (label.Predicate predicate.Ambiguous) empty
+
+ambiguous_states_nothing : StatesOwn nowhere (unbound ambiguous) → ⊥
+ambiguous_states_nothing s = (let e : unbound ambiguous ≡ unbound s.statement = s.binds_nothing in let q : ambiguous ≡ s.statement = cc e in subst IsOwnStatement (sym q) s.own)

@@ -1,6 +1,7 @@
 pub mod Choices
 pub mod Instances
 pub mod Opening
+pub mod Fast
 pub mod Found
 pub mod Stepping
 pub mod Adding

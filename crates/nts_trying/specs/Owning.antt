@@ -47,10 +47,27 @@ pub record IsOwnGoal (ts : List Tree) (g : Goal) (o : OwnGoal) : Type 0 where
   pub closed : IsClosed (tree_of_own ts o)
   pub environment : IsClosedEnv (tree_at ts g.param_env.node)
 
+-- a statement that the engine answers by itself, of no region
+abbrev pub IsOwnStatement : Tree → Type 0
+IsOwnStatement (node (label.Predicate (predicate_head.DynCompatible i)) ts) = Unit {0}
+IsOwnStatement (node (label.Clause (clause_head.UnstableFeature f)) ts) = Unit {0}
+IsOwnStatement (node (label.Clause clause_head.ConstEvaluatable) ts) = Unit {0}
+IsOwnStatement (node (label.Clause clause_head.ConstArgHasType) ts) = Unit {0}
+IsOwnStatement (node (label.Clause clause_head.WellFormed) ts) = Unit {0}
+IsOwnStatement t = ⊥
+
+-- a goal that states one, as trees: it binds nothing, and it and its environment are closed
+pub record StatesOwn (e p : Tree) : Type 0 where
+  pub statement : Tree
+  pub binds_nothing : p ≡ unbound statement
+  pub own : IsOwnStatement statement
+  pub closed : IsClosed statement
+  pub environment : IsClosedEnv e
+
 -- the goal is one, and this is what it states; or it is none
 abbrev pub SaysOwn : List Tree → Goal → Option OwnGoal → Type 0
 SaysOwn ts g (Some o) = IsOwnGoal ts g o
-SaysOwn ts g None = (o : OwnGoal) → IsOwnGoal ts g o → ⊥
+SaysOwn ts g None = StatesOwn (tree_at ts g.param_env.node) (tree_at ts g.predicate.node) → ⊥
 
 -- a goal in whose terms no position of a canonical value stands, and each bound variable is of the list of its binder
 pub record IsPlainGoal (ts : List Tree) (g : Goal) : Type 0 where
@@ -80,3 +97,11 @@ IsJudgedBy j ts g judged.Unknown = Unit {0}
 
 abbrev pub IsJudgedSo : Handler → List Tree → Goal → Judged → Type 0
 IsJudgedSo h ts g x = IsJudgedBy h.judges ts g x
+
+-- .. and where the handler affirms or denies the goal, that is known
+pub record IsAllJudged (j : Judgements) (ts : List Tree) (g : Goal) (x : Judged) : Type 0 where
+  pub affirmed : SaysAffirmed j (tree_at ts g.param_env.node) (tree_at ts g.predicate.node) → x ≡ judged.Yes
+  pub denied : IsDenied j (statement_of (tree_at ts g.predicate.node)) → x ≡ judged.No
+
+abbrev pub IsAllJudgedSo : Handler → List Tree → Goal → Judged → Type 0
+IsAllJudgedSo h ts g x = IsAllJudged h.judges ts g x

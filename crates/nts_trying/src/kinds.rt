@@ -23,7 +23,7 @@ use nts_terms::{ClauseKind, Cx, Goal, ParamEnv, PredicateKind, TraitRef};
 /// that has neither aliases nor positions of a canonical value, and each bound variable of which is of the
 /// list of its binder. In its environment, too, no bound variable names a binder that binds nothing.
 #[inline(never)]
-fn is_candidates_goal(cx: &Cx, goal: Goal) -> bool
+pub(crate) fn is_candidates_goal(cx: &Cx, goal: Goal) -> bool
     requires { HoldsGoal cx.now.nodes goal }
     ensures { IsTrue result ↔ IsAskedGoal cx.now.nodes goal }
 {

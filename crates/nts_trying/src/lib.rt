@@ -1,9 +1,10 @@
-//! Trying: whether a goal has candidates, how its binder is opened, what a candidate equates, records and
+//! Trying: what is answered at once, whether a goal has candidates, how its binder is opened, what a candidate equates, records and
 //! adds, the steps in which goals are asked, and the one response for those of several candidates.
 #![tactic(auto)]
 
 mod binder;
 mod candidate;
+mod fast;
 mod kinds;
 mod leaks;
 mod merged;
@@ -13,6 +14,7 @@ mod steps;
 
 pub use binder::enter_forall;
 pub use candidate::{Trial, equate, record_constraints};
+pub use fast::fast_answer;
 pub use kinds::{GoalRow, goal_kind, goal_row};
 pub use leaks::check_leaks;
 pub use merged::{keep_response, merge_responses};

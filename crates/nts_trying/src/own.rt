@@ -6,7 +6,7 @@ ghost use Rattle.nts_terms.specs.Handles.{HoldsGoal};
 ghost use Rattle.nts_terms.specs.Kinds.{StatementFits, ClauseFits, tree_of_statement, tree_of_clause};
 ghost use Rattle.nts_terms.specs.Rest.{Grows};
 ghost use Rattle.nts_trying.specs.declared.own.OwnGoal.TheVariants as owns;
-ghost use Rattle.nts_trying.specs.Owning.{tree_of_own, OwnFits, IsOwnGoal, SaysOwn, IsPlainGoal, IsPlainWay, misc_goal, IsJudgedBy, IsJudgedSo};
+ghost use Rattle.nts_trying.specs.Owning.{tree_of_own, OwnFits, IsOwnGoal, IsOwnStatement, SaysOwn, IsPlainGoal, IsPlainWay, misc_goal, IsJudgedBy, IsJudgedSo, IsAllJudged, IsAllJudgedSo};
 
 use crate::outlives::is_closed_env;
 use nts_certainty::{Certainty, GoalSource, RerunCondition};
@@ -51,8 +51,8 @@ fn own_of(statement: PredicateKind) -> Option<OwnGoal>
         tree_of_own ts o) }
     ensures fits { IfSome result (λ o. (ts : List Tree) → StatementFits ts statement →
         OwnFits ts o) }
-    ensures none { IsNone result → (ts : List Tree) (o : OwnGoal) → tree_of_statement ts statement ≡
-        tree_of_own ts o → ⊥ }
+    ensures none { IsNone result → (ts : List Tree) →
+        IsOwnStatement (tree_of_statement ts statement) → ⊥ }
 {
     match statement {
         PredicateKind::DynCompatible(id) => Some(OwnGoal::DynCompatible(id)),
@@ -65,8 +65,8 @@ fn own_of_clause(clause: ClauseKind) -> Option<OwnGoal>
     ensures found { IfSome result (λ o. (ts : List Tree) → tree_of_clause ts clause ≡ tree_of_own ts
         o) }
     ensures fits { IfSome result (λ o. (ts : List Tree) → ClauseFits ts clause → OwnFits ts o) }
-    ensures none { IsNone result → (ts : List Tree) (o : OwnGoal) → tree_of_clause ts clause ≡
-        tree_of_own ts o → ⊥ }
+    ensures none { IsNone result → (ts : List Tree) →
+        IsOwnStatement (tree_of_clause ts clause) → ⊥ }
 {
     match clause {
         ClauseKind::UnstableFeature(symbol) => Some(OwnGoal::UnstableFeature(symbol)),
@@ -99,7 +99,8 @@ pub fn own_goal_in(cx: &Cx, goal: Goal) -> Option<OwnGoal>
 }
 
 /// What is known of a goal of the engine's own kinds. The handler is asked of which traits objects can be made, what the
-/// environment allows, how a const is evaluated, and by which goals a term is well formed.
+/// environment allows, how a const is evaluated, and by which goals a term is well formed. Where it affirms or denies the goal, that
+/// is known.
 #[inline(never)]
 pub fn judge<H: GoalHandler>(
     cx: &mut Cx,
@@ -112,6 +113,8 @@ pub fn judge<H: GoalHandler>(
     requires own { IsOwnGoal cx.old.nodes goal own }
     requires ready { H.ready cx.old.nodes handler.now }
     ensures judged { IfOk result (IsJudgedSo (H.handler cx.new.nodes handler.now) cx.new.nodes
+        goal) }
+    ensures exact { IfOk result (IsAllJudgedSo (H.handler cx.new.nodes handler.now) cx.new.nodes
         goal) }
     ensures grows { Grows cx.old cx.new }
     ensures memory { IsOkUnless result Fault.Memory }
@@ -148,6 +151,8 @@ fn judge_const<H: GoalHandler>(
     requires ready { H.ready cx.old.nodes handler.now }
     ensures judged { IfOk result (IsJudgedSo (H.handler cx.new.nodes handler.now) cx.new.nodes
         goal) }
+    ensures exact { IfOk result (IsAllJudgedSo (H.handler cx.new.nodes handler.now) cx.new.nodes
+        goal) }
     ensures grows { Grows cx.old cx.new }
     ensures memory { IsOkUnless result Fault.Memory }
 {
@@ -168,22 +173,24 @@ fn judge_const<H: GoalHandler>(
     }
 }
 
-/// Whether a const has a type: the type of a value has to be that one, and an error has each. Of other consts, and where an alias
-/// stands in the goal, nothing is known.
+/// Whether a const has a type: an error has each, and the type of a value has to be that one. Of other consts, and of values where an
+/// alias stands in the goal, nothing is known.
 fn judge_type(cx: &mut Cx, goal: Goal, ct: Const, ty: Ty) -> Result<Judged, Fault>
     requires holds { HoldsGoal cx.old.nodes goal }
     requires plain { IsPlainGoal cx.old.nodes goal }
     requires own { IsOwnGoal cx.old.nodes goal (owns.ConstArgHasType ct ty) }
     ensures judged { IfOk result (λ x. (j : Judgements) → IsJudgedBy j cx.new.nodes goal x) }
+    ensures exact { IfOk result (λ x. (j : Judgements) → IsAllJudged j cx.new.nodes goal x) }
     ensures grows { Grows cx.old cx.new }
     ensures memory { IsOkUnless result Fault.Memory }
 {
     cx.terms_are_formed();
-    if cx.nodes.flags(goal.predicate.node).has_alias {
-        return Ok(Judged::Unknown);
-    }
     match ct.kind(cx) {
+        ConstKind::Error => Ok(Judged::Yes),
         ConstKind::Value { ty: of, bits: _ } => {
+            if cx.nodes.flags(goal.predicate.node).has_alias {
+                return Ok(Judged::Unknown);
+            }
             let mut equations = Vec::new(cx.alloc);
             equations.push(Equation {
                 kind: EquationKind::Related,
@@ -193,7 +200,6 @@ fn judge_type(cx: &mut Cx, goal: Goal, ct: Const, ty: Ty) -> Result<Judged, Faul
             let way = plain_way(cx.alloc, equations, Vec::new(cx.alloc))?;
             Ok(Judged::Way(way))
         }
-        ConstKind::Error => Ok(Judged::Yes),
         _ => Ok(Judged::Unknown),
     }
 }
@@ -210,6 +216,8 @@ fn judge_term<H: GoalHandler>(
     requires own { IsOwnGoal cx.old.nodes goal (owns.WellFormed term) }
     requires ready { H.ready cx.old.nodes handler.now }
     ensures judged { IfOk result (IsJudgedSo (H.handler cx.new.nodes handler.now) cx.new.nodes
+        goal) }
+    ensures exact { IfOk result (IsAllJudgedSo (H.handler cx.new.nodes handler.now) cx.new.nodes
         goal) }
     ensures grows { Grows cx.old cx.new }
     ensures memory { IsOkUnless result Fault.Memory }

@@ -26,7 +26,7 @@ use Rattle.nts_variance.specs.Equating.{GoalsRelate}
 use Rattle.nts_variance.specs.Rows.{IsListOf, row_pairs, argument_pairs, RowsRelate, AreRelatedTo}
 use Rattle.nts_variance.proofs.Calls.{pairs_joined, joined_at}
 use Rattle.nts_variance.proofs.Debts.{goals_to, AreGoals-append}
-use Rattle.nts_variance.proofs.Dues.{dues_later, dues_append, dues_to}
+use Rattle.nts_variance.proofs.Dues.{aliases_append, due_aliases, no_variables}
 use Rattle.nts_variance.proofs.Growing.{grown_refl, grown_trans, Knows-grown}
 use Rattle.nts_variance.proofs.Pairs.{Leaves-none, Leaves-then, Leaves-beside, Refuses-then, Refuses-beside}
 use Rattle.nts_variance.proofs.Pushing.{part_sorted}
@@ -80,7 +80,7 @@ module _ (declared : ℕ → List Variance) where
 
   pub rows_start : (ts : List Tree) (e : Entries) (a b : Tree) (gs : List Relating) → IsLawful ts e → gs ≡ [] → AreRelatedTo declared ts ts e e a b 0 gs
   rows_start ts e a b gs lawful none =
-      rw none (record { lawful = lawful; place = omega arith; known = tt; are_goals = tt; takes = takes_none (content_of ts e) (argument_pairs a b) lawful.sound; due = λ n. tt })
+      rw none (record { lawful = lawful; place = omega arith; known = tt; are_goals = tt; takes = takes_none (content_of ts e) (argument_pairs a b) lawful.sound; due = tt })
 
   -- the pair at the next place
   next_pair : (us : List Tree) (a b : Tree) (i : ℕ) (p : Relating) → i < row_length (children a) → i < row_length (children b) → p.variance ≡ variance.Invariant → tree_at us p.left ≡ row_at (children a) i → tree_at us p.right ≡ row_at (children b) i
@@ -107,7 +107,7 @@ module _ (declared : ℕ → List Variance) where
         known = rw all (pairs_joined ws m gs hs (goals_later gs ext t.later u.known) r.known);
         are_goals = goals_to (joined_at d gs hs is ext u.known all) (AreGoals-append (pairs_at us gs) (pairs_at ws hs) u.are_goals r.are_goals);
         takes = rw (joined_at d gs hs is ext u.known all) taken;
-        due = λ n. dues_to n m (joined_at d gs hs is ext u.known all) (dues_append n m (pairs_at us gs) (pairs_at ws hs) (dues_later n (pairs_at us gs) t.later t.continues (known_pairs us d gs u.known) (u.due n)) (r.due n (inl invariant)));
+        due = rw (joined_at d gs hs is ext u.known all) (aliases_append (pairs_at us gs) (pairs_at ws hs) u.due (due_aliases m (pairs_at ws hs) (r.due no_variables (omega arith) (inl invariant))));
       })
 
   -- no solution relates the pair at the next place

@@ -130,7 +130,7 @@ bound_along declared z u x ts us ws e f g v k t r gs h ext before lawful univers
       related = λ d s on ks answered. bound_related declared z u x ts us ws e f g v k t r gs h lawful.sound universe has set d s on ks (rw goals at answered);
       leaves = rw goals left;
       are_goals = rw goals h.are_goals;
-      due = λ d q. rw goals (dues_later d (pairs_at us gs) (grown_later set.later) set.continues all (h.due d q));
+      due = λ d le q. rw goals (dues_later d (pairs_at us gs) (grown_later set.later) set.continues all (h.due d le q));
       fewer = λ q. (let few = h.few q in let less = set.fewer in omega (arith, few, less));
       aliases = λ q a k. set.aliases (h.none q) a (Knows-grown a walks.later k) ∙ ap closed_aliases (h.trees a k);
     }

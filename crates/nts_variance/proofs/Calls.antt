@@ -274,7 +274,7 @@ module _ (declared : ℕ → List Variance) where
   call_start ts e p ps lawful pair is =
       rw is (record { start = lawful.sound; lawful = lawful; pairs = (pair, tt); met = tt; equal = tt; waits = tt; goals = tt; are_goals = tt; going = underway_start declared (content_of ts e) (pair_at ts p) lawful.sound })
 
-  pub call_end : (ts us : List Tree) (e f : Entries) (p : Relating) (ps ms es gs : List Relating) → IsCall declared ts us e f p ps ms es gs → ps ≡ [] → LeavesDue (content_of us f) (pair_at ts p) (pairs_at us gs) → IsLeft declared ts us e f p es gs
+  pub call_end : (ts us : List Tree) (e f : Entries) (p : Relating) (ps ms es gs : List Relating) → IsCall declared ts us e f p ps ms es gs → ps ≡ [] → LeavesDue (content_of ts e) (content_of us f) (pair_at ts p) (pairs_at us gs) → IsLeft declared ts us e f p es gs
   call_end ts us e f p ps ms es gs u none due =
       let last : IsUnderway declared (content_of ts e) (content_of us f) (pair_at ts p) [] (pairs_at us es) (pairs_at us gs) (pairs_at us ms) = rw none at u.going in
       record { pairs = u.equal; waits = u.waits; goals = u.goals; are_goals = u.are_goals; takes = underway_end declared (content_of ts e) (content_of us f) (pair_at ts p) (pairs_at us es) (pairs_at us gs) (pairs_at us ms) last; due = due }

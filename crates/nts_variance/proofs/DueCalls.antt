@@ -1,5 +1,5 @@
 -- The goals that a call of relating leaves are due, pair by pair.
-use Rattle.std.proofs.Common.{◌≡◌, ◌≢◌, ◌⊎◌, inl, inr, ⊎_elim, ℕ, Bool, true, false, List, [], ◌∷◌, ◌++◌, Some, refl, sym, ap, ◌∙◌, subst}
+use Rattle.std.proofs.Common.{◌≡◌, ◌≢◌, ◌⊎◌, inl, inr, ⊎_elim, ℕ, Bool, true, false, List, [], ◌∷◌, ◌++◌, Some, refl, sym, ap, ◌∙◌, subst, arith}
 use Rattle.std.specs.Prelude.{Option, None, Result, Ok, Err, IfOk, IfErr, OnOk, slice_get}
 use Rattle.std.specs.Result.{is_ok}
 use Rattle.std.specs.Option.{is_some}
@@ -10,9 +10,9 @@ use Rattle.nts_model.specs.declared.labels.VariableKind.TheVariants as kind
 use Rattle.nts_model.specs.declared.labels.Leaf.TheVariants as leaf
 use Rattle.nts_model.specs.declared.labels.Label.{Label}
 use Rattle.nts_model.specs.declared.labels.Label.TheVariants as label
-use Rattle.nts_model.specs.Terms.Trees.{Tree, node, children, kind_of, of_sort, label_of, infer_of, IsClosed, IsFormed}
+use Rattle.nts_model.specs.Terms.Trees.{Tree, node, children, kind_of, of_sort, label_of, any_label, is_alias, infer_of, IsClosed, IsFormed}
 use Rattle.nts_model.specs.Tables.Contents.{Content}
-use Rattle.nts_model.specs.Tables.Resolving.{Knows, AllUnset}
+use Rattle.nts_model.specs.Tables.Resolving.{Knows, AllUnset, IsInfer}
 use Rattle.nts_model.specs.Tables.Holding.{Continues}
 use Rattle.nts_model.specs.Derivations.Related.{IsAlias}
 use Rattle.nts_variance_model.specs.Variances.Forms.{over, variances_over, pairs_over}
@@ -32,7 +32,7 @@ use Rattle.nts_variance.specs.Steps.{stacked}
 use Rattle.nts_variance.specs.Walking.{IsTableGrown, sides}
 use Rattle.nts_variance.specs.Parts.{form_of_tree, parts_of, number_of_type}
 use Rattle.nts_variance.specs.Terms.{pair_at, pairs_at, IsGoal, ArePairs}
-use Rattle.nts_variance.specs.Due.{IsTypeVariable, IsValued, IsNoType, IsUnvalued, IsUnvaluedPair, AreUnvaluedPairs, AreGoalsDue, LeavesDue}
+use Rattle.nts_variance.specs.Due.{IsTypeVariable, IsValued, AreTwoUnset, IsNoType, IsUnvalued, IsUnvaluedPair, AreUnvaluedPairs, AreGoalsDue, LeavesDue}
 use Rattle.nts_store.specs.declared.fault.EvalError.{EvalError}
 use Rattle.nts_variance.specs.declared.splitting.Taken.{Taken}
 use Rattle.nts_variance.specs.declared.splitting.Taken.TheVariants as taken
@@ -40,7 +40,7 @@ use Rattle.nts_variance.specs.Varying.{pair_in}
 use Rattle.nts_variance.specs.Taking.{SaysAllOwed, IsTaken, number_at, ArePairsLeft, AreOfOneForm, ArePartsPaired, AreDueSince}
 use Rattle.nts_variance.proofs.Debts.{type_kind}
 use Rattle.nts_variance.proofs.Dues.{value_valued, dues_later, dues_append, dues_to, unset_number, fresh_pairs_append, parts_fresh}
-use Rattle.nts_variance.proofs.Looks.{labelled_node, looked_value, variable_closed}
+use Rattle.nts_variance.proofs.Looks.{labelled_node, looked_value, one_number, type_plain, variable_closed}
 use Rattle.nts_variance.proofs.Runs.{stacked-push}
 use Rattle.nts_variance.proofs.VaryTurns.{known_pairs, goals_later}
 use Rattle.nts_variance.proofs.Calls.{stacked_kept, pairs_joined, joined_at}
@@ -63,8 +63,8 @@ class_one ts e n r s x y lawful a b =
     sym a.state ∙ ap (λ (v : Variable). v.state) one ∙ b.state
 
 -- a pair is a goal for an alias, and for a type variable with a value
-pub alias_due : (d : Content) (p : Pair) → IsAlias p.left ⊎ IsAlias p.right → LeavesDue d p (p ∷ [])
-alias_due d p a = λ c f. (inl a, tt)
+pub alias_due : (c d : Content) (p : Pair) → IsAlias p.left ⊎ IsAlias p.right → LeavesDue c d p (p ∷ [])
+alias_due c d p a = λ b le f. (inl a, tt)
 
 unset_sides : (c : Content) (p : Pair) → p.variance ≢ variance.Invariant → kind_of p.left ≡ Some (of_sort sort.Ty) → IsUnvaluedPair c p → AllUnset c p.left × AllUnset c p.right
 unset_sides c p varies k f = ⊎_elim (λ i. absurd (varies i)) (λ x. ⊎_elim (λ n. absurd (n k)) (λ u. u) x) f
@@ -72,19 +72,20 @@ unset_sides c p varies k f = ⊎_elim (λ i. absurd (varies i)) (λ x. ⊎_elim 
 valued : (ts : List Tree) (e : Entries) (t : Tree) (n r : ℕ) (v : NodeId) → IsLawful ts e → Knows (content_of ts e) t → IsTypeVariable t n → HasClass e n r (Known v) → IsValued (content_of ts e) t
 valued ts e t n r v lawful knows is class = value_valued (content_of ts e) t (tree_at ts v) (looked_value ts e t (label.Leaf (leaf.Variable kind.Ty n)) n r v lawful knows (labelled_node t (label.Leaf (leaf.Variable kind.Ty n)) is) refl class).1
 
-pub owed_due : (ts : List Tree) (e : Entries) (p : Pair) → IsLawful ts e → Knows (content_of ts e) p.left → Knows (content_of ts e) p.right → kind_of p.left ≡ kind_of p.right → p.variance ≢ variance.Invariant → SaysAllOwed e p.left ⊎ SaysAllOwed e p.right → LeavesDue (content_of ts e) p (p ∷ [])
-owed_due ts e p lawful left right kinds varies (inl (inl a)) = alias_due (content_of ts e) p (inl a)
-owed_due ts e p lawful left right kinds varies (inr (inl a)) = alias_due (content_of ts e) p (inr a)
-owed_due ts e p lawful left right kinds varies (inl (inr v)) =
-    λ c f. (inr (varies, inr (inl (record { number = v.0; is = v.1; before = unset_number c p.left v.0 v.1 (unset_sides c p varies (type_kind p.left v.0 v.1) f).0; after = valued ts e p.left v.0 v.2 v.3 lawful left v.1 v.4 }))), tt)
-owed_due ts e p lawful left right kinds varies (inr (inr v)) =
-    λ c f. (inr (varies, inr (inr (record { number = v.0; is = v.1; before = unset_number c p.right v.0 v.1 (unset_sides c p varies (kinds ∙ type_kind p.right v.0 v.1) f).1; after = valued ts e p.right v.0 v.2 v.3 lawful right v.1 v.4 }))), tt)
+pub owed_due : (ts : List Tree) (e : Entries) (p : Pair) → IsLawful ts e → Knows (content_of ts e) p.left → Knows (content_of ts e) p.right → kind_of p.left ≡ kind_of p.right → p.variance ≢ variance.Invariant → (p.left ≡ p.right → (n : ℕ) → IsTypeVariable p.left n → ⊥) → SaysAllOwed e p.left ⊎ SaysAllOwed e p.right → LeavesDue (content_of ts e) (content_of ts e) p (p ∷ [])
+owed_due ts e p lawful left right kinds varies apart (inl (inl a)) = alias_due (content_of ts e) (content_of ts e) p (inl a)
+owed_due ts e p lawful left right kinds varies apart (inr (inl a)) = alias_due (content_of ts e) (content_of ts e) p (inr a)
+owed_due ts e p lawful left right kinds varies apart (inl (inr v)) =
+    λ c le f. (inr (varies, λ same. apart same v.0 v.1, inr (inl (record { number = v.0; is = v.1; before = unset_number c p.left v.0 v.1 (unset_sides c p varies (type_kind p.left v.0 v.1) f).0; after = valued ts e p.left v.0 v.2 v.3 lawful left v.1 v.4 }))), tt)
+owed_due ts e p lawful left right kinds varies apart (inr (inr v)) =
+    λ c le f. (inr (varies, λ same. apart same v.0 (subst (λ t. IsTypeVariable t v.0) (sym same) v.1), inr (inr (record { number = v.0; is = v.1; before = unset_number c p.right v.0 v.1 (unset_sides c p varies (kinds ∙ type_kind p.right v.0 v.1) f).1; after = valued ts e p.right v.0 v.2 v.3 lawful right v.1 v.4 }))), tt)
 
 -- .. and for two type variables
-pub variables_due : (d : Content) (p : Pair) (n m : ℕ) → p.variance ≢ variance.Invariant → IsTypeVariable p.left n → IsTypeVariable p.right m → LeavesDue d p (p ∷ [])
-variables_due d p n m varies a b = λ c f.
-    (let u = unset_sides c p varies (type_kind p.left n a) f in
-    (inr (varies, inl (record { first = n; second = m; left = a; right = b; either = inl (unset_number c p.left n a u.0, unset_number c p.right m b u.1) })), tt))
+pub variables_due : (c d : Content) (p : Pair) (n m : ℕ) → p.variance ≢ variance.Invariant → IsTypeVariable p.left n → IsTypeVariable p.right m → n ≢ m → LeavesDue c d p (p ∷ [])
+variables_due c d p n m varies x y apart = λ b le f.
+    (let u = unset_sides b p varies (type_kind p.left n x) f in
+    let two : AreTwoUnset b n m = record { first = unset_number b p.left n x u.0; second = unset_number b p.right m y u.1; apart = apart } in
+    (inr (varies, λ same. apart (one_number p.left n m x (subst (λ t. IsTypeVariable t m) (sym same) y)), inl (record { first = n; second = m; left = x; right = y; either = inl two })), tt))
 
 pub number_label : (l : Label) (n : ℕ) → number_of_type l ≡ Some n → l ≡ label.Leaf (leaf.Variable kind.Ty n)
 number_label (label.Leaf (leaf.Variable kind.Ty m)) n e = (let same : m ≡ n = cc in ap (λ x. label.Leaf (leaf.Variable kind.Ty x)) same)
@@ -114,17 +115,17 @@ owed_goal e p varies owed left right kinds =
     }
 
 -- .. and so the pair is taken
-pub owed_taken : (ts : List Tree) (e : Entries) (p : Relating) (r : Result Taken EvalError) → IsLawful ts e → Knows (content_of ts e) (tree_at ts p.left) → Knows (content_of ts e) (tree_at ts p.right) → p.variance ≢ variance.Invariant → SaysAllOwed e (tree_at ts p.left) ⊎ SaysAllOwed e (tree_at ts p.right)
+pub owed_taken : (ts : List Tree) (e : Entries) (p : Relating) (r : Result Taken EvalError) → IsLawful ts e → Knows (content_of ts e) (tree_at ts p.left) → Knows (content_of ts e) (tree_at ts p.right) → p.variance ≢ variance.Invariant → (tree_at ts p.left ≡ tree_at ts p.right → (n : ℕ) → IsTypeVariable (tree_at ts p.left) n → ⊥) → SaysAllOwed e (tree_at ts p.left) ⊎ SaysAllOwed e (tree_at ts p.right)
     → IfOk r (λ x. x ≡ taken.Owed) → OnOk r (IsClosed (tree_at ts p.left) × IsClosed (tree_at ts p.right)) → OnOk r (kind_of (tree_at ts p.left) ≡ kind_of (tree_at ts p.right)) → (declared : ℕ → List Variance) → IfOk r (IsTaken declared ts ts e e p)
-owed_taken ts e p (Err x) lawful left right varies owed is closed kinds declared = tt
-owed_taken ts e p (Ok x) lawful left right varies owed is closed kinds declared =
-    rw is (refl, refl, owed_goal e (pair_at ts p) varies owed closed.0 closed.1 kinds, owed_due ts e (pair_at ts p) lawful left right kinds varies owed)
+owed_taken ts e p (Err x) lawful left right varies apart owed is closed kinds declared = tt
+owed_taken ts e p (Ok x) lawful left right varies apart owed is closed kinds declared =
+    rw is (refl, refl, owed_goal e (pair_at ts p) varies owed closed.0 closed.1 kinds, owed_due ts e (pair_at ts p) lawful left right kinds varies apart owed)
 
 -- .. where a side is an alias
 pub alias_taken : (ts : List Tree) (e : Entries) (p : Relating) (r : Result Taken EvalError) → IsAlias (tree_at ts p.left) ⊎ IsAlias (tree_at ts p.right)
     → IfOk r (λ x. x ≡ taken.Owed) → OnOk r (IsClosed (tree_at ts p.left) × IsClosed (tree_at ts p.right)) → OnOk r (kind_of (tree_at ts p.left) ≡ kind_of (tree_at ts p.right)) → (declared : ℕ → List Variance) → IfOk r (IsTaken declared ts ts e e p)
 alias_taken ts e p (Err x) a is closed kinds declared = tt
-alias_taken ts e p (Ok x) a is closed kinds declared = rw is (refl, refl, record { left = closed.0; right = closed.1; kinds = kinds; rests = inl a }, alias_due (content_of ts e) (pair_at ts p) a)
+alias_taken ts e p (Ok x) a is closed kinds declared = rw is (refl, refl, record { left = closed.0; right = closed.1; kinds = kinds; rests = inl a }, alias_due (content_of ts e) (content_of ts e) (pair_at ts p) a)
 
 -- a side that is a type variable
 pub own_number : (t : Tree) (l : Label) (o : Option ℕ) (n : ℕ) → t ≡ node l (children t) → number_of_type l ≡ o → is_some o ≡ true → number_at t ≡ Some n → IsTypeVariable t n
@@ -143,6 +144,15 @@ pub side_known : (ts : List Tree) (c : Content) (z : Bool) (v : Variance) (r t :
 side_known ts c false v r t p is h k = rw is (h, k)
 side_known ts c true v r t p is h k = rw is (k, h)
 
+-- a variable and a term that is none are two
+pub side_apart : (ts : List Tree) (z : Bool) (v : Variance) (r t : NodeId) (p : Relating) → p ≡ pair_in z v r t → IsInfer (tree_at ts r) → (IsInfer (tree_at ts t) → ⊥) → tree_at ts p.left ≡ tree_at ts p.right → (n : ℕ) → IsTypeVariable (tree_at ts p.left) n → ⊥
+side_apart ts false v r t p is own no_variable = rw is (λ same n e. no_variable (subst IsInfer same own))
+side_apart ts true v r t p is own no_variable = rw is (λ same n e. no_variable (subst IsInfer (sym same) own))
+
+-- two sides that are one only where aliases are in them are no type variable if they are one
+pub plain_apart : (a b : Tree) → IsFormed a → (a ≡ b → any_label is_alias a ≡ true) → a ≡ b → (n : ℕ) → IsTypeVariable a n → ⊥
+plain_apart a b formed h same n e = (let none = type_plain a n e formed in let some = h same in cc)
+
 -- the term of a pair with a variable
 opposite_invariant : (v : Variance) → opposite v ≡ variance.Invariant → v ≡ variance.Invariant
 opposite_invariant variance.Invariant e = refl
@@ -158,7 +168,7 @@ module _ (b : Content) where
   pub due_front : (ts : List Tree) (e : Entries) (ps : List Relating) (q : Relating) (gs : List Relating) → AreDueSince b ts e (ps ++ q ∷ []) gs → IsUnvaluedPair b (pair_at ts q) × AreDueSince b ts e ps gs
   due_front ts e ps q gs h =
       let pairs : AreUnvaluedPairs b (pair_at ts q ∷ stacked (pair_at ts) ps) = rw (stacked-push (pair_at ts) ps q) at h.pairs in
-      (pairs.0, record { pairs = pairs.1; known = h.known; due = h.due })
+      (pairs.0, record { before = h.before; pairs = pairs.1; known = h.known; due = h.due })
 
   -- .. and leaves goals
   pub due_on : (ts us : List Tree) (e f : Entries) (ps gs hs is : List Relating) → ArePairsLeft ts (content_of ts e) ps → Extends ts us → IsTableGrown (content_of ts e) (content_of us f) → Continues (content_of ts e) (content_of us f) → AreDueSince b ts e ps gs
@@ -167,6 +177,7 @@ module _ (b : Content) where
       let c = content_of ts e in
       let d = content_of us f in
       record {
+        before = (let first = h.before in let more = later.more in omega (arith, first, more));
         pairs = rw (stacked_kept c ps ext left) h.pairs;
         known = rw all (pairs_joined us d gs hs (goals_later gs ext later h.known) known);
         due = dues_to b d (joined_at c gs hs is ext h.known all) (dues_append b d (pairs_at ts gs) (pairs_at us hs) (dues_later b (pairs_at ts gs) later on (known_pairs ts c gs h.known) h.due) due);
@@ -185,6 +196,7 @@ module _ (b : Content) where
       ⊎_elim (λ i. inl i) (λ x. inr (⊎_elim (λ n. inl (subst IsNoType left.with_parts.is n)) (λ u. inr (subst (AllUnset b) left.with_parts.is u.0, subst (AllUnset b) right.with_parts.is u.1)) x)) front.0 in
       let rest = front.1 in
       record {
+        before = h.before;
         pairs = rw pushed.pairs (fresh_pairs_append b (pairs_over p.variance (variances_over declared F (parts_of p.left)) (parts_of p.left) (parts_of p.right)) (stacked (pair_at ts) ps) (parts_fresh declared b p.variance F G (parts_of p.left) (parts_of p.right) own) rest.pairs);
         known = h.known;
         due = h.due;

@@ -1,5 +1,5 @@
--- Goals that relating may leave and goals that it may not, over tables of two type variables ?a and ?b.
-use Rattle.std.proofs.Common.{◌≡◌, ◌⊎◌, inl, inr, ℕ, zero, suc, List, [], ◌∷◌, Option, Some, None, ◌<◌, ◌==◌, if◌then◌else◌, Bool, true, false, refl, sym, ap, ◌∙◌, subst, arith}
+-- Goals that relating may leave and goals that it may not, over tables of the type variables ?a and ?b.
+use Rattle.std.proofs.Common.{◌≡◌, ◌⊎◌, inl, inr, ℕ, zero, suc, List, [], ◌∷◌, Option, Some, None, ◌<◌, ◌≤◌, ◌==◌, if◌then◌else◌, Bool, true, false, refl, sym, ap, ◌∙◌, subst, arith}
 use Rattle.nts_model.specs.declared.labels.Variance.{Variance}
 use Rattle.nts_model.specs.declared.labels.Variance.TheVariants as variance
 use Rattle.nts_model.specs.declared.labels.VariableKind.TheVariants as kind
@@ -15,8 +15,9 @@ use Rattle.nts_model.specs.Tables.Resolving.{rooted, deeply_resolved, rank_of_ki
 use Rattle.nts_model.specs.Tables.SubUnifying.{SharesSubRoot, itself, linked, turned, through}
 use Rattle.nts_model.specs.Derivations.Related.{constructor, arguments, alias, IsAlias}
 use Rattle.nts_model.proofs.Tables.AliasLabels.{not_alias}
+use Rattle.nts_model.proofs.Tables.Slots.{field_below}
 use Rattle.nts_variance_model.specs.Variances.Relations.{Relating as Pair}
-use Rattle.nts_variance.specs.Due.{IsValued, GotValue, ShareSubRoots, AreTypeVariables, IsGoalDue, AreGoalsDue, IsNoType, IsUnvalued, IsUnvaluedPair, AreUnvaluedPairs, LeavesDue}
+use Rattle.nts_variance.specs.Due.{IsValued, GotValue, ShareSubRoots, AreTwoUnset, WasMadeFor, AreTypeVariables, IsGoalDue, AreGoalsDue, AreGoalsOfAliases, IsNoType, IsUnvalued, IsUnvaluedPair, AreUnvaluedPairs, LeavesDue}
 
 -- List and another type without arguments, an alias, the region 'static, and the two type variables
 abbrev list_type : Tree
@@ -50,11 +51,21 @@ table_of s joined order = record {
 abbrev nothing_known : Content
 nothing_known = table_of unset None []
 
+abbrev list_for_a : Option ℕ → Content
+list_for_a joined = table_of (known list_type) joined (0 ∷ [])
+
 abbrev a_is_list : Content
-a_is_list = table_of (known list_type) None (0 ∷ [])
+a_is_list = list_for_a None
 
 abbrev a_is_list_joined : Content
-a_is_list_joined = table_of (known list_type) (Some 0) (0 ∷ [])
+a_is_list_joined = list_for_a (Some 0)
+
+-- the table of ?a alone, without a value; and the one in which ?b was made for it since
+abbrev only_a : Content
+only_a = record { slots = record { kind = kind.Ty; universe = 0; state = unset; sub_link = None } ∷ []; order = []; universe = 0; constraints = [] }
+
+abbrev b_made_for_a : Content
+b_made_for_a = table_of unset (Some 0) []
 
 -- two sides to be related by a variance; ?a below List, and ?a below ?b
 abbrev pair_of : Variance → Tree → Tree → Pair
@@ -90,22 +101,22 @@ unset_has_no_value n v =
     is_variable t e = cc e
 
 -- where ?a is List, only a type variable is one with ?b
-only_variables : (t : Tree) → label_of (deeply_resolved a_is_list t) ≡ label_of variable_b → variable_rank t ≡ 2
-only_variables (node (label.Leaf (leaf.Variable kind.Ty m)) ts) e = refl
-only_variables (node (label.Leaf (leaf.Variable kind.Region m)) ts) e = cc e
-only_variables (node (label.Leaf (leaf.Variable k m)) ts) e = chosen (m == 0) e
+only_variables : (o : Option ℕ) (t : Tree) → label_of (deeply_resolved (list_for_a o) t) ≡ label_of variable_b → variable_rank t ≡ 2
+only_variables o (node (label.Leaf (leaf.Variable kind.Ty m)) ts) e = refl
+only_variables o (node (label.Leaf (leaf.Variable kind.Region m)) ts) e = cc e
+only_variables o (node (label.Leaf (leaf.Variable k m)) ts) e = chosen (m == 0) e
   where
-    chosen : (z : Bool) → label_of (rooted a_is_list (if z then list_type else node (label.Leaf (leaf.Variable k m)) ts)) ≡ label_of variable_b → rank_of_kind k ≡ 2
+    chosen : (z : Bool) → label_of (rooted (list_for_a o) (if z then list_type else node (label.Leaf (leaf.Variable k m)) ts)) ≡ label_of variable_b → rank_of_kind k ≡ 2
     chosen true h = cc h
     chosen false h = cc h
-only_variables (node (label.Leaf f) ts) e = cc e
-only_variables (node l ts) e = cc e
-only_variables t e = cc e
+only_variables o (node (label.Leaf f) ts) e = cc e
+only_variables o (node l ts) e = cc e
+only_variables o t e = cc e
 
 -- where ?a is List, ?b has no value
-b_has_no_value : IsValued a_is_list variable_b → ⊥
-b_has_no_value v =
-    let two : variable_rank v.value ≡ 2 = only_variables v.value (ap label_of (sym v.one)) in
+b_has_no_value : (o : Option ℕ) → IsValued (list_for_a o) variable_b → ⊥
+b_has_no_value o v =
+    let two : variable_rank v.value ≡ 2 = only_variables o v.value (ap label_of (sym v.one)) in
     let below : variable_rank v.value < 2 = v.lower in
     omega (arith, two, below)
 
@@ -153,21 +164,63 @@ apart_share_none s = (let z : 0 ≡ 1 = reached s.of_first ∙ one_class s.share
     one_class (turned h) = sym (one_class h)
     one_class (through h k) = one_class h ∙ one_class k
 
+-- where nothing is known of ?a and ?b, they are two variables without values
+unset_are_two : AreTwoUnset nothing_known 0 1
+unset_are_two = record { first = refl; second = refl; apart = λ e. cc e }
+
+-- where ?a is List, the two are not two variables without values
+list_is_not_two : AreTwoUnset a_is_list 0 1 → ⊥
+list_is_not_two u = list_is_set 0 refl u.first
+
+-- a variable and itself are not two variables
+one_is_not_two : (c : Content) (n : ℕ) → AreTwoUnset c n n → ⊥
+one_is_not_two c n u = u.apart refl
+
+-- two variables without values are of two classes: no links lead from both to one variable
+two_have_two_classes : (c : Content) (n m r : ℕ) → AreTwoUnset c n m → Reaches c n r → Reaches c m r → ⊥
+two_have_two_classes c n m r u a b = u.apart (reached u.first a ∙ sym (reached u.second b))
+  where
+    reached : {x y : ℕ} → state_of c x ≡ Some unset → Reaches c x y → x ≡ y
+    reached e here = refl
+    reached {x} e (on {m = z} {r = w} h l) = (let same : x ≡ z = reached e h in let at : state_of c z ≡ Some unset = subst (λ k. state_of c k ≡ Some unset) same e in cc)
+
+-- ?b was made for ?a where ?a had no value, ?b is no variable of the table before, and they share their sub root afterwards
+b_was_made_for_a : WasMadeFor only_a b_made_for_a 0 1
+b_was_made_for_a = record { free = refl; new = omega arith; shared = record { first = 0; second = 1; of_first = here; of_second = here; shared = turned (linked refl) } }
+
+-- a variable of the table before was not made since
+b_was_there : (d : Content) → WasMadeFor nothing_known d 0 1 → ⊥
+b_was_there d w = (let new : 2 ≤ 1 = w.new in omega (arith, new))
+
+-- nor is a variable made for one that had a value
+list_needs_none : (d : Content) → WasMadeFor a_is_list d 0 2 → ⊥
+list_needs_none d w = list_is_set 0 refl w.free
+
 -- two type variables of which neither had a value may be left as a goal
 unset_variables : AreTypeVariables nothing_known nothing_known variable_a variable_b
-unset_variables = record { first = 0; second = 1; left = refl; right = refl; either = inl (refl, refl) }
+unset_variables = record { first = 0; second = 1; left = refl; right = refl; either = inl unset_are_two }
 
--- two type variables of which one was List may be left as a goal if they share their sub root
-joined_variables : AreTypeVariables a_is_list a_is_list_joined variable_a variable_b
-joined_variables = record { first = 0; second = 1; left = refl; right = refl; either = inr joined_share }
+-- a type variable and one that was made for it may be left as a goal
+made_variables : AreTypeVariables only_a b_made_for_a variable_a variable_b
+made_variables = record { first = 0; second = 1; left = refl; right = refl; either = inr (inl b_was_made_for_a) }
 
--- two type variables of which one was List may not be left as a goal if they share no sub root
-apart_variables : AreTypeVariables a_is_list a_is_list variable_a variable_b → ⊥
-apart_variables v = (let l = v.left in let r = v.right in let first : v.first ≡ 0 = cc in let second : v.second ≡ 1 = cc in neither v.first v.second first second v.either)
+-- two type variables of the table before, of which one was List, may not be left as a goal, whether they share their sub root or not
+old_variables : (d : Content) → AreTypeVariables a_is_list d variable_a variable_b → ⊥
+old_variables d v = (let l = v.left in let r = v.right in let first : v.first ≡ 0 = cc in let second : v.second ≡ 1 = cc in neither v.first v.second first second v.either)
   where
-    neither : (n m : ℕ) → n ≡ 0 → m ≡ 1 → ((state_of a_is_list n ≡ Some unset) × (state_of a_is_list m ≡ Some unset)) ⊎ ShareSubRoots a_is_list n m → ⊥
-    neither n m first second (inl u) = list_is_set n first u.0
-    neither n m first second (inr s) = apart_share_none (subst (λ k. ShareSubRoots a_is_list 0 k) second (subst (λ k. ShareSubRoots a_is_list k m) first s))
+    neither : (n m : ℕ) → n ≡ 0 → m ≡ 1 → AreTwoUnset a_is_list n m ⊎ (WasMadeFor a_is_list d n m ⊎ WasMadeFor a_is_list d m n) → ⊥
+    neither n m first second (inl u) = list_is_set n first u.first
+    neither n m first second (inr (inl w)) = (let new : 2 ≤ m = w.new in omega (arith, new, second))
+    neither n m first second (inr (inr w)) = (let new : 2 ≤ n = w.new in omega (arith, new, first))
+
+-- a type variable and itself may not be left as a goal, in any tables
+one_variable : (c d : Content) (n : ℕ) → AreTypeVariables c d (variable_tree kind.Ty n) (variable_tree kind.Ty n) → ⊥
+one_variable c d n v = (let l = v.left in let r = v.right in let same : v.first ≡ v.second = cc in neither v.first v.second same v.either)
+  where
+    neither : (x y : ℕ) → x ≡ y → AreTwoUnset c x y ⊎ (WasMadeFor c d x y ⊎ WasMadeFor c d y x) → ⊥
+    neither x y same (inl u) = u.apart same
+    neither x y same (inr (inl w)) = (let below = field_below (λ s. s.state) c x unset w.free in let new = w.new in omega (arith, same, below, new))
+    neither x y same (inr (inr w)) = (let below = field_below (λ s. s.state) c y unset w.free in let new = w.new in omega (arith, same, below, new))
 
 -- a constructor is no type variable
 constructor_is_no_variable : (c d : Content) (a : Tree) (i : ℕ) → AreTypeVariables c d a (constructor i empty) → ⊥
@@ -185,29 +238,36 @@ variable_is_no_alias n = not_alias (label.Leaf (leaf.Variable kind.Ty n)) empty 
 goal_put_off_is_not_due : (c : Content) → IsGoalDue c nothing_known a_below_list → ⊥
 goal_put_off_is_not_due c (inl (inl a)) = variable_is_no_alias 0 a
 goal_put_off_is_not_due c (inl (inr a)) = constructor_is_no_alias 1 a
-goal_put_off_is_not_due c (inr (varies, inl v)) = constructor_is_no_variable c nothing_known variable_a 1 v
-goal_put_off_is_not_due c (inr (varies, inr (inl g))) = still_unset c 0 g
-goal_put_off_is_not_due c (inr (varies, inr (inr g))) = constructor_got_no_value c nothing_known 1 g
+goal_put_off_is_not_due c (inr (varies, apart, inl v)) = constructor_is_no_variable c nothing_known variable_a 1 v
+goal_put_off_is_not_due c (inr (varies, apart, inr (inl g))) = still_unset c 0 g
+goal_put_off_is_not_due c (inr (varies, apart, inr (inr g))) = constructor_got_no_value c nothing_known 1 g
 
 -- ?a below List, where ?a got the value List in between: the goal is due
 goal_of_a_value_is_due : IsGoalDue nothing_known a_is_list a_below_list
-goal_of_a_value_is_due = inr (λ e. cc e, inr (inl a_got_value))
+goal_of_a_value_is_due = inr (λ e. cc e, λ e. cc e, inr (inl a_got_value))
 
 -- ?a below ?b, where neither has a value: the goal is due
 goal_of_variables_is_due : IsGoalDue nothing_known nothing_known a_below_b
-goal_of_variables_is_due = inr (λ e. cc e, inl unset_variables)
+goal_of_variables_is_due = inr (λ e. cc e, λ e. cc e, inl unset_variables)
 
--- ?a below ?b, where ?a was List before and shares its sub root with ?b since: the goal is due
-goal_of_a_sub_root_is_due : IsGoalDue a_is_list a_is_list_joined a_below_b
-goal_of_a_sub_root_is_due = inr (λ e. cc e, inl joined_variables)
+-- ?a below ?b, where ?a had no value before, and ?b was made for it since: the goal is due
+goal_of_a_made_variable_is_due : IsGoalDue only_a b_made_for_a a_below_b
+goal_of_a_made_variable_is_due = inr (λ e. cc e, λ e. cc e, inl made_variables)
 
--- ?a below ?b, where ?a was List before, and ?b has no value afterwards and shares no sub root with ?a: the goal is not due
-goal_of_a_known_variable_is_not_due : IsGoalDue a_is_list a_is_list a_below_b → ⊥
-goal_of_a_known_variable_is_not_due (inl (inl a)) = variable_is_no_alias 0 a
-goal_of_a_known_variable_is_not_due (inl (inr a)) = variable_is_no_alias 1 a
-goal_of_a_known_variable_is_not_due (inr (varies, inl v)) = apart_variables v
-goal_of_a_known_variable_is_not_due (inr (varies, inr (inl g))) = was_list_before a_is_list g
-goal_of_a_known_variable_is_not_due (inr (varies, inr (inr g))) = b_has_no_value g.after
+-- ?a below ?b, where ?a was List before, and ?b, a variable of the table before too, has no value afterwards: the goal is not due, even
+-- if the two share their sub root since
+goal_of_a_known_variable_is_not_due : (o : Option ℕ) → IsGoalDue a_is_list (list_for_a o) a_below_b → ⊥
+goal_of_a_known_variable_is_not_due o (inl (inl a)) = variable_is_no_alias 0 a
+goal_of_a_known_variable_is_not_due o (inl (inr a)) = variable_is_no_alias 1 a
+goal_of_a_known_variable_is_not_due o (inr (varies, apart, inl v)) = old_variables (list_for_a o) v
+goal_of_a_known_variable_is_not_due o (inr (varies, apart, inr (inl g))) = was_list_before (list_for_a o) g
+goal_of_a_known_variable_is_not_due o (inr (varies, apart, inr (inr g))) = b_has_no_value o g.after
+
+-- ?a below ?a: the goal is not due, in any tables
+goal_of_one_variable_is_not_due : (c d : Content) → IsGoalDue c d (pair_of variance.Covariant variable_a variable_a) → ⊥
+goal_of_one_variable_is_not_due c d (inl (inl a)) = variable_is_no_alias 0 a
+goal_of_one_variable_is_not_due c d (inl (inr a)) = variable_is_no_alias 0 a
+goal_of_one_variable_is_not_due c d (inr (varies, apart, x)) = apart refl
 
 -- ?a equal to ?b: the goal is not due, in any tables
 equal_variables_are_not_due : (c d : Content) → IsGoalDue c d (pair_of variance.Invariant variable_a variable_b) → ⊥
@@ -215,20 +275,29 @@ equal_variables_are_not_due c d (inl (inl a)) = variable_is_no_alias 0 a
 equal_variables_are_not_due c d (inl (inr a)) = variable_is_no_alias 1 a
 equal_variables_are_not_due c d (inr x) = x.0 refl
 
+item_is_alias : IsAlias item
+item_is_alias = record { head = alias_of.Ty 0; parts = empty; is = refl; closed = (tt, ((tt, tt), tt)) }
+
 -- an alias on a side: the goal is due, in any tables and by any variance
 goal_of_an_alias_is_due : (c d : Content) (v : Variance) (t : Tree) → IsGoalDue c d (pair_of v item t) × IsGoalDue c d (pair_of v t item)
 goal_of_an_alias_is_due c d v t = (inl (inl item_is_alias), inl (inr item_is_alias))
-  where
-    item_is_alias : IsAlias item
-    item_is_alias = record { head = alias_of.Ty 0; parts = empty; is = refl; closed = (tt, ((tt, tt), tt)) }
+
+-- two goals of aliases
+goals_of_aliases : (t : Tree) → AreGoalsOfAliases (pair_of variance.Invariant item t ∷ pair_of variance.Covariant t item ∷ [])
+goals_of_aliases t = (inl item_is_alias, (inr item_is_alias, tt))
+
+-- a goal of a variable and a type is none of aliases
+no_goal_of_aliases : AreGoalsOfAliases (a_below_list ∷ []) → ⊥
+no_goal_of_aliases (inl a, h) = variable_is_no_alias 0 a
+no_goal_of_aliases (inr a, h) = constructor_is_no_alias 1 a
 
 -- a type of another constructor below List: the goal is not due, in any tables
 goal_of_types_is_not_due : (c d : Content) → IsGoalDue c d (pair_of variance.Covariant other_type list_type) → ⊥
 goal_of_types_is_not_due c d (inl (inl a)) = constructor_is_no_alias 2 a
 goal_of_types_is_not_due c d (inl (inr a)) = constructor_is_no_alias 1 a
-goal_of_types_is_not_due c d (inr (varies, inl v)) = constructor_is_no_variable c d other_type 1 v
-goal_of_types_is_not_due c d (inr (varies, inr (inl g))) = constructor_got_no_value c d 2 g
-goal_of_types_is_not_due c d (inr (varies, inr (inr g))) = constructor_got_no_value c d 1 g
+goal_of_types_is_not_due c d (inr (varies, apart, inl v)) = constructor_is_no_variable c d other_type 1 v
+goal_of_types_is_not_due c d (inr (varies, apart, inr (inl g))) = constructor_got_no_value c d 2 g
+goal_of_types_is_not_due c d (inr (varies, apart, inr (inr g))) = constructor_got_no_value c d 1 g
 
 -- two goals are due if both are
 both_are_due : AreGoalsDue nothing_known a_is_list (pair_of variance.Invariant item list_type ∷ a_below_list ∷ [])
@@ -271,11 +340,11 @@ pair_is_not_unvalued (inr (inl t)) = variable_is_a_type 0 t
 pair_is_not_unvalued (inr (inr u)) = (let e = u.0 in cc e)
 
 -- ?a below List may leave itself as a goal where ?a is List afterwards
-value_leaves_due : LeavesDue a_is_list a_below_list (a_below_list ∷ [])
-value_leaves_due c (inl e) = cc e
-value_leaves_due c (inr (inl t)) = absurd (variable_is_a_type 0 t)
-value_leaves_due c (inr (inr u)) = (inr (λ e. cc e, inr (inl (record { number = 0; is = refl; before = u.0; after = list_is_its_value }))), tt)
+value_leaves_due : (c : Content) → LeavesDue c a_is_list a_below_list (a_below_list ∷ [])
+value_leaves_due c b le (inl e) = cc e
+value_leaves_due c b le (inr (inl t)) = absurd (variable_is_a_type 0 t)
+value_leaves_due c b le (inr (inr u)) = (inr (λ e. cc e, λ e. cc e, inr (inl (record { number = 0; is = refl; before = u.0; after = list_is_its_value }))), tt)
 
 -- ?a below List may not leave itself as a goal where nothing is known of ?a afterwards
-put_off_leaves_not_due : LeavesDue nothing_known a_below_list (a_below_list ∷ []) → ⊥
-put_off_leaves_not_due h = (let due = h nothing_known pairs_are_unvalued.0 in goal_put_off_is_not_due nothing_known due.0)
+put_off_leaves_not_due : LeavesDue nothing_known nothing_known a_below_list (a_below_list ∷ []) → ⊥
+put_off_leaves_not_due h = (let due = h nothing_known (omega arith) pairs_are_unvalued.0 in goal_put_off_is_not_due nothing_known due.0)

@@ -1,5 +1,5 @@
 -- Goals that are due: what stays so in later tables, and what parts and pairs can ask for.
-use Rattle.std.proofs.Common.{◌≡◌, ◌≢◌, ◌⊎◌, inl, inr, ⊎_elim, ℕ, Bool, true, false, List, [], ◌∷◌, ◌++◌, Some, refl, ap, ◌∙◌, subst}
+use Rattle.std.proofs.Common.{◌≡◌, ◌≢◌, ◌⊎◌, inl, inr, ⊎_elim, ℕ, Bool, true, false, List, [], ◌∷◌, ◌++◌, Some, refl, sym, ap, ◌∙◌, subst}
 use Rattle.nts_model.specs.declared.labels.Variance.{Variance}
 use Rattle.nts_model.specs.declared.labels.Variance.TheVariants as variance
 use Rattle.nts_model.specs.declared.labels.AliasHead.TheVariants as alias_of
@@ -10,7 +10,6 @@ use Rattle.nts_model.specs.Terms.Trees.{Tree, empty, more, node, infer_of}
 use Rattle.nts_model.specs.Tables.Contents.{Content, unset, state_of}
 use Rattle.nts_model.specs.Tables.Resolving.{rooted, Knows, Reaches, here, on, UnsetAt, AllUnset}
 use Rattle.nts_model.specs.Tables.Holding.{Continues}
-use Rattle.nts_model.specs.Tables.SubUnifying.{turned}
 use Rattle.nts_model.specs.Derivations.Related.{times, first_variance, rest_variances}
 use Rattle.nts_model.proofs.Tables.Held.{AreOne-continues}
 use Rattle.nts_model.proofs.Tables.Slots.{Knows-kept}
@@ -22,7 +21,7 @@ use Rattle.nts_variance.specs.SubRoots.{was}
 use Rattle.nts_variance.specs.Steps.{WalkStep, enter, build, owe, entering}
 use Rattle.nts_variance.specs.Walking.{IsTableGrown, KnowsSteps, sides}
 use Rattle.nts_variance.specs.Debts.{AreUnvaluedSteps}
-use Rattle.nts_variance.specs.Due.{IsTypeVariable, IsValued, GotValue, ShareSubRoots, AreTypeVariables, IsGoalDue, AreGoalsDue, IsNoType, IsUnvalued, AreUnvaluedPairs}
+use Rattle.nts_variance.specs.Due.{IsTypeVariable, IsValued, GotValue, ShareSubRoots, WasMadeFor, AreTypeVariables, IsGoalDue, AreGoalsDue, AreGoalsOfAliases, IsNoType, IsUnvalued, AreUnvaluedPairs}
 use Rattle.nts_variance.proofs.Leaves.{kept_kinds}
 use Rattle.nts_variance.proofs.Debts.{type_kind, opposite_varies}
 
@@ -43,13 +42,22 @@ share_later n m l s =
     let subs = l.subs in
     record { first = s.first; second = s.second; of_first = reaches_later l s.of_first; of_second = reaches_later l s.of_second; shared = subs.all s.first s.second (was s.shared) }
 
+made_later : {b c d : Content} (n m : ℕ) → IsTableGrown c d → WasMadeFor b c n m → WasMadeFor b d n m
+made_later n m l w = record { free = w.free; new = w.new; shared = share_later n m l w.shared }
+
 variables_later : {b c d : Content} (x y : Tree) → IsTableGrown c d → AreTypeVariables b c x y → AreTypeVariables b d x y
 variables_later x y l v =
-    record { first = v.first; second = v.second; left = v.left; right = v.right; either = ⊎_elim (λ u. inl u) (λ s. inr (share_later v.first v.second l s)) v.either }
+    record {
+      first = v.first;
+      second = v.second;
+      left = v.left;
+      right = v.right;
+      either = ⊎_elim (λ u. inl u) (λ m. inr (⊎_elim (λ w. inl (made_later v.first v.second l w)) (λ w. inr (made_later v.second v.first l w)) m)) v.either;
+    }
 
 due_later : {b c d : Content} (p : Pair) → IsTableGrown c d → Continues c d → Knows c p.left → Knows c p.right → IsGoalDue b c p → IsGoalDue b d p
 due_later p l k left right (inl a) = inl a
-due_later p l k left right (inr h) = inr (h.0, ⊎_elim (λ v. inl (variables_later p.left p.right l v)) (λ g. inr (⊎_elim (λ x. inl (got_later p.left k left x)) (λ y. inr (got_later p.right k right y)) g)) h.1)
+due_later p l k left right (inr h) = inr (h.0, h.1, ⊎_elim (λ v. inl (variables_later p.left p.right l v)) (λ g. inr (⊎_elim (λ x. inl (got_later p.left k left x)) (λ y. inr (got_later p.right k right y)) g)) h.2)
 
 pub dues_later : (b : Content) {c d : Content} (gs : List Pair) → IsTableGrown c d → Continues c d → ArePairsKnown c gs → AreGoalsDue b c gs → AreGoalsDue b d gs
 dues_later b [] l k known h = tt
@@ -62,6 +70,30 @@ dues_append b d (p ∷ ps) qs h k = (h.0, dues_append b d ps qs h.1 k)
 pub dues_to : (b d : Content) {ps qs : List Pair} → ps ≡ qs → AreGoalsDue b d qs → AreGoalsDue b d ps
 dues_to b d e h = rw e h
 
+-- goals of aliases are due, in any tables
+pub aliases_due : (b d : Content) (gs : List Pair) → AreGoalsOfAliases gs → AreGoalsDue b d gs
+aliases_due b d [] h = tt
+aliases_due b d (p ∷ gs) h = (inl h.0, aliases_due b d gs h.1)
+
+pub aliases_append : (ps qs : List Pair) → AreGoalsOfAliases ps → AreGoalsOfAliases qs → AreGoalsOfAliases (ps ++ qs)
+aliases_append [] qs h k = k
+aliases_append (p ∷ ps) qs h k = (h.0, aliases_append ps qs h.1 k)
+
+-- .. and goals that are due since a table without variables are goals of aliases
+abbrev pub no_variables : Content
+no_variables = record { slots = []; order = []; universe = 0; constraints = [] }
+
+never_variables : (d : Content) (a b : Tree) → AreTypeVariables no_variables d a b → ⊥
+never_variables d a b v = ⊎_elim (λ u. (let e = u.first in cc e)) (λ m. ⊎_elim (λ w. (let e = w.free in cc e)) (λ w. (let e = w.free in cc e)) m) v.either
+
+never_got : (d : Content) (t : Tree) → GotValue no_variables d t → ⊥
+never_got d t g = (let e = g.before in cc e)
+
+pub due_aliases : (d : Content) (gs : List Pair) → AreGoalsDue no_variables d gs → AreGoalsOfAliases gs
+due_aliases d [] h = tt
+due_aliases d (p ∷ gs) h =
+    (⊎_elim (λ a. a) (λ x. absurd (⊎_elim (λ v. never_variables d p.left p.right v) (λ g. ⊎_elim (λ l. never_got d p.left l) (λ r. never_got d p.right r) g) x.2)) h.0, due_aliases d gs h.1)
+
 -- in either order
 pub variables_turned : {b d : Content} (x y : Tree) → AreTypeVariables b d x y → AreTypeVariables b d y x
 variables_turned x y v =
@@ -70,13 +102,13 @@ variables_turned x y v =
       second = v.first;
       left = v.right;
       right = v.left;
-      either = ⊎_elim (λ u. inl (u.1, u.0)) (λ s. inr (record { first = s.second; second = s.first; of_first = s.of_second; of_second = s.of_first; shared = turned s.shared })) v.either;
+      either = ⊎_elim (λ u. inl (record { first = u.second; second = u.first; apart = λ e. u.apart (sym e) })) (λ m. inr (⊎_elim (λ w. inr w) (λ w. inl w) m)) v.either;
     }
 
 pub due_sides : (b d : Content) (z : Bool) (v : Variance) (r t : Tree) → IsGoalDue b d (record { variance = v; left = r; right = t }) → IsGoalDue b d (sides z v r t)
 due_sides b d false v r t h = h
 due_sides b d true v r t (inl a) = inl (⊎_elim (λ x. inr x) (λ y. inl y) a)
-due_sides b d true v r t (inr h) = inr (opposite_varies v h.0, ⊎_elim (λ w. inl (variables_turned r t w)) (λ g. inr (⊎_elim (λ x. inr x) (λ y. inl y) g)) h.1)
+due_sides b d true v r t (inr h) = inr (opposite_varies v h.0, λ e. h.1 (sym e), ⊎_elim (λ w. inl (variables_turned r t w)) (λ g. inr (⊎_elim (λ x. inr x) (λ y. inl y) g)) h.2)
 
 -- a type variable that is of a part
 pub unset_number : (c : Content) (t : Tree) (n : ℕ) → IsTypeVariable t n → AllUnset c t → state_of c n ≡ Some unset

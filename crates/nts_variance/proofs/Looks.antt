@@ -1,5 +1,5 @@
 -- What a look at a part finds, by terms of a store.
-use Rattle.std.proofs.Common.{◌≡◌, ◌≢◌, ◌⊎◌, inl, inr, ⊎_elim, ℕ, ◌<◌, ◌++◌, Bool, true, false, cond, Option, Some, None, List, [], ◌∷◌, length, refl, sym, ap, ◌∙◌, subst, arith}
+use Rattle.std.proofs.Common.{◌≡◌, ◌≢◌, ◌⊎◌, inl, inr, ⊎_elim, ℕ, ◌<◌, ◌≤◌, ◌++◌, Bool, true, false, cond, Option, Some, None, List, [], ◌∷◌, length, refl, sym, ap, ◌∙◌, subst, arith}
 use Rattle.std.specs.Prelude.{◌||◌, ◌&&◌, not}
 use Rattle.std.proofs.lemmas.List.{append-nil}
 use Rattle.std.proofs.lemmas.Bool.{or_parts}
@@ -20,7 +20,7 @@ use Rattle.nts_model.specs.declared.labels.ListHead.TheVariants as list
 use Rattle.nts_model.specs.declared.labels.Label.{Label}
 use Rattle.nts_model.specs.declared.labels.Label.TheVariants as label
 use Rattle.nts_model.specs.Terms.Trees.{Tree, empty, more, node, kind_of, kind_of_label, of_sort, sort_of_variable, label_of, children, any_label, is_alias, is_infer, in_order, shape, Meets, IsClosed, IsFormed, infer_of, variable_tree}
-use Rattle.nts_model.specs.Tables.Contents.{Content, Slot, unset, kind_at, with_slot, with_constraint}
+use Rattle.nts_model.specs.Tables.Contents.{Content, Slot, unset, kind_at, state_of, with_slot, with_constraint}
 use Rattle.nts_model.specs.Tables.Resolving.{IsInfer, Knows, KnowsVariable, Reaches, here, resolved}
 use Rattle.nts_model.specs.Tables.SubUnifying.{linked, turned}
 use Rattle.nts_model.specs.Terms.Regions.{IsRegion}
@@ -56,13 +56,13 @@ use Rattle.nts_variance.specs.Walking.{IsErased, IsMade}
 use Rattle.nts_variance.specs.Counting.{IsCountedFor}
 use Rattle.nts_variance.specs.Parts.{has_parts, form_of_tree, parts_of, none_escapes, closed_alias, const_variable, number_of_type, StandsAlone}
 use Rattle.nts_variance.specs.Terms.{pairs_at, AreGoals, ArePairs, IsPart}
-use Rattle.nts_variance.specs.Due.{IsTypeVariable, ShareSubRoots, AreTypeVariables, AreGoalsDue}
+use Rattle.nts_variance.specs.Due.{IsTypeVariable, IsUnvalued, ShareSubRoots, WasMadeFor, AreTypeVariables, AreGoalsDue}
 use Rattle.nts_variance.specs.Varying.{pair_in, owed_pairs, constraint_of_pair, with_owed, fresh, IsMadeAt, IsTypeValue, IsMadeAgain, IsOwn, IsKept}
 use Rattle.nts_variance.proofs.Pushing.{pair_at-in}
 use Rattle.nts_variance.proofs.PartLemmas.{IsOverParts, over_parts}
 use Rattle.nts_relating.proofs.Ranks.{kind_of-like}
-use Rattle.nts_variance.proofs.Debts.{closed_patched, like_itself, like_closed, goal_sides, type_kind}
-use Rattle.nts_variance.proofs.Dues.{reaches_later, due_sides, variables_turned}
+use Rattle.nts_variance.proofs.Debts.{closed_patched, like_itself, like_closed, goal_sides, ranked_type, type_kind, type_rank}
+use Rattle.nts_variance.proofs.Dues.{reaches_later, due_sides, fresh_number, variables_turned}
 use Rattle.nts_variance.proofs.Growing.{grown_slot}
 use Rattle.nts_variance.proofs.CountedPieces.{counted_fresh, counted_region, counted_recorded, counted_piece}
 use Rattle.nts_variance.proofs.Leaves.{owed_by, owed_goals, made_plain, counted_plain, made_fresh, made_region, made_region_quietly}
@@ -159,16 +159,22 @@ fresh_joins c s k t free named n m p q =
     subst (λ y. ShareSubRoots (with_slot c s) y m) own (subst (λ y. ShareSubRoots (with_slot c s) l.number y) new (share_fresh c s t free l))
 
 -- .. and what it owes is due
-fresh_due : (b c : Content) (s : Slot) (q z : Bool) (v : Variance) (k : VariableKind) (t : Tree) → s.state ≡ unset → IsInfer t ⊎ IsAlias t → (IsInfer t → v ≢ variance.Invariant) → (IsInfer t → (k ≡ kind.Ty) × IsLinkedTo c t s.sub_link)
+fresh_due : (b c : Content) (s : Slot) (q z : Bool) (v : Variance) (k : VariableKind) (t : Tree) → s.state ≡ unset → IsInfer t ⊎ IsAlias t → (IsInfer t → v ≢ variance.Invariant) → (IsInfer t → (k ≡ kind.Ty) × IsLinkedTo c t s.sub_link) → length b.slots ≤ length c.slots → (q ≡ true) ⊎ IsUnvalued b v t
     → AreGoalsDue b (with_slot c s) (owed_goals q z v (variable_tree k (length c.slots)) t)
-fresh_due b c s true z v k t free either varies named = tt
-fresh_due b c s false z v k t free (inr a) varies named = (due_sides b (with_slot c s) z v (variable_tree k (length c.slots)) t (inl (inr a)), tt)
-fresh_due b c s false z v k t free (inl i) varies named =
+fresh_due b c s true z v k t free either varies named before part = tt
+fresh_due b c s false z v k t free (inr a) varies named before part = (due_sides b (with_slot c s) z v (variable_tree k (length c.slots)) t (inl (inr a)), tt)
+fresh_due b c s false z v k t free (inl i) varies named before part =
     let own = named i in
     let l = own.1 in
     let new : IsTypeVariable (variable_tree k (length c.slots)) (length c.slots) = ap (λ j. Some (label.Leaf (leaf.Variable j (length c.slots)))) own.0 in
-    let two : AreTypeVariables b (with_slot c s) t (variable_tree k (length c.slots)) = record { first = l.number; second = length c.slots; left = l.is; right = new; either = inr (share_fresh c s t free l) } in
-    (due_sides b (with_slot c s) z v (variable_tree k (length c.slots)) t (inr (varies i, inl (variables_turned t (variable_tree k (length c.slots)) two))), tt)
+    let loud : IsUnvalued b v t = ⊎_elim (λ (no : false ≡ true). cc) (λ f. f) part in
+    let unset_before : state_of b l.number ≡ Some unset = fresh_number b v t l.number l.is (varies i) loud in
+    let made : WasMadeFor b (with_slot c s) l.number (length c.slots) = record { free = unset_before; new = before; shared = share_fresh c s t free l } in
+    let below = field_below (λ x. x.state) b l.number unset unset_before in
+    let apart : variable_tree k (length c.slots) ≢ t = λ same.
+    (let one = one_number t l.number (length c.slots) l.is (subst (λ y. IsTypeVariable y (length c.slots)) same new) in omega (arith, one, below, before)) in
+    let two : AreTypeVariables b (with_slot c s) t (variable_tree k (length c.slots)) = record { first = l.number; second = length c.slots; left = l.is; right = new; either = inr (inl made) } in
+    (due_sides b (with_slot c s) z v (variable_tree k (length c.slots)) t (inr (varies i, apart, inl (variables_turned t (variable_tree k (length c.slots)) two))), tt)
 
 -- what a fresh variable for a type variable or a closed alias owes is a goal
 fresh_owes : (q z : Bool) (v : Variance) (k : VariableKind) (n : ℕ) (t : Tree) → IsClosed t → kind_of t ≡ Some (of_sort (sort_of_variable k)) → IsInfer t ⊎ IsAlias t → (IsInfer t → (v ≢ variance.Invariant) × (k ≡ kind.Ty)) → AreGoals (owed_goals q z v (variable_tree k n) t)
@@ -184,6 +190,14 @@ fresh_owes false z v k n t closed sorted either varies = (
   }),
   tt,
 )
+
+-- .. which is a type variable for a type variable, or a new one for an alias
+fresh_like : (c : Content) (t : Tree) (k : VariableKind) (o : Option ℕ) (n m : ℕ) → IsInfer t ⊎ IsAlias t → (IsInfer t → IsLinkedTo c t o) → n ≤ length c.slots → IsTypeVariable (variable_tree k (length c.slots)) m → ((j : ℕ) × IsTypeVariable t j) ⊎ (IsAlias t × (n ≤ m))
+fresh_like c t k o n m (inl i) linked_to low p = (let l = linked_to i in inl (l.number, l.is))
+fresh_like c t k o n m (inr a) linked_to low p =
+    let labels : Some (label.Leaf (leaf.Variable k (length c.slots))) ≡ Some (label.Leaf (leaf.Variable kind.Ty m)) = p in
+    let new : length c.slots ≡ m = cc in
+    inr (a, omega (arith, low, new))
 
 -- a fresh variable for a type variable or a closed alias
 pub fresh_at : (declared : ℕ → List Variance) (z : Bool) (u x : ℕ) (ts us : List Tree) (e f : Entries) (s : Spot) (r : NodeId) (gs hs : List Relating) (k : VariableKind) (o : Option ℕ) → x < length e.variables → (k ≡ kind.Ty) ⊎ (k ≡ kind.Const) → IsLawful ts e → IsLawful us f → Extends ts us → IsPart ts (content_of ts e) s
@@ -207,11 +221,11 @@ fresh_at declared z u x ts us e f s r gs hs k o below sort lawful later ext part
       known = pairs_known us (content_of us f) z s.is_quiet s.variance r s.term within (IsIn-extended ext s.term part.within) made.goals;
       made = made;
       kept = rw content (kept_slot c slot x (omega (arith, below, length-slots ts e.variables)));
-      like = rw tree (like_closed t (variable_tree k (length c.slots)) (tt, tt) (sym sorted));
+      like = λ n low. rw tree (like_closed n s.variance t (variable_tree k (length c.slots)) (tt, tt) (sym sorted) (λ own m p. fresh_like c t k o n m either linked_to low p));
       are_goals = rw new (fresh_owes s.is_quiet z s.variance k (length c.slots) t closed sorted either varies);
       counted = rw (content, tree) (counted_fresh c slot s.variance s.is_quiet t refl lawful.sound sort either (λ i. (varies i).0));
       joins = λ n m apart. rw (content, tree) (fresh_joins c slot k t refl (λ i. ((varies i).1, linked_to i)) n m);
-      due = λ b h. rw (content, new) (fresh_due b c slot s.is_quiet z s.variance k t refl either (λ i. (varies i).0) (λ i. ((varies i).1, linked_to i)));
+      due = λ b before h. rw (content, new) (fresh_due b c slot s.is_quiet z s.variance k t refl either (λ i. (varies i).0) (λ i. ((varies i).1, linked_to i)) before h);
     }
 
 -- a fresh region
@@ -292,11 +306,11 @@ region_at declared z u x ts us e f s r gs below lawful later ext free within is 
       known = tt;
       made = rw q (region_made declared z u ts us e s.is_quiet s.variance r s.term lawful ext free.within free.knows free.free is);
       kept = rw q (region_kept u x ts us e s.is_quiet z s.variance r s.term below lawful ext);
-      like = rw is (like_closed (tree_at ts s.term) (variable_tree kind.Region (length e.variables)) (tt, tt) (sym free.sort));
+      like = λ n low. rw is (like_closed n s.variance (tree_at ts s.term) (variable_tree kind.Region (length e.variables)) (tt, tt) (sym free.sort) (λ own m p. cc p));
       are_goals = tt;
       counted = rw q (region_counted z u ts us e s.is_quiet s.variance r s.term lawful ext free.free is);
       joins = λ n m apart p x. (let labels : Some (label.Leaf (leaf.Variable kind.Region (length e.variables))) ≡ Some (label.Leaf (leaf.Variable kind.Ty m)) = ap label_of (sym is) ∙ x in cc);
-      due = λ b h. tt;
+      due = λ b before h. tt;
     }
 
 -- a part that stands for itself
@@ -315,11 +329,11 @@ itself_at declared z u x ts e s gs l lawful part formed is plain no_type no_cons
       known = tt;
       made = subst (λ y. IsMade declared z u c c s.variance s.is_quiet y y []) (sym is) whole;
       kept = record { state = refl; universe = refl };
-      like = like_itself t;
+      like = λ n low. like_itself n s.variance t;
       are_goals = tt;
       counted = subst (λ y. IsCountedFor c c s.variance s.is_quiet y y) (sym is) count;
       joins = λ n m apart p x. (let labels : Some l ≡ Some (label.Leaf (leaf.Variable kind.Ty n)) = ap label_of (sym is) ∙ p in absurd (no_type n cc));
-      due = λ b h. tt;
+      due = λ b before h. tt;
     }
   where
     fixed_free : (r : FreeRegion) → varies_region r ≡ false → (is_free_region (label.Leaf (leaf.Region r)) ≡ false) ⊎ ((q : FreeRegion) × (label.Leaf (leaf.Region r) ≡ label.Leaf (leaf.Region q)) × IsErased q)
@@ -348,6 +362,12 @@ alone_part t l f v is flags h = ⊎_elim
     (λ either. inl (⊎_elim (λ e. inl e) (λ e. inr (ap kind_of is ∙ ap Some (const_kind l e))) either))
     (λ p. inr (record { no_infer = ap (λ x. x.has_infer) (sym flags) ∙ p.0; no_region = ap (λ x. x.has_free_region) (sym flags) ∙ p.1 })) h
 
+-- a type variable has no aliases
+pub type_plain : (t : Tree) (n : ℕ) → IsTypeVariable t n → IsFormed t → any_label is_alias t ≡ false
+type_plain t n e formed =
+    let is = labelled_node t (label.Leaf (leaf.Variable kind.Ty n)) e in
+    ap (any_label is_alias) (is ∙ ap (node (label.Leaf (leaf.Variable kind.Ty n))) (no_children (children t) (node_meets t _ is formed)))
+
 -- a type variable that varies does not stand as it is
 some_infer : (t : Tree) (n : ℕ) → IsTypeVariable t n → any_label is_infer t ≡ false → ⊥
 some_infer empty n e = cc
@@ -372,11 +392,16 @@ value_at declared z u x b ts us e f s r gs below no_region lawful later part for
       known = tt;
       made = made_piece declared z u (content_of ts e) (content_of us f) x b s.variance s.is_quiet (tree_at ts s.term) (tree_at us r) part.sort lawful.sound later.sound later.proper.solvable part.knows formed part.kind plain values alone gen gen.clean;
       kept = (let keeps = gen.keeps in record { state = keeps.states x (omega (arith, below, length-slots ts e.variables)) no_region; universe = gen.own });
-      like = record { closed = closed_patched (tree_at ts s.term) (tree_at us r) gen.patched; kind = kind_of-like (tree_at us r) (tree_at ts s.term) gen.like };
+      like = λ n low.
+          record {
+            closed = closed_patched (tree_at ts s.term) (tree_at us r) gen.patched;
+            kind = kind_of-like (tree_at us r) (tree_at ts s.term) gen.like;
+            variable = λ own m p. inl (ranked_type (tree_at ts s.term) (let two = type_rank (tree_at us r) m p in let rank = gen.rank in omega (arith, two, rank)));
+          };
       are_goals = tt;
       counted = counted_piece (content_of ts e) (content_of us f) x u b s.variance s.is_quiet (tree_at ts s.term) (tree_at us r) later.sound part.knows values gen;
       joins = λ n m varies p y. absurd (no_piece s.variance (tree_at ts s.term) n varies p alone);
-      due = λ b h. tt;
+      due = λ b before h. tt;
     }
 
 -- closed and open trees by the level that escapes

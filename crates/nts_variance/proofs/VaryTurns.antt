@@ -7,7 +7,7 @@ use Rattle.nts_model.specs.declared.labels.Variance.{Variance}
 use Rattle.nts_model.specs.declared.labels.Variance.TheVariants as variance
 use Rattle.nts_model.specs.declared.labels.VariableKind.TheVariants as kind
 use Rattle.nts_model.specs.Terms.Trees.{Tree, empty, more, node, size, NodeKind, kind_of, of_sort, IsRow, row_length, FitsPlace, AllFit, IsFormed}
-use Rattle.nts_model.specs.Tables.Contents.{Content, kind_at}
+use Rattle.nts_model.specs.Tables.Contents.{Content, unset, kind_at}
 use Rattle.nts_model.specs.Tables.Resolving.{IsInfer, Knows, resolved}
 use Rattle.nts_model.specs.Tables.Levels.{NamesAll, term_level, region_level}
 use Rattle.nts_model.specs.Tables.Worlds.{inst}
@@ -18,6 +18,7 @@ use Rattle.nts_model.specs.Tables.Measuring.{closed_aliases}
 use Rattle.nts_variance_model.specs.Variances.Relations.{ArePairsKnown}
 use Rattle.nts_variance_model.specs.Variances.Relations.{Relating as Pair}
 use Rattle.nts_variance_model.specs.Variances.Leaving.{judging_of}
+use Rattle.nts_model.proofs.Tables.Slots.{field_below}
 use Rattle.nts_model.proofs.Tables.Resolved.{resolved-empty, resolved-more}
 use Rattle.nts_model.proofs.Tables.Held.{Continues-refl}
 use Rattle.nts_variance_model.proofs.Variances.Alongside.{along_size}
@@ -36,7 +37,7 @@ use Rattle.nts_variance.specs.declared.vary_walk.Task.{Task}
 use Rattle.nts_variance.specs.declared.vary_walk.Task.TheVariants as task
 use Rattle.nts_variance.specs.declared.vary_walk.Spot.{Spot}
 use Rattle.nts_variance.specs.Steps.{WalkStep, enter, build, owe, steps_of, stacked, popped, unpopped, entering, part_place, PartsFit, kinds_left, EndsAlone, builds, StepsLead, MadeForRow}
-use Rattle.nts_variance.specs.Due.{GotValue, IsUnvalued, AreGoalsDue}
+use Rattle.nts_variance.specs.Due.{IsTypeVariable, GotValue, IsUnvalued, AreGoalsDue}
 use Rattle.nts_variance.specs.Walking.{IsTableGrown, IsMadeFor, MadeIn, NothingOwed, IsChoice, SettlesOwed, sides, step_weights, KnowsStep, KnowsSteps, KnowsTrees, Walks}
 use Rattle.nts_variance.specs.Counting.{IsCounted}
 use Rattle.nts_variance.specs.Parts.{form_of_tree, parts_of}
@@ -46,7 +47,7 @@ use Rattle.nts_variance.specs.Varying.{AreInside, BuildsKnown, IsWalk, IsTurn, I
 use Rattle.nts_variance.proofs.Growing.{grown_refl, grown_trans, Knows-grown, region_never}
 use Rattle.nts_variance.proofs.Clean.{clean_over}
 use Rattle.nts_variance.proofs.Dues.{dues_later, dues_append, dues_to, due_sides, fresh_number, value_valued, fresh_steps_later, steps_to, node_fresh}
-use Rattle.nts_variance.proofs.Debts.{type_kind, owe_at, owe_value, owe_through, owe_node, owe_built, goals_to, AreGoals-append, goal_sides}
+use Rattle.nts_variance.proofs.Debts.{owe_at, owe_value, owe_through, owe_node, owe_built, goals_to, AreGoals-append, goal_sides}
 use Rattle.nts_variance.proofs.Counting.{counted_at, counted_to, counted_start, counted_made, counted_through, counted_node, counted_built, counted_owed}
 use Rattle.nts_variance.proofs.Runs.{stacked-push, pushed, unpopped_pushed, popped_row, made_row, unentered}
 use Rattle.nts_variance.proofs.Turns.{judges_agree, walks_none, walks_then, walk_made}
@@ -313,14 +314,14 @@ module _ (declared : ℕ → List Variance) (z : Bool) (u x : ℕ) where
         less = omega (arith, ap (step_weights d) steps, weights_later c d (stacked (step_at ts) xs) own.trees known, ap (step_weights c) here, weights_made c s.variance s.is_quiet t (stacked (step_at ts) xs));
         kept = m.kept;
         trees = own.trees;
-        owes = λ h k.
+        owes = λ n le h k.
             (let before = rw here at h in
-            (owe_at steps trees (before (tree_at us r) m.like), goals_to goals (AreGoals-append (pairs_at ts gs) (pairs_at us m.new) k m.are_goals)));
+            (owe_at n steps trees (before (tree_at us r) (m.like n le)), goals_to goals (AreGoals-append (pairs_at ts gs) (pairs_at us m.new) k m.are_goals)));
         counted = counted_at here steps refl trees (counted_made c d s.variance s.is_quiet t (tree_at us r) (stacked (step_at ts) xs) (stacked (tree_at ts) ms) own.trees known (knows_made ts c u ms w.made) m.counted);
-        due = λ b h g.
+        due = λ b le o h g.
             (let before = rw here at h in (
               steps_to b d steps (fresh_steps_later b (stacked (step_at ts) xs) own.continues known before.1),
-              dues_to b d goals (dues_append b d (pairs_at ts gs) (pairs_at us m.new) (dues_later b (pairs_at ts gs) later own.continues (known_pairs ts c gs w.goals) g) (m.due b before.0)),
+              dues_to b d goals (dues_append b d (pairs_at ts gs) (pairs_at us m.new) (dues_later b (pairs_at ts gs) later own.continues (known_pairs ts c gs w.goals) g) (m.due b le before.0)),
             ));
       })
 
@@ -362,11 +363,11 @@ module _ (declared : ℕ → List Variance) (z : Bool) (u x : ℕ) where
         less = omega (arith, ap (step_weights c) here, ap (step_weights c) there, weights_value c s.variance t (tree_at ts v) rest k.lower k.same);
         kept = kept_refl c x;
         trees = λ a h. refl;
-        owes = λ h g.
+        owes = λ n le h g.
             (let before = rw here at h in
-            (owe_at there refl (owe_value s.variance t (tree_at ts v) rest (stacked (tree_at ts) ms) value.closed k.closed same (type_kind t value.number value.is) varies before), g));
+            (owe_at n there refl (owe_value n s.variance t (tree_at ts v) value.number rest (stacked (tree_at ts) ms) value.is k.lower value.closed k.closed same varies before), g));
         counted = λ n h. (let counted : IsCounted c n (enter s.variance false t ∷ rest) (stacked (tree_at ts) ms) = rw here at h in let i = counted.invariant in absurd (varies i.0));
-        due = λ b h g.
+        due = λ b le o h g.
             (let before : AreUnvaluedSteps b c (enter s.variance false t ∷ rest) = rw here at h in
             let part : IsUnvalued b s.variance t = ⊎_elim (λ (no : false ≡ true). cc) (λ f. f) before.0 in
             let own : GotValue b c t = record { number = value.number; is = value.is; before = fresh_number b s.variance t value.number value.is varies part; after = value_valued c t (tree_at ts v) k } in
@@ -375,7 +376,7 @@ module _ (declared : ℕ → List Variance) (z : Bool) (u x : ℕ) where
 
   -- .. or gives way to its value alone
   turn_value_on_here : (ts : List Tree) (e : Entries) (xs ys : List Task) (s : Spot) (v : NodeId) (q : Bool) (ms : List NodeId) (gs : List Relating) → IsWalk ts e u x (xs ++ task.Enter s ∷ []) ms gs → s.is_quiet ≡ q → IsIn ts v → v.number < 2 ^ 64
-      → IsVariableValue (content_of ts e) (tree_at ts s.term) (tree_at ts v) → (q ≡ true) ⊎ ((s.variance ≡ variance.Invariant) ⊎ (kind_of (tree_at ts s.term) ≡ Some (of_sort sort.Const))) → ys ≡ xs ++ task.Enter (record { term = v; binders = 0; variance = s.variance; is_quiet = q; is_searched = false }) ∷ [] → IsTurn declared z u x ts ts e e (xs ++ task.Enter s ∷ []) ys ms ms gs gs
+      → IsVariableValue (content_of ts e) (tree_at ts s.term) (tree_at ts v) → ((q ≡ true) × ((j : ℕ) × IsTypeVariable (tree_at ts s.term) j)) ⊎ ((s.variance ≡ variance.Invariant) ⊎ (kind_of (tree_at ts s.term) ≡ Some (of_sort sort.Const))) → ys ≡ xs ++ task.Enter (record { term = v; binders = 0; variance = s.variance; is_quiet = q; is_searched = false }) ∷ [] → IsTurn declared z u x ts ts e e (xs ++ task.Enter s ∷ []) ys ms ms gs gs
   turn_value_on_here ts e xs ys s v q ms gs w quiet within room k alone is =
       let c = content_of ts e in
       let t = tree_at ts s.term in
@@ -398,11 +399,14 @@ module _ (declared : ℕ → List Variance) (z : Bool) (u x : ℕ) where
         less = omega (arith, ap (step_weights c) here, ap (step_weights c) there, weights_value_on c s.variance q t (tree_at ts v) rest k.lower k.same);
         kept = kept_refl c x;
         trees = λ a h. refl;
-        owes = λ h g. (let before = rw here at h in (owe_at there refl (owe_through s.variance q t (tree_at ts v) rest (stacked (tree_at ts) ms) k.closed same before), g));
+        owes = λ n le h g.
+            (let before = rw here at h in
+            let typed : ((j : ℕ) × IsTypeVariable t j) ⊎ ((s.variance ≡ variance.Invariant) ⊎ (kind_of t ≡ Some (of_sort sort.Const))) = ⊎_elim (λ y. inl y.1) (λ a. inr a) alone in
+            (owe_at n there refl (owe_through n s.variance q t (tree_at ts v) rest (stacked (tree_at ts) ms) k.closed same typed before), g));
         counted = counted_at here there refl refl (counted_through c s.variance q t (tree_at ts v) rest (stacked (tree_at ts) ms) k.infer k.same);
-        due = λ b h g.
+        due = λ b le o h g.
             (let before : AreUnvaluedSteps b c (enter s.variance q t ∷ rest) = rw here at h in
-            let own : (q ≡ true) ⊎ IsUnvalued b s.variance (tree_at ts v) = ⊎_elim (λ y. inl y) (λ a. inr (⊎_elim (λ i. inl i) (λ y. inr (inl (λ z. (let both : Some (of_sort sort.Const) ≡ Some (of_sort sort.Ty) = sym (same ∙ y) ∙ z in cc)))) a)) alone in
+            let own : (q ≡ true) ⊎ IsUnvalued b s.variance (tree_at ts v) = ⊎_elim (λ y. inl y.0) (λ a. inr (⊎_elim (λ i. inl i) (λ y. inr (inl (λ z. (let both : Some (of_sort sort.Const) ≡ Some (of_sort sort.Ty) = sym (same ∙ y) ∙ z in cc)))) a)) alone in
             (steps_to b c there (own, before.1), g));
       }
 
@@ -435,9 +439,9 @@ module _ (declared : ℕ → List Variance) (z : Bool) (u x : ℕ) where
         less = omega (arith, ap (step_weights c) here, ap (step_weights c) there, weights_node c s.variance ws s.is_quiet F ps (row_length ps) rest node_is.row);
         kept = kept_refl c x;
         trees = λ a k. refl;
-        owes = λ h g. (let before = rw here at h in (owe_at there refl (owe_node s.variance ws s.is_quiet F ps rest (stacked (tree_at ts) ms) node_is.row before), g));
+        owes = λ n le h g. (let before = rw here at h in (owe_at n there refl (owe_node n s.variance ws s.is_quiet F ps rest (stacked (tree_at ts) ms) node_is.row before), g));
         counted = counted_at here there refl refl (counted_node c s.variance ws s.is_quiet F ps rest (stacked (tree_at ts) ms) w.lawful.sound whole node_is.row again.fits);
-        due = λ b h g.
+        due = λ b le o h g.
             (let before : AreUnvaluedSteps b c (enter s.variance s.is_quiet (over F ps) ∷ rest) = rw here at h in
             (steps_to b c there (node_fresh declared b c s.variance s.is_quiet F ps (build F (row_length ps) ∷ rest) before.0 before.1), g));
       }
@@ -449,14 +453,14 @@ module _ (declared : ℕ → List Variance) (z : Bool) (u x : ℕ) where
       rw (store, table, goals) (turn_value_here ts e xs ys s v ms gs w loud within room value varies is)
 
   pub turn_value_on : (ts us : List Tree) (e f : Entries) (xs ys : List Task) (s : Spot) (v : NodeId) (q : Bool) (ms : List NodeId) (gs hs : List Relating) → IsWalk ts e u x (xs ++ task.Enter s ∷ []) ms gs → us ≡ ts → f ≡ e → hs ≡ gs → s.is_quiet ≡ q → IsIn ts v → v.number < 2 ^ 64
-      → IsVariableValue (content_of ts e) (tree_at ts s.term) (tree_at ts v) → (q ≡ true) ⊎ ((s.variance ≡ variance.Invariant) ⊎ (kind_of (tree_at ts s.term) ≡ Some (of_sort sort.Const))) → ys ≡ xs ++ task.Enter (record { term = v; binders = 0; variance = s.variance; is_quiet = q; is_searched = false }) ∷ [] → IsTurn declared z u x ts us e f (xs ++ task.Enter s ∷ []) ys ms ms gs hs
+      → IsVariableValue (content_of ts e) (tree_at ts s.term) (tree_at ts v) → ((q ≡ true) × ((j : ℕ) × IsTypeVariable (tree_at ts s.term) j)) ⊎ ((s.variance ≡ variance.Invariant) ⊎ (kind_of (tree_at ts s.term) ≡ Some (of_sort sort.Const))) → ys ≡ xs ++ task.Enter (record { term = v; binders = 0; variance = s.variance; is_quiet = q; is_searched = false }) ∷ [] → IsTurn declared z u x ts us e f (xs ++ task.Enter s ∷ []) ys ms ms gs hs
   turn_value_on ts us e f xs ys s v q ms gs hs w store table goals quiet within room value alone is =
       rw (store, table, goals) (turn_value_on_here ts e xs ys s v q ms gs w quiet within room value alone is)
 
   pub turn_value_quietly : (ts us : List Tree) (e f : Entries) (xs ys : List Task) (s : Spot) (v : NodeId) (ms : List NodeId) (gs hs : List Relating) → IsWalk ts e u x (xs ++ task.Enter s ∷ []) ms gs → us ≡ ts → f ≡ e → hs ≡ gs → s.is_quiet ≡ true → IsIn ts v → v.number < 2 ^ 64
       → IsTypeValue (content_of ts e) (tree_at ts s.term) (tree_at ts v) → ys ≡ xs ++ task.Enter (record { term = v; binders = 0; variance = s.variance; is_quiet = true; is_searched = false }) ∷ [] → IsTurn declared z u x ts us e f (xs ++ task.Enter s ∷ []) ys ms ms gs hs
   turn_value_quietly ts us e f xs ys s v ms gs hs w store table goals quiet within room value is =
-      turn_value_on ts us e f xs ys s v true ms gs hs w store table goals quiet within room value.value (inl refl) is
+      turn_value_on ts us e f xs ys s v true ms gs hs w store table goals quiet within room value.value (inl (refl, (value.number, value.is))) is
 
   pub turn_node : (ts us : List Tree) (e f : Entries) (xs ys : List Task) (s : Spot) (ms : List NodeId) (gs hs : List Relating) → IsWalk ts e u x (xs ++ task.Enter s ∷ []) ms gs → us ≡ ts → f ≡ e → hs ≡ gs → IsMadeAgain (tree_at ts s.term)
       → ArePartsPushed declared us s xs ys → IsTurn declared z u x ts us e f (xs ++ task.Enter s ∷ []) ys ms ms gs hs
@@ -535,9 +539,9 @@ module _ (declared : ℕ → List Variance) (z : Bool) (u x : ℕ) where
         less = rw content (omega (arith, ap (step_weights c) steps, ap (step_weights c) here, weights_built c F n rest));
         kept = rw content (kept_refl c x);
         trees = rw content (λ a k. refl);
-        owes = λ h g. (let old = rw (here, on) at h in (owe_at steps trees (owe_built F rs n rest (stacked (tree_at ts) ks) row same old), goals_to (pairs_kept c gs ext w.goals) g));
+        owes = λ k le h g. (let old = rw (here, on) at h in (owe_at k steps trees (owe_built k F rs n rest (stacked (tree_at ts) ks) row same old), goals_to (pairs_kept c gs ext w.goals) g));
         counted = rw content (counted_at here steps on trees (counted_built c F rs n rest before w.lawful.sound row same front.1.sorts));
-        due = rw content (λ b h g. (let old : AreUnvaluedSteps b c (build F n ∷ rest) = rw here at h in (steps_to b c steps old, dues_to b c (pairs_kept c gs ext w.goals) g)));
+        due = rw content (λ b le o h g. (let old : AreUnvaluedSteps b c (build F n ∷ rest) = rw here at h in (steps_to b c steps old, dues_to b c (pairs_kept c gs ext w.goals) g)));
       })
 
   -- what is owed is left as a goal
@@ -582,14 +586,17 @@ module _ (declared : ℕ → List Variance) (z : Bool) (u x : ℕ) where
         less = omega (arith, ap (step_weights c) here, weights_owed c s.variance t rest);
         kept = kept_refl c x;
         trees = λ a k. refl;
-        owes = λ h g.
+        owes = λ n le h g.
             (let old = rw (here, on) at h in
-            (owe_at {xs = rest} {ys = rest} refl on old.1, goals_to goals (AreGoals-append (pairs_at ts gs) (sides z s.variance (tree_at ts m) t ∷ []) g (goal_sides z s.variance (tree_at ts m) t old.0, tt))));
+            (owe_at n {xs = rest} {ys = rest} refl on old.2, goals_to goals (AreGoals-append (pairs_at ts gs) (sides z s.variance (tree_at ts m) t ∷ []) g (goal_sides z s.variance (tree_at ts m) t old.0, tt))));
         counted = counted_at here refl on on (counted_owed c s.variance t rest (tree_at ts m ∷ before));
-        due = λ b h g.
+        due = λ b le o h g.
             (let old : AreUnvaluedSteps b c (owe s.variance t ∷ rest) = rw here at h in
             let own = old.0 in
-            (old.1, dues_to b c goals (dues_append b c (pairs_at ts gs) (sides z s.variance (tree_at ts m) t ∷ []) g (due_sides b c z s.variance (tree_at ts m) t (inr (own.0, inr (inr own.1))), tt))));
+            let got = own.1 in
+            let owed = rw (here, on) at o in
+            let apart : tree_at ts m ≢ t = owed.1 got.number got.is (field_below (λ v. v.state) b got.number unset got.before) in
+            (old.1, dues_to b c goals (dues_append b c (pairs_at ts gs) (sides z s.variance (tree_at ts m) t ∷ []) g (due_sides b c z s.variance (tree_at ts m) t (inr (own.0, apart, inr (inr got))), tt))));
       }
 
   -- the variable for which the whole is made stands inside of a node of the whole
@@ -642,9 +649,9 @@ module _ (declared : ℕ → List Variance) (z : Bool) (u x : ℕ) where
     pub extends : Extends ts us
     pub kept : IsKept (content_of ts e) (content_of us f) x
     pub trees : (a : Tree) → Knows (content_of ts e) a → resolved (content_of us f) a ≡ resolved (content_of ts e) a
-    pub owes : OweGoals (stacked (step_at us) ys) (stacked (tree_at us) ns) × AreGoals (pairs_at us hs)
+    pub owes : (n : ℕ) → n ≤ length (content_of ts e).slots → OweGoals n (stacked (step_at us) ys) (stacked (tree_at us) ns) × AreGoals (pairs_at us hs)
     pub counted : (n : ℕ) → IsCounted (content_of ts e) n (enter v false (tree_at ts t) ∷ []) [] → IsCounted (content_of us f) n (stacked (step_at us) ys) (stacked (tree_at us) ns)
-    pub due : (b : Content) → IsUnvalued b v (tree_at ts t) → AreUnvaluedSteps b (content_of us f) (stacked (step_at us) ys) × AreGoalsDue b (content_of us f) (pairs_at us hs)
+    pub due : (b : Content) → length b.slots ≤ length (content_of ts e).slots → IsUnvalued b v (tree_at ts t) → AreUnvaluedSteps b (content_of us f) (stacked (step_at us) ys) × AreGoalsDue b (content_of us f) (pairs_at us hs)
     pub walk : IsWalk us f u x ys ns hs
     pub walks : Walks declared z u (content_of ts e) (content_of us f) (enter v false (tree_at ts t) ∷ []) (stacked (step_at us) ys) [] (stacked (tree_at us) ns) [] (pairs_at us hs)
 
@@ -657,9 +664,9 @@ module _ (declared : ℕ → List Variance) (z : Bool) (u x : ℕ) where
         extends = Extends-refl ts;
         kept = kept_refl (content_of ts e) x;
         trees = λ a k. refl;
-        owes = rw is (λ s m. tt, tt);
+        owes = rw is (λ n le. (λ s m. tt, tt));
         counted = rw is (λ n h. h);
-        due = rw is (λ b h. ((inr h, tt), tt));
+        due = rw is (λ b le h. ((inr h, tt), tt));
         walk = walk_start ts e v t ys lawful part none named known no_region is;
         walks = rw is (walks_none declared z u (content_of ts e) (enter v false (tree_at ts t) ∷ []) [] [] lawful.sound);
       }
@@ -673,9 +680,9 @@ module _ (declared : ℕ → List Variance) (z : Bool) (u x : ℕ) where
         extends = Extends-trans run.extends ext;
         kept = kept_trans run.kept turn.kept;
         trees = λ a k. (let walks = run.walks in turn.trees a (Knows-grown a walks.later k) ∙ run.trees a k);
-        owes = (let old = run.owes in turn.owes old.0 old.1);
+        owes = λ n le. (let old = run.owes n le in let walks = run.walks in let more = walks.later.more in turn.owes n (omega (arith, le, more)) old.0 old.1);
         counted = λ n h. turn.counted n (run.counted n h);
-        due = λ b h. (let old = run.due b h in turn.due b old.0 old.1);
+        due = λ b le h. (let old = run.due b le h in let owed = run.owes (length b.slots) le in let walks = run.walks in let more = walks.later.more in turn.due b (omega (arith, le, more)) owed.0 old.0 old.1);
         walk = turn.walk;
         walks = walks_then declared z u (content_of ts e) (content_of us f) (content_of ws g) (enter v false (tree_at ts t) ∷ []) (stacked (step_at us) xs) (stacked (step_at ws) ys) [] (stacked (tree_at us) ms) (stacked (tree_at ws) ns) [] (pairs_at us gs) (pairs_at ws hs)
             run.lawful.sound run.walk.lawful.sound run.walks turn.walks;
@@ -702,8 +709,8 @@ module _ (declared : ℕ → List Variance) (z : Bool) (u x : ℕ) where
         clean = made.0.2;
         kept = run.kept;
         trees = run.trees;
-        are_goals = (let old = run.owes in old.1);
-        due = λ b h. (let old = run.due b h in old.1);
+        are_goals = (let old = run.owes 0 (omega arith) in old.1);
+        due = λ b le h. (let old = run.due b le h in old.1);
         none = λ q. (let k = ended q in let h = k.none in h.0);
         few = λ q. (let k = ended q in let h = k.few in omega (arith, h));
         walks = walks_at refl (sym (ap (stacked (step_at us)) none)) refl (sym (ap (stacked (tree_at us)) one)) refl refl run.walks;

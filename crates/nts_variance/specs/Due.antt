@@ -1,5 +1,5 @@
 -- Which goals relating leaves: each is asked for by what stands in its pair.
-use Rattle.std.specs.Prelude.{◌≡◌, ◌≢◌, ◌⊎◌, ℕ, ◌<◌, List, [], ◌∷◌, Some}
+use Rattle.std.specs.Prelude.{◌≡◌, ◌≢◌, ◌⊎◌, ℕ, ◌<◌, ◌≤◌, length, List, [], ◌∷◌, Some}
 use Rattle.nts_model.specs.declared.labels.Sort.TheVariants as sort
 use Rattle.nts_model.specs.declared.labels.Variance.{Variance}
 use Rattle.nts_model.specs.declared.labels.Variance.TheVariants as variance
@@ -40,22 +40,40 @@ pub record ShareSubRoots (c : Content) (n m : ℕ) : Type 0 where
   pub of_second : Reaches c m second
   pub shared : SharesSubRoot c first second
 
--- two type variables: neither had a value in the table c, or one was made since for the other, and they share their sub root in d
+-- two variables of two classes, of which neither has a value in the table
+pub record AreTwoUnset (c : Content) (n m : ℕ) : Type 0 where
+  pub first : state_of c n ≡ Some unset
+  pub second : state_of c m ≡ Some unset
+  pub apart : n ≢ m
+
+-- the variable m is no variable of the table c, and was made since for n, which had no value there: they share their sub root in d
+pub record WasMadeFor (c d : Content) (n m : ℕ) : Type 0 where
+  pub free : state_of c n ≡ Some unset
+  pub new : length c.slots ≤ m
+  pub shared : ShareSubRoots d n m
+
+-- two type variables: in the table c they were two without values, or one was made since for the other
 pub record AreTypeVariables (c d : Content) (a b : Tree) : Type 0 where
   pub first : ℕ
   pub second : ℕ
   pub left : IsTypeVariable a first
   pub right : IsTypeVariable b second
-  pub either : ((state_of c first ≡ Some unset) × (state_of c second ≡ Some unset)) ⊎ ShareSubRoots d first second
+  pub either : AreTwoUnset c first second ⊎ (WasMadeFor c d first second ⊎ WasMadeFor c d second first)
 
 -- a pair that relating leaves as a goal, between the table c before and d afterwards: an alias without escaping bound variables
--- stands on a side; or the pair varies, and both sides are type variables, or one is a type variable that got its value since
+-- stands on a side; or the pair varies, its sides are two, and both are type variables, or one is a type variable that got its value
+-- since
 abbrev pub IsGoalDue : Content → Content → Pair → Type 0
-IsGoalDue c d p = (IsAlias p.left ⊎ IsAlias p.right) ⊎ ((p.variance ≢ variance.Invariant) × (AreTypeVariables c d p.left p.right ⊎ (GotValue c d p.left ⊎ GotValue c d p.right)))
+IsGoalDue c d p = (IsAlias p.left ⊎ IsAlias p.right) ⊎ ((p.variance ≢ variance.Invariant) × (p.left ≢ p.right) × (AreTypeVariables c d p.left p.right ⊎ (GotValue c d p.left ⊎ GotValue c d p.right)))
 
 abbrev pub AreGoalsDue : Content → Content → List Pair → Type 0
 AreGoalsDue c d [] = Unit {0}
 AreGoalsDue c d (p ∷ ps) = IsGoalDue c d p × AreGoalsDue c d ps
+
+-- each goal has an alias without escaping bound variables on a side
+abbrev pub AreGoalsOfAliases : List Pair → Type 0
+AreGoalsOfAliases [] = Unit {0}
+AreGoalsOfAliases (p ∷ ps) = (IsAlias p.left ⊎ IsAlias p.right) × AreGoalsOfAliases ps
 
 -- a region or a const
 abbrev pub IsNoType : Tree → Type 0
@@ -75,6 +93,7 @@ abbrev pub AreUnvaluedPairs : Content → List Pair → Type 0
 AreUnvaluedPairs c [] = Unit {0}
 AreUnvaluedPairs c (p ∷ ps) = IsUnvaluedPair c p × AreUnvaluedPairs c ps
 
--- the goals that a pair leaves are due since each table in which no variable of the pair had a value
-abbrev pub LeavesDue : Content → Pair → List Pair → Type 0
-LeavesDue d p gs = (c : Content) → IsUnvaluedPair c p → AreGoalsDue c d gs
+-- the goals that a pair leaves between the table c and d are due since each table that has no more variables than c, and in which no
+-- variable of the pair had a value
+abbrev pub LeavesDue : Content → Content → Pair → List Pair → Type 0
+LeavesDue c d p gs = (b : Content) → length b.slots ≤ length c.slots → IsUnvaluedPair b p → AreGoalsDue b d gs

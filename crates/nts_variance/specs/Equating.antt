@@ -24,7 +24,7 @@ use Rattle.nts_variance.specs.declared.splitting.Taken.TheVariants as taken
 use Rattle.nts_variance.specs.Steps.{stacked}
 use Rattle.nts_variance.specs.Parts.{IsAlone}
 use Rattle.nts_variance.specs.Terms.{pair_at, pairs_at, AreGoals, ArePairs}
-use Rattle.nts_variance.specs.Due.{AreGoalsDue, LeavesDue}
+use Rattle.nts_variance.specs.Due.{AreGoalsOfAliases, LeavesDue}
 use Rattle.nts_variance.specs.Pairs.{Refuses}
 use Rattle.nts_variance.specs.Taking.{Takes, IsPair, ArePairsLeft, IsCall}
 
@@ -61,10 +61,10 @@ pub record AreToBeOne (c : Content) (v : Variance) (a b : Tree) : Type 0 where
   pub trees : (v ≡ variance.Invariant) ⊎ (IsAlone (deeply_resolved c a) ⊎ IsAlone (deeply_resolved c b))
 
 -- a way of taking a pair asks for goals of aliases alone: no type variable that got its value asks for one
-abbrev pub OwesAliases : List Tree → Content → Pair → Taken → Type 0
-OwesAliases us d p taken.Owed = IsAlias p.left ⊎ IsAlias p.right
-OwesAliases us d p (taken.Bound gs) = (c : Content) → AreGoalsDue c d (pairs_at us gs.items)
-OwesAliases us d p t = Unit {0}
+abbrev pub OwesAliases : List Tree → Pair → Taken → Type 0
+OwesAliases us p taken.Owed = IsAlias p.left ⊎ IsAlias p.right
+OwesAliases us p (taken.Bound gs) = AreGoalsOfAliases (pairs_at us gs.items)
+OwesAliases us p t = Unit {0}
 
 abbrev pub AreInvariant : List Relating → Type 0
 AreInvariant [] = Unit {0}
@@ -124,4 +124,4 @@ pub record GoalsRelate (declared : ℕ → List Variance) (ts us : List Tree) (e
   pub known : ArePairs us (content_of us f) gs
   pub are_goals : AreGoals (pairs_at us gs)
   pub takes : Takes declared (content_of ts e) (content_of us f) (pair_at ts p ∷ []) [] (pairs_at us gs)
-  pub due : LeavesDue (content_of us f) (pair_at ts p) (pairs_at us gs)
+  pub due : LeavesDue (content_of ts e) (content_of us f) (pair_at ts p) (pairs_at us gs)

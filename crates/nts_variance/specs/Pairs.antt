@@ -51,4 +51,4 @@ pub record IsBound (declared : ℕ → List Variance) (z : Bool) (ts us : List T
   pub are_goals : AreGoals (pairs_at us gs)
   pub fewer : v ≡ variance.Invariant → unset_count (content_of us f).slots < unset_count (content_of ts e).slots + closed_aliases (resolved (content_of ts e) (tree_at ts t))
   pub aliases : v ≡ variance.Invariant → (a : Tree) → Knows (content_of ts e) a → closed_aliases (resolved (content_of us f) a) ≡ closed_aliases (resolved (content_of ts e) a)
-  pub due : (c : Content) → IsUnvalued c v (tree_at ts t) → AreGoalsDue c (content_of us f) (pairs_at us gs)
+  pub due : (b : Content) → length b.slots ≤ length (content_of ts e).slots → IsUnvalued b v (tree_at ts t) → AreGoalsDue b (content_of us f) (pairs_at us gs)

@@ -14,7 +14,7 @@ use Rattle.nts_unify.specs.Reading.{content_of, IsLawful}
 use Rattle.nts_unify.specs.Knowing.{row_from}
 use Rattle.nts_variance.specs.declared.along.Relating.{Relating}
 use Rattle.nts_variance.specs.Terms.{pairs_at, AreGoals, ArePairs}
-use Rattle.nts_variance.specs.Due.{AreGoalsDue}
+use Rattle.nts_variance.specs.Due.{AreGoalsOfAliases}
 use Rattle.nts_variance.specs.Pairs.{Refuses}
 use Rattle.nts_variance.specs.Taking.{Takes}
 
@@ -31,24 +31,24 @@ row_pairs a b = pairs_over variance.Invariant [] a b
 abbrev pub argument_pairs : Tree → Tree → List Pair
 argument_pairs a b = row_pairs (children a) (children b)
 
--- relating the lists a and b, which are of one length, leaves goals alone: under each later table that answers them the arguments are
--- related, and each settled solution in which they settle goes on to one in which the goals settle
+-- relating the lists a and b, which are of one length, leaves goals of aliases alone: under each later table that answers them the
+-- arguments are related, and each settled solution in which they settle goes on to one in which the goals settle
 pub record RowsRelate (declared : ℕ → List Variance) (ts us : List Tree) (e f : Entries) (a b : Tree) (gs : List Relating) : Type 0 where
   pub long : row_length (children a) ≡ row_length (children b)
   pub known : ArePairs us (content_of us f) gs
   pub are_goals : AreGoals (pairs_at us gs)
   pub takes : Takes declared (content_of ts e) (content_of us f) (argument_pairs a b) [] (pairs_at us gs)
-  pub due : (c : Content) → AreGoalsDue c (content_of us f) (pairs_at us gs)
+  pub due : AreGoalsOfAliases (pairs_at us gs)
 
 -- the lists are not of one length, or no settled solution of the table relates their arguments
 abbrev pub RefusesRows : (ℕ → List Variance) → Content → Tree → Tree → Type 0
 RefusesRows declared c a b = (row_length (children a) ≡ row_length (children b) → ⊥) ⊎ Refuses declared c (argument_pairs a b)
 
--- the arguments before the place i are related, and those from it on are left
+-- the arguments before the place i are related, which left goals of aliases alone, and those from it on are left
 pub record AreRelatedTo (declared : ℕ → List Variance) (ts us : List Tree) (e f : Entries) (a b : Tree) (i : ℕ) (gs : List Relating) : Type 0 where
   pub lawful : IsLawful us f
   pub place : i ≤ row_length (children a)
   pub known : ArePairs us (content_of us f) gs
   pub are_goals : AreGoals (pairs_at us gs)
   pub takes : Takes declared (content_of ts e) (content_of us f) (argument_pairs a b) (row_pairs (row_from i (children a)) (row_from i (children b))) (pairs_at us gs)
-  pub due : (c : Content) → AreGoalsDue c (content_of us f) (pairs_at us gs)
+  pub due : AreGoalsOfAliases (pairs_at us gs)

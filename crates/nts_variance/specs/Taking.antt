@@ -1,5 +1,5 @@
 -- Pairs that are taken one by one: what each leaves in the table, and what a call of relating leaves in the end.
-use Rattle.std.specs.Prelude.{◌≡◌, ℕ, ◌+◌, ◌<◌, List, [], ◌∷◌, ◌++◌, Option, Some, None, ◌⊎◌}
+use Rattle.std.specs.Prelude.{◌≡◌, ℕ, ◌+◌, ◌<◌, ◌≤◌, length, List, [], ◌∷◌, ◌++◌, Option, Some, None, ◌⊎◌}
 use Rattle.nts_model.specs.declared.labels.Sort.{Sort}
 use Rattle.nts_model.specs.declared.labels.Variance.{Variance}
 use Rattle.nts_model.specs.declared.labels.Variance.TheVariants as variance
@@ -85,7 +85,7 @@ pub record IsLeft (declared : ℕ → List Variance) (ts us : List Tree) (e f : 
   pub goals : ArePairs us (content_of us f) gs
   pub are_goals : AreGoals (pairs_at us gs)
   pub takes : Takes declared (content_of ts e) (content_of us f) (pair_at ts p ∷ []) (pairs_at us qs) (pairs_at us gs)
-  pub due : LeavesDue (content_of us f) (pair_at ts p) (pairs_at us gs)
+  pub due : LeavesDue (content_of ts e) (content_of us f) (pair_at ts p) (pairs_at us gs)
 
 -- the number of an inference variable that is no region
 abbrev pub number_at : Tree → Option ℕ
@@ -111,8 +111,8 @@ AreNoSides a b = IsClosed a → IsClosed b → kind_of a ≡ kind_of b → ⊥
 abbrev pub IsTaken : (ℕ → List Variance) → List Tree → List Tree → Entries → Entries → Relating → Taken → Type 0
 IsTaken declared ts us e f p taken.Done = IsLawful us f × Takes declared (content_of ts e) (content_of us f) (pair_at ts p ∷ []) [] []
 IsTaken declared ts us e f p taken.Equal = (us ≡ ts) × (f ≡ e) × Waits ts p
-IsTaken declared ts us e f p taken.Owed = (us ≡ ts) × (f ≡ e) × IsGoal (pair_at ts p) × LeavesDue (content_of ts e) (pair_at ts p) (pair_at ts p ∷ [])
-IsTaken declared ts us e f p (taken.Bound gs) = IsLawful us f × ArePairs us (content_of us f) gs.items × Takes declared (content_of ts e) (content_of us f) (pair_at ts p ∷ []) [] (pairs_at us gs.items) × AreGoals (pairs_at us gs.items) × LeavesDue (content_of us f) (pair_at ts p) (pairs_at us gs.items)
+IsTaken declared ts us e f p taken.Owed = (us ≡ ts) × (f ≡ e) × IsGoal (pair_at ts p) × LeavesDue (content_of ts e) (content_of ts e) (pair_at ts p) (pair_at ts p ∷ [])
+IsTaken declared ts us e f p (taken.Bound gs) = IsLawful us f × ArePairs us (content_of us f) gs.items × Takes declared (content_of ts e) (content_of us f) (pair_at ts p ∷ []) [] (pairs_at us gs.items) × AreGoals (pairs_at us gs.items) × LeavesDue (content_of ts e) (content_of us f) (pair_at ts p) (pairs_at us gs.items)
 IsTaken declared ts us e f p taken.Parts = (us ≡ ts) × (f ≡ e) × AreOfOneForm (tree_at ts p.left) (tree_at ts p.right)
 
 -- what a way of taking a pair, of which no side is a variable with a value, leaves for the measure: where a variable got a value,
@@ -126,6 +126,7 @@ IsPaid c d p taken.Parts = (IsAlias p.left → ⊥) × (IsAlias p.right → ⊥)
 
 -- pairs that are to be taken and goals that are left: no variable in the pairs had a value in the table c, and the goals are due
 pub record AreDueSince (c : Content) (ts : List Tree) (e : Entries) (ps gs : List Relating) : Type 0 where
+  pub before : length c.slots ≤ length (content_of ts e).slots
   pub pairs : AreUnvaluedPairs c (stacked (pair_at ts) ps)
   pub known : ArePairs ts (content_of ts e) gs
   pub due : AreGoalsDue c (content_of ts e) (pairs_at ts gs)

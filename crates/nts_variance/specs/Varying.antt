@@ -82,9 +82,9 @@ pub record IsTurn (declared : ℕ → List Variance) (z : Bool) (u x : ℕ) (ts 
   pub less : step_weights (content_of us f) (stacked (step_at us) ys) < step_weights (content_of ts e) (stacked (step_at ts) xs)
   pub kept : IsKept (content_of ts e) (content_of us f) x
   pub trees : (a : Tree) → Knows (content_of ts e) a → resolved (content_of us f) a ≡ resolved (content_of ts e) a
-  pub owes : OweGoals (stacked (step_at ts) xs) (stacked (tree_at ts) ms) → AreGoals (pairs_at ts gs) → OweGoals (stacked (step_at us) ys) (stacked (tree_at us) ns) × AreGoals (pairs_at us hs)
+  pub owes : (n : ℕ) → n ≤ length (content_of ts e).slots → OweGoals n (stacked (step_at ts) xs) (stacked (tree_at ts) ms) → AreGoals (pairs_at ts gs) → OweGoals n (stacked (step_at us) ys) (stacked (tree_at us) ns) × AreGoals (pairs_at us hs)
   pub counted : (n : ℕ) → IsCounted (content_of ts e) n (stacked (step_at ts) xs) (stacked (tree_at ts) ms) → IsCounted (content_of us f) n (stacked (step_at us) ys) (stacked (tree_at us) ns)
-  pub due : (b : Content) → AreUnvaluedSteps b (content_of ts e) (stacked (step_at ts) xs) → AreGoalsDue b (content_of ts e) (pairs_at ts gs) → AreUnvaluedSteps b (content_of us f) (stacked (step_at us) ys) × AreGoalsDue b (content_of us f) (pairs_at us hs)
+  pub due : (b : Content) → length b.slots ≤ length (content_of ts e).slots → OweGoals (length b.slots) (stacked (step_at ts) xs) (stacked (tree_at ts) ms) → AreUnvaluedSteps b (content_of ts e) (stacked (step_at ts) xs) → AreGoalsDue b (content_of ts e) (pairs_at ts gs) → AreUnvaluedSteps b (content_of us f) (stacked (step_at us) ys) × AreGoalsDue b (content_of us f) (pairs_at us hs)
 
 -- the pair of what was made and a part, in their order, and what it owes
 abbrev pub pair_in : Bool → Variance → NodeId → NodeId → Relating
@@ -122,11 +122,11 @@ pub record IsMadeAt (declared : ℕ → List Variance) (z : Bool) (u x : ℕ) (t
   pub known : ArePairs us (content_of us f) new
   pub made : IsMade declared z u (content_of ts e) (content_of us f) s.variance s.is_quiet (tree_at ts s.term) (tree_at us r) (pairs_at us new)
   pub kept : IsKept (content_of ts e) (content_of us f) x
-  pub like : IsClosedLike (tree_at ts s.term) (tree_at us r)
+  pub like : (n : ℕ) → n ≤ length (content_of ts e).slots → IsClosedLike n s.variance (tree_at ts s.term) (tree_at us r)
   pub are_goals : AreGoals (pairs_at us new)
   pub counted : IsCountedFor (content_of ts e) (content_of us f) s.variance s.is_quiet (tree_at ts s.term) (tree_at us r)
   pub joins : (n m : ℕ) → s.variance ≢ variance.Invariant → IsTypeVariable (tree_at ts s.term) n → IsTypeVariable (tree_at us r) m → ShareSubRoots (content_of us f) n m
-  pub due : (b : Content) → (s.is_quiet ≡ true) ⊎ IsUnvalued b s.variance (tree_at ts s.term) → AreGoalsDue b (content_of us f) (pairs_at us new)
+  pub due : (b : Content) → length b.slots ≤ length (content_of ts e).slots → (s.is_quiet ≡ true) ⊎ IsUnvalued b s.variance (tree_at ts s.term) → AreGoalsDue b (content_of us f) (pairs_at us new)
 
 -- a type variable's value
 pub record IsTypeValue (c : Content) (t v : Tree) : Type 0 where
@@ -181,4 +181,4 @@ pub record IsVaried (declared : ℕ → List Variance) (z : Bool) (u x : ℕ) (t
   pub are_goals : AreGoals (pairs_at us gs)
   pub none : v ≡ variance.Invariant → closed_aliases (resolved (content_of us f) (tree_at us r)) ≡ 0
   pub few : v ≡ variance.Invariant → unset_count (content_of us f).slots ≤ unset_count (content_of ts e).slots + closed_aliases (resolved (content_of ts e) (tree_at ts t))
-  pub due : (b : Content) → IsUnvalued b v (tree_at ts t) → AreGoalsDue b (content_of us f) (pairs_at us gs)
+  pub due : (b : Content) → length b.slots ≤ length (content_of ts e).slots → IsUnvalued b v (tree_at ts t) → AreGoalsDue b (content_of us f) (pairs_at us gs)

@@ -84,8 +84,7 @@ fn join_variables(
         pair) }
     ensures paid { IfOk result (IsPaid (content_of nodes.old table.old.entries)
         (content_of nodes.new table.new.entries) (pair_at nodes.old pair)) }
-    ensures due { IfOk result (OwesAliases nodes.new (content_of nodes.new table.new.entries)
-        (pair_at nodes.old pair)) }
+    ensures due { IfOk result (OwesAliases nodes.new (pair_at nodes.old pair)) }
     ensures full { result ≢ Err EvalError.Full }
     ensures no { (declared : ℕ → List Variance) → result ≡ Err EvalError.NoSolution →
         Refuses declared (content_of nodes.old table.old.entries) (pair_at nodes.old pair ∷ []) }
@@ -127,8 +126,8 @@ fn bind_head(
         (content_of nodes.new table.new.entries) (pair_at nodes.old
         (pair_in side.is_turned variance own term))) }
     ensures due { AreToBeOne (content_of nodes.old table.old.entries) variance (tree_at nodes.old
-        own) (tree_at nodes.old term) → IfOk result (OwesAliases nodes.new (content_of nodes.new
-        table.new.entries) (pair_at nodes.old (pair_in side.is_turned variance own term))) }
+        own) (tree_at nodes.old term) → IfOk result (OwesAliases nodes.new (pair_at nodes.old
+        (pair_in side.is_turned variance own term))) }
     ensures full { result ≢ Err EvalError.Full }
     ensures no { result ≡ Err EvalError.NoSolution →
         Refuses (variances_in declarations.now) (content_of nodes.old table.old.entries)
@@ -165,8 +164,7 @@ fn take_nodes(nodes: &Nodes, table: &mut InferCtxtInner, pair: Relating) -> Resu
         pair) }
     ensures paid { IfOk result (IsPaid (content_of nodes.now table.old.entries)
         (content_of nodes.now table.new.entries) (pair_at nodes.now pair)) }
-    ensures due { IfOk result (OwesAliases nodes.now (content_of nodes.now table.new.entries)
-        (pair_at nodes.now pair)) }
+    ensures due { IfOk result (OwesAliases nodes.now (pair_at nodes.now pair)) }
     ensures full { result ≢ Err EvalError.Full }
     ensures no { (declared : ℕ → List Variance) → result ≡ Err EvalError.NoSolution →
         Refuses declared (content_of nodes.now table.old.entries) (pair_at nodes.now pair ∷ []) }
@@ -205,8 +203,8 @@ fn take_left(
     ensures paid { IfOk result (IsPaid (content_of nodes.old table.old.entries)
         (content_of nodes.new table.new.entries) (pair_at nodes.old pair)) }
     ensures due { AreToBeOne (content_of nodes.old table.old.entries) pair.variance
-        (tree_at nodes.old pair.left) (tree_at nodes.old pair.right) → IfOk result (OwesAliases
-        nodes.new (content_of nodes.new table.new.entries) (pair_at nodes.old pair)) }
+        (tree_at nodes.old pair.left) (tree_at nodes.old pair.right) → IfOk result
+        (OwesAliases nodes.new (pair_at nodes.old pair)) }
     ensures full { result ≢ Err EvalError.Full }
     ensures no { result ≡ Err EvalError.NoSolution →
         Refuses (variances_in declarations.now) (content_of nodes.old table.old.entries)
@@ -258,8 +256,8 @@ fn take_right(
     ensures paid { IfOk result (IsPaid (content_of nodes.old table.old.entries)
         (content_of nodes.new table.new.entries) (pair_at nodes.old pair)) }
     ensures due { AreToBeOne (content_of nodes.old table.old.entries) pair.variance
-        (tree_at nodes.old pair.left) (tree_at nodes.old pair.right) → IfOk result (OwesAliases
-        nodes.new (content_of nodes.new table.new.entries) (pair_at nodes.old pair)) }
+        (tree_at nodes.old pair.left) (tree_at nodes.old pair.right) → IfOk result
+        (OwesAliases nodes.new (pair_at nodes.old pair)) }
     ensures full { result ≢ Err EvalError.Full }
     ensures no { result ≡ Err EvalError.NoSolution →
         Refuses (variances_in declarations.now) (content_of nodes.old table.old.entries)
@@ -301,8 +299,7 @@ fn take_equal(
         table.old.entries table.new.entries heads.pair) }
     ensures paid { IfOk result (IsPaid (content_of nodes.old table.old.entries)
         (content_of nodes.new table.new.entries) (pair_at nodes.old heads.pair)) }
-    ensures due { IfOk result (OwesAliases nodes.new (content_of nodes.new table.new.entries)
-        (pair_at nodes.old heads.pair)) }
+    ensures due { IfOk result (OwesAliases nodes.new (pair_at nodes.old heads.pair)) }
     ensures full { result ≢ Err EvalError.Full }
     ensures no { result ≡ Err EvalError.NoSolution →
         Refuses (variances_in declarations.now) (content_of nodes.old table.old.entries)

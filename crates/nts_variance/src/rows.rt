@@ -59,8 +59,8 @@ fn relate_arguments(
 }
 
 /// Relates two lists of arguments of the store and the table, for calls that relate two aliases, or two trait references, of one
-/// head: no argument of theirs varies, and nothing is asked of the two as a whole. What rests on aliases in the arguments, and on
-/// type variables that have a value, is left as goals, and all else is done.
+/// head: no argument of theirs varies, and nothing is asked of the two as a whole. What rests on aliases in the arguments is left as
+/// goals, and all else is done.
 ///
 /// Under each later table in which the goals are answered the arguments are related; and each settled solution in which they settle
 /// goes on to one of the table in which the goals settle. It is `NoSolution` where the lists are not of one length or the arguments

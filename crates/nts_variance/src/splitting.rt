@@ -332,8 +332,7 @@ pub fn take_heads(
         pair) }
     ensures paid { IfOk result (IsPaid (content_of nodes.now table.old.entries)
         (content_of nodes.now table.new.entries) (pair_at nodes.now pair)) }
-    ensures due { IfOk result (OwesAliases nodes.now (content_of nodes.now table.new.entries)
-        (pair_at nodes.now pair)) }
+    ensures due { IfOk result (OwesAliases nodes.now (pair_at nodes.now pair)) }
     ensures full { result ≢ Err EvalError.Full }
     ensures no { (declared : ℕ → List Variance) → result ≡ Err EvalError.NoSolution →
         Refuses declared (content_of nodes.now table.old.entries) (pair_at nodes.now pair ∷ []) }
@@ -382,7 +381,7 @@ fn take(
     take_varying(alloc, nodes, declarations, table, pair)
 }
 
-/// Takes a pair that is not invariant.
+/// Takes a pair that is not invariant: two terms, or one that has aliases.
 fn take_varying(
     alloc: Global,
     nodes: &mut Nodes,
@@ -395,7 +394,9 @@ fn take_varying(
     requires varies { pair.variance ≢ variances.Invariant }
     ensures extends { Extends nodes.old nodes.new }
     ensures changes { KeepsHidden table.old table.new }
-    ensures taken { IfOk result (IsTaken (variances_in declarations.now) nodes.old nodes.new
+    ensures taken { (tree_at nodes.old pair.left ≡ tree_at nodes.old pair.right →
+        any_label is_alias (tree_at nodes.old pair.left) ≡ true) →
+        IfOk result (IsTaken (variances_in declarations.now) nodes.old nodes.new
         table.old.entries table.new.entries pair) }
     ensures full { result ≢ Err EvalError.Full }
     ensures no { result ≡ Err EvalError.NoSolution →

@@ -1,5 +1,5 @@
 -- What a handler means, the candidates that it offers, and the laws that it keeps.
-use Rattle.std.specs.Prelude.{◌≡◌, ◌⊎◌, ℕ, Bool, false, IsTrue, List, [], ◌∷◌, Option, Some, None, map, slice_get}
+use Rattle.std.specs.Prelude.{◌≡◌, ◌⊎◌, ℕ, Bool, true, false, IsTrue, List, [], ◌∷◌, Option, Some, None, map, slice_get}
 use Rattle.nts_model.specs.declared.labels.Sort.{Sort}
 use Rattle.nts_model.specs.declared.labels.Sort.TheVariants as sort
 use Rattle.nts_model.specs.declared.labels.Variance.{Variance}
@@ -10,7 +10,7 @@ use Rattle.nts_model.specs.declared.labels.Leaf.TheVariants as leaf
 use Rattle.nts_model.specs.declared.labels.PredicateHead.TheVariants as predicate
 use Rattle.nts_model.specs.declared.labels.Label.{Label}
 use Rattle.nts_model.specs.declared.labels.Label.TheVariants as label
-use Rattle.nts_model.specs.Terms.Trees.{Tree, empty, more, node, kind_of_label, of_sort, NodeKind, any_label, is_canonical, IsClosed, IsFormed}
+use Rattle.nts_model.specs.Terms.Trees.{Tree, empty, more, node, kind_of_label, of_sort, NodeKind, any_label, is_canonical, is_infer, IsClosed, IsFormed}
 use Rattle.nts_model.specs.Terms.Scoping.{IsWellBound}
 use Rattle.nts_model.specs.Terms.Fitting.{Fits}
 use Rattle.nts_model.specs.Tables.Contents.{Content}
@@ -18,8 +18,9 @@ use Rattle.nts_model.specs.Tables.Recording.{ConstrainsRegion}
 use Rattle.nts_model.specs.Terms.Substitutions.{Occurs, StaysItself, Instance, instance_of, Renaming, rename, IsPlain, filled_under, position_of}
 use Rattle.nts_model.specs.Derivations.Related.{Constraint, pair, unbound}
 use Rattle.nts_model.specs.Lists.{Among}
-use Rattle.nts_model.specs.Derivations.Sequents.{Source, misc, normalize_goal, Premise, Hidden, HasClosedStatements}
+use Rattle.nts_model.specs.Derivations.Sequents.{Source, misc, normalize_goal, Premise, Hidden, Sequent, HasClosedStatements}
 use Rattle.nts_model.specs.Derivations.Rules.{Mode, Equation, related, alike, Application, Meaning, meaning_of, statement_of, IsHandlers}
+use Rattle.nts_model.specs.Derivations.Proofs.{HasProof}
 
 -- why an answer is not certain
 pub data Cause : Type 0 where
@@ -139,17 +140,23 @@ goals_in e None = None
 goals_in e (Some ps) = Some (map (λ p. record { source = misc; environment = e; predicate = p }) ps)
 
 -- what a handler means: its rules, what it offers for a goal in an environment, in order, its coinductive traits, the tables
--- of which its leak check may say that their region constraints can't be met by what a universe names, and what it judges
+-- of which its leak check may say that their region constraints can't be met by what a universe names, what it judges, and what it
+-- may answer of a goal in an environment at once, by its fast path
 pub record Handler : Type 1 where
   pub applies : Mode → Application → Type 0
   pub offers : Mode → Tree → Tree → List Candidate
   pub is_coinductive : ℕ → Bool
   pub leaks : Content → ℕ → Type 0
   pub judges : Judgements
+  pub at_once : Tree → Tree → Certainty → Type 0
 
 -- no table is called leaky
 abbrev pub never_leaks : Content → ℕ → Type 0
 never_leaks c u = ⊥
+
+-- no goal is answered at once
+abbrev pub never_at_once : Tree → Tree → Certainty → Type 0
+never_at_once e g c = ⊥
 
 -- what a handler means where constructors have declared variances
 abbrev pub meaning : Handler → (ℕ → List Variance) → Meaning
@@ -267,6 +274,16 @@ pub record JudgementsAreKept (h : Handler) : Type 0 where
   pub well_formed : (e t : Tree) (ps : List Tree) (ι : Instance) → IsFormed (pair e t) → (let j = h.judges in j.well_formed e t ≡ Some ps → j.well_formed (instance_of ι e) (instance_of ι t) ≡ Some (map (instance_of ι) ps))
   pub goals : (e t : Tree) (ps : List Tree) (p : Tree) → IsFormed (pair e t) → (let j = h.judges in j.well_formed e t ≡ Some ps → Among ps p → IsOver [] e t p × IsEmitted (statement_of p))
 
+-- a goal that rests on nothing
+abbrev pub alone : Tree → Tree → Sequent
+alone e g = record { environment = e; predicate = g; constraints = []; hidden = []; open_goals = [] }
+
+-- what is answered yes at once has a proof that rests on nothing, in every mode; and only goals with a variable of a type, a number
+-- or a const are answered at once that they are in doubt
+pub record FastAnswersHold (h : Handler) : Type 0 where
+  pub proved : (mode : Mode) (variances : ℕ → List Variance) (e g : Tree) → IsAsked e g → h.at_once e g certain → HasProof (meaning h variances) mode (alone e g)
+  pub doubted : (e g : Tree) (why : Cause) (may_be_error : Bool) → IsAsked e g → h.at_once e g (perhaps why may_be_error) → any_label is_infer (pair e g) ≡ true
+
 -- a handler that keeps the laws, which its sets being fixed is one of: they are functions
 pub record IsLawfulHandler (h : Handler) : Type 0 where
   pub commute : CandidatesCommute h
@@ -274,3 +291,4 @@ pub record IsLawfulHandler (h : Handler) : Type 0 where
   pub sources : RulesHaveSources h
   pub keep : CandidatesKeep h
   pub judges : JudgementsAreKept h
+  pub at_once : FastAnswersHold h

@@ -3,7 +3,7 @@ use Rattle.std.proofs.Common.{◌≡◌, ℕ, None, Some, List, [], ◌∷◌, r
 use Rattle.nts_model.specs.Terms.Trees.{Tree}
 use Rattle.nts_model.specs.Lists.{Among}
 use Rattle.nts_model.specs.Derivations.Rules.{Mode, coherence, post_analysis, erased, analysis, borrowck, post_borrowck}
-use Rattle.nts_model.specs.Derivations.Handlers.{Handler, never_leaks, no_judgements, Candidate, certain, never, always, in_storage, in_storage_or_infer, IsLawfulHandler, IsCandidateFor, premise_by, renamed_candidate}
+use Rattle.nts_model.specs.Derivations.Handlers.{Handler, never_leaks, never_at_once, no_judgements, Candidate, certain, never, always, in_storage, in_storage_or_infer, IsLawfulHandler, IsCandidateFor, premise_by, renamed_candidate}
 use Rattle.nts_model.specs.Terms.Substitutions.{Renaming, instance_of, filled_under}
 use Rattle.nts_theory.specs.Erased.Accessing.{Parents, no_parents, stands, runs_again, decides}
 use Rattle.nts_theory.specs.Erased.Erasing.{ErasedAreRules}
@@ -33,7 +33,7 @@ facts (borrowck xs) = fact ∷ []
 facts (post_borrowck xs) = fact ∷ []
 
 abbrev pub blind : Handler
-blind = record { applies = λ mode a. a.goals ≡ []; offers = λ mode e g. facts mode; is_coinductive = λ i. false; leaks = never_leaks; judges = no_judgements }
+blind = record { applies = λ mode a. a.goals ≡ []; offers = λ mode e g. facts mode; is_coinductive = λ i. false; leaks = never_leaks; judges = no_judgements; at_once = never_at_once }
 
 only_fact : (mode : Mode) (c : Candidate) → Among (facts mode) c → c ≡ fact
 only_fact erased c i = absurd i
@@ -76,6 +76,7 @@ blind_lawful =
       sources = record { each = λ mode a q x i. let j : Among [] q = rw x at i in absurd j };
       keep = record { each = λ mode e g c asked offered. subst (IsCandidateFor e g) (sym (only_fact mode c offered)) (fact_keeps e g) };
       judges = record { allows = λ e f ι k a. a; evaluates = λ e c v ι k q. cc q; well_formed = λ e t ps ι k q. cc q; goals = λ e t ps p k q i. absurd (none_given ps q) };
+      at_once = record { proved = λ mode v e g asked x. absurd x; doubted = λ e g c b asked x. absurd x };
     }
 
 pub blind_erased : ErasedAreRules blind

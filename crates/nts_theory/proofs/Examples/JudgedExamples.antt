@@ -15,7 +15,7 @@ use Rattle.nts_model.specs.Terms.Trees.{Tree, empty, more, node}
 use Rattle.nts_model.specs.Terms.Substitutions.{leaf_tree, Instance, instance_of}
 use Rattle.nts_model.specs.Derivations.Related.{Constraint, unbound, value}
 use Rattle.nts_model.specs.Derivations.Rules.{related}
-use Rattle.nts_model.specs.Derivations.Handlers.{Handler, Candidate, Judgements, no_judgements, never_leaks, JudgementsAreKept}
+use Rattle.nts_model.specs.Derivations.Handlers.{Handler, Candidate, Judgements, no_judgements, never_leaks, never_at_once, JudgementsAreKept}
 use Rattle.nts_theory.specs.Affirming.{evaluatable, has_type, is_well_formed, SaysOfTwo, outlives_it, is_its_type, plain_way, goals_there, IsOwnWay, by_type, by_goals, HasOwnWay, IsAffirmed, feature_allowed, has_objects, named_const, value_const, error_const, evaluated_const, SaysAffirmed, IsDenied}
 
 -- of the first trait alone objects can be made, and nothing else is so
@@ -92,7 +92,7 @@ objects_say_nothing i x (outlives_it o) = elim o [ ]
 
 -- a handler that judges nothing keeps the law; one that gives a const the same value whatever stands for its parameters does not
 abbrev judging : Judgements → Handler
-judging j = record { applies = λ mode a. ⊥; offers = λ mode e g. []; is_coinductive = λ i. false; leaks = never_leaks; judges = j }
+judging j = record { applies = λ mode a. ⊥; offers = λ mode e g. []; is_coinductive = λ i. false; leaks = never_leaks; judges = j; at_once = never_at_once }
 
 nothing_given : (ps : List Tree) → None ≡ Some ps → ⊥
 nothing_given ps e = cc e

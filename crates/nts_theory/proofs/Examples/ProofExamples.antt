@@ -14,7 +14,7 @@ use Rattle.nts_model.specs.Derivations.Related.{Constraint, constructor, argumen
 use Rattle.nts_model.specs.Lists.{Among}
 use Rattle.nts_model.specs.Derivations.Sequents.{coinductive, impl_where_bound, Premise, Hidden, Sequent, IsOfTerms, IsInstance}
 use Rattle.nts_model.specs.Derivations.Rules.{Mode, coherence, post_analysis, GoalKind, coinductive_trait, normalization, other_goal, proof_kind, statement_of, statement_kind, goal_kind, IsCoinductiveStep, Application, Meaning, meaning_of, Replaced, chosen, kept_empty, kept_more, kept_node, Stands, opened, IsBuiltIn, region_lives, type_lives, subtyped, coerced, const_typed, error_typed, allowed, dyn_compatible, formed, constant_evaluated, value_evaluated, error_evaluated, alias_evaluated, aliases_relate, IsPlainRule, IsRule, bound}
-use Rattle.nts_model.specs.Derivations.Handlers.{never_leaks, no_judgements, meaning}
+use Rattle.nts_model.specs.Derivations.Handlers.{never_leaks, never_at_once, no_judgements, meaning}
 use Rattle.nts_model.specs.Derivations.Proofs.{Node, RestsOn, IsNormalization, IsSoundStep, IsRankedProof, HasProof, Derives, by_rule, by_cycle, all_derived, by_assumption}
 use Rattle.nts_model.proofs.Terms.Composing.{itself, instance_of-itself, instance_kinds}
 use Rattle.nts_theory.proofs.Derivations.ClosedStatements.{closed_unbound}
@@ -67,7 +67,7 @@ abbrev pub fact_clause : Application
 fact_clause = clause_under [] []
 
 abbrev pub by_clause : Application → (ℕ → Bool) → Meaning
-by_clause a is_coinductive = meaning (record { applies = λ mode x. x ≡ a; offers = λ mode e g. []; is_coinductive = is_coinductive; leaks = never_leaks; judges = no_judgements }) (λ i. [])
+by_clause a is_coinductive = meaning (record { applies = λ mode x. x ≡ a; offers = λ mode e g. []; is_coinductive = is_coinductive; leaks = never_leaks; judges = no_judgements; at_once = never_at_once }) (λ i. [])
 
 abbrev no_clauses : Meaning
 no_clauses = meaning_of (λ mode x. ⊥) (λ i. false) (λ i. [])

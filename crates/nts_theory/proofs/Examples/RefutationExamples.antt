@@ -24,7 +24,7 @@ use Rattle.nts_model.specs.Refutation.Opening.{placeholder_in}
 use Rattle.nts_model.proofs.Tables.Naming.{fresh_in}
 use Rattle.nts_model.specs.Derivations.Rules.{Mode, coherence, Application, Meaning, coinductive_trait, normalization, other_goal, goal_kind, strictly, normalization_goal, opened, IsHandlers, IsRule, bound}
 use Rattle.nts_model.specs.Derivations.Proofs.{Node, Step, IsSoundStep, IsJustified}
-use Rattle.nts_model.specs.Derivations.Handlers.{Handler, never_leaks, no_judgements, meaning}
+use Rattle.nts_model.specs.Derivations.Handlers.{Handler, never_leaks, never_at_once, no_judgements, meaning}
 use Rattle.nts_model.specs.Canonical.Inputs.{is_static}
 use Rattle.nts_model.specs.Refutation.Containing.{Truth, IsTrueBy, IsGroundLabel}
 use Rattle.nts_variance_model.specs.Variances.SettledProofs.{IsSettledIn, GrantsAt, HidesAt, RestsOnAt, FollowsSettled, IsReached, start, onward}
@@ -45,10 +45,10 @@ list_type = constructor 1 empty
 
 -- a handler with one rule, and one without rules. What they offer plays no part here
 abbrev pub with_rule : Application → (ℕ → Bool) → Handler
-with_rule a f = record { applies = λ mode x. x ≡ a; offers = λ mode e g. []; is_coinductive = f; leaks = never_leaks; judges = no_judgements }
+with_rule a f = record { applies = λ mode x. x ≡ a; offers = λ mode e g. []; is_coinductive = f; leaks = never_leaks; judges = no_judgements; at_once = never_at_once }
 
 abbrev pub without_rules : Handler
-without_rules = record { applies = λ mode x. ⊥; offers = λ mode e g. []; is_coinductive = λ i. false; leaks = never_leaks; judges = no_judgements }
+without_rules = record { applies = λ mode x. ⊥; offers = λ mode e g. []; is_coinductive = λ i. false; leaks = never_leaks; judges = no_judgements; at_once = never_at_once }
 
 -- impl Auto(List) where these constraints hold, and without constraints
 abbrev pub fact_under : List Constraint → Handler

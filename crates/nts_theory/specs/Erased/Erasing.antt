@@ -69,4 +69,4 @@ standing_candidates proof [] = []
 standing_candidates proof (c ∷ cs) = if stands_for proof c.accesses then without_access c ∷ standing_candidates proof cs else standing_candidates proof cs
 
 abbrev pub standing : Handler → Handler
-standing h = record { applies = h.applies; offers = λ mode e g. standing_candidates mode (h.offers erased e g); is_coinductive = h.is_coinductive; leaks = h.leaks; judges = h.judges }
+standing h = record { applies = h.applies; offers = λ mode e g. standing_candidates mode (h.offers erased e g); is_coinductive = h.is_coinductive; leaks = h.leaks; judges = h.judges; at_once = h.at_once }

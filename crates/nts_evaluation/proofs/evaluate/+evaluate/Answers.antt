@@ -1,4 +1,4 @@
-use Rattle.std.proofs.Common.{◌≡◌, inl, inr, Err, Ok, arith, rules, ◌+◌, ◌≤◌, map, length, take, get_or, refl, ap, sym, ◌∙◌, subst, length-append, [], ◌∷◌, true, false, ◌++◌}
+use Rattle.std.proofs.Common.{◌≡◌, inl, inr, ⊎_elim, Err, Ok, arith, rules, ◌+◌, ◌≤◌, map, length, take, get_or, refl, ap, sym, ◌∙◌, subst, length-append, [], ◌∷◌, true, false, ◌++◌}
 use Rattle.std.specs.Prelude.{is_some, IfSome}
 use Rattle.std.proofs.lemmas.List.{take_all, take_more}
 use Rattle.nts_model.specs.Lists.{Among}
@@ -72,7 +72,7 @@ use Rattle.nts_meaning.proofs.Searching.{nothing_stands}
 use Rattle.nts_evaluation.proofs.FactQueries.{fact_query}
 use Rattle.nts_evaluation.proofs.FactTrials.{fact_asked}
 use Rattle.nts_evaluation.proofs.DecidedTrials.{refused_no}
-use Rattle.nts_evaluation.proofs.DecidedGoals.{is_opened, is_asked_here}
+use Rattle.nts_evaluation.proofs.DecidedGoals.{is_opened, is_asked_here, outlives_in, states_own, judged_not_region, sure_yes}
 use Rattle.nts_evaluation.proofs.DecidedRounds.{stands_high, as_query, marked_again}
 use Rattle.nts_evaluation.proofs.DecidedSteps.{IsStepSoFar, next_goal, at_end, step_decided}
 use Rattle.nts_trying.specs.Stepping.{left_after}
@@ -151,8 +151,10 @@ compute_goal-returns-in-Unanswered g t c =
       told = λ s tells. nothing_through c.requires.posed (rw c.in-Unanswered.ensures.0 at o.opened) o.grows.extends (g.H.GoalHandler.handler s.base c.args.handler.now) c.args.table.now.mode c.args.values.now _ c.in_ok-response-in-Unanswered.response.value trees (ap is_yes r.certainty) plain;
       refuted = search rules;
       decided = λ s n b d can.
-          absurd (c.in-Unanswered.ensures.1
-          (is_asked_here (g.H.GoalHandler.handler s.base c.args.handler.now) (g.met.H.GoalHandler.lawful s.base c.args.handler.now s.formed s.is_ready) (mode_of c.args.table.now.mode) n b c.args.goal c.args.values.now d.0 d.1 c.requires.posed c.terms_are_formed.ensures o.grows.extends _ (rw c.in-Unanswered.ensures.0 at o.opened) (rw c.in-Unanswered.ensures.0 at o.posed)));
+          ⊎_elim
+          (λ asked. absurd (c.in-Unanswered.ensures.1 asked))
+          (λ w. absurd (⊎_elim (λ y. c.in-Unanswered.ensures.2 _ (outlives_in y.says)) (λ y. c.in-Unanswered.ensures.3 (states_own y)) w))
+          (is_asked_here (g.H.GoalHandler.handler s.base c.args.handler.now) (g.met.H.GoalHandler.lawful s.base c.args.handler.now s.formed s.is_ready) (mode_of c.args.table.now.mode) n b c.args.goal c.args.values.now d.0 d.1 c.requires.posed c.terms_are_formed.ensures o.grows.extends _ (rw c.in-Unanswered.ensures.0 at o.opened) (rw c.in-Unanswered.ensures.0 at o.posed));
       facts = λ s tells f can.
           let settled = f.settled in
           absurd (c.in-Unanswered.ensures.1 (fact_asked (g.H.GoalHandler.handler s.base c.args.handler.now) (mode_of c.args.table.now.mode) c.args.cx.now.nodes c.enter_forall.new.cx.nodes c.args.table.now c.enter_forall.new.table c.args.goal _ (rw c.in-Unanswered.ensures.0 at o.opened) settled c.requires.posed (rw c.in-Unanswered.ensures.0 at o.posed) o.grows.extends));
@@ -200,8 +202,10 @@ compute_goal-returns-in-Outlives g t c =
       told = λ s tells. outlives_told c.requires.posed opened o.grows.extends c.in-Outlives.outlives says (g.H.GoalHandler.handler s.base c.args.handler.now) c.args.table.now.mode c.args.values.now _ c.in_ok-response-in-Outlives.response.value trees r.told;
       refuted = search rules;
       decided = λ s n b d can.
-          let asked = is_asked_here (g.H.GoalHandler.handler s.base c.args.handler.now) (g.met.H.GoalHandler.lawful s.base c.args.handler.now s.formed s.is_ready) (mode_of c.args.table.now.mode) n b c.args.goal c.args.values.now d.0 d.1 c.requires.posed c.terms_are_formed.ensures o.grows.extends _ opened posed in
-          absurd (trait_outlives_nothing _ _ (let z = asked.trait_goal in z.statement) (let z = says.is in z.says));
+          ⊎_elim
+          (λ asked. absurd (trait_outlives_nothing _ _ (let z = asked.trait_goal in z.statement) (let z = says.is in z.says)))
+          (λ w. ⊎_elim (λ y. record { answer = (y.yes, sure_yes _ (let z = r.told in z.sure)); search = same_search _ }) (λ y. absurd (judged_not_region _ (let z = says.is in z.says) y)) w)
+          (is_asked_here (g.H.GoalHandler.handler s.base c.args.handler.now) (g.met.H.GoalHandler.lawful s.base c.args.handler.now s.formed s.is_ready) (mode_of c.args.table.now.mode) n b c.args.goal c.args.values.now d.0 d.1 c.requires.posed c.terms_are_formed.ensures o.grows.extends _ opened posed);
       facts = λ s tells f can.
           let settled = f.settled in
           let asked = fact_asked (g.H.GoalHandler.handler s.base c.args.handler.now) (mode_of c.args.table.now.mode) c.args.cx.now.nodes c.enter_forall.new.cx.nodes c.args.table.now c.enter_forall.new.table c.args.goal _ opened settled c.requires.posed posed o.grows.extends in
@@ -256,14 +260,17 @@ evaluate_own-returns-in-Way = own.evaluate_own-returns-in-Way
 pub evaluate_added-evaluate_goal-requires : goal.evaluate_added-evaluate_goal-requires
 evaluate_added-evaluate_goal-requires = steps.evaluate_added-evaluate_goal-requires
 
+pub evaluate_added-returns-in_err-asked : goal.evaluate_added-returns-in_err-asked
+evaluate_added-returns-in_err-asked = steps.evaluate_added-returns-in_err-asked
+
+pub evaluate_added-returns-in-Some : goal.evaluate_added-returns-in-Some
+evaluate_added-returns-in-Some = steps.evaluate_added-returns-in-Some
+
 pub evaluate_added-returns-in-None : goal.evaluate_added-returns-in-None
 evaluate_added-returns-in-None = steps.evaluate_added-returns-in-None
 
-pub evaluate_added-returns-in_err-asked-in-Some : goal.evaluate_added-returns-in_err-asked-in-Some
-evaluate_added-returns-in_err-asked-in-Some = steps.evaluate_added-returns-in_err-asked-in-Some
-
-pub evaluate_added-returns-in_ok-asked-in-Some : goal.evaluate_added-returns-in_ok-asked-in-Some
-evaluate_added-returns-in_ok-asked-in-Some = steps.evaluate_added-returns-in_ok-asked-in-Some
+pub evaluate_added-returns-in-Some-next : goal.evaluate_added-returns-in-Some-next
+evaluate_added-returns-in-Some-next = steps.evaluate_added-returns-in-Some-next
 
 pub evaluate_candidates-loop-candidate-init : goal.evaluate_candidates-loop-candidate-init
 evaluate_candidates-loop-candidate-init = candidates.evaluate_candidates-loop-candidate-init
@@ -658,13 +665,13 @@ search-returns g t c =
         | inr x ↦ inr (record { head = x.head; below = x.below; same = x.same; path = x.path; elsewhere = x.elsewhere })
       ];
       decided = λ s n b d can.
-          let x = e.decided s n b d (record { deep = can.deep; above = can.above; unmarked = refl; steps = can.steps; rounds = can.rounds; tight = can.tight }) in
+          let x = e.decided s n b d (record { deep = can.deep; above = can.above; unmarked = refl; steps = can.steps; rounds = can.rounds; tight = can.tight; fair = can.fair }) in
           record {
             answer = x.answer;
             search = marked_again _ _ _ _ c.evaluate_rounds-answer.result x.search refl refl refl (λ m. elim c.if-graph.branch [ search-then-graph w ↦ absurd (let yes = w.if-graph.true in cc (m, yes)) | search-else-graph w ↦ w.graph-is ]);
           };
       facts = λ s tells f none can.
-          let x = e.facts s tells f none (record { deep = can.deep; above = can.above; unmarked = refl; steps = can.steps; rounds = can.rounds; tight = can.tight }) in
+          let x = e.facts s tells f none (record { deep = can.deep; above = can.above; unmarked = refl; steps = can.steps; rounds = can.rounds; tight = can.tight; fair = can.fair }) in
           record {
             answer = x.answer;
             search = marked_again _ _ _ _ c.evaluate_rounds-answer.result x.search refl refl refl (λ m. elim c.if-graph.branch [ search-then-graph w ↦ absurd (let yes = w.if-graph.true in cc (m, yes)) | search-else-graph w ↦ w.graph-is ]);

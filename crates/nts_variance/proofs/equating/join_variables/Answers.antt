@@ -20,7 +20,7 @@ returns-then-made-clause-taken c = λ declared.
       tt,
       takes_joined declared ts c.relate_variables.new.nodes e c.relate_variables.new.table.entries p.variance a b c.args.x c.args.y c.requires.lawful m.0.sound known.left.knows known.right.knows c.requires.left c.requires.right (meet_as_one declared ts e p.variance a b c.args.x c.args.y c.requires.left c.requires.right c.requires.one) m.1,
       tt,
-      λ d f. tt,
+      λ d le f. tt,
     )
 
 pub returns-then-made-clause-paid : goal.returns-then-made-clause-paid
@@ -56,4 +56,4 @@ returns-else-made-clause-paid c =
     rw (same.0, same.1) (KeepsKnowing-refl (content_of c.args.nodes.now c.args.table.now.entries))
 
 pub returns-then-made-clause-due : goal.returns-then-made-clause-due
-returns-then-made-clause-due c = rw c.new.ensures.items (λ d. tt)
+returns-then-made-clause-due c = rw c.new.ensures.items tt

@@ -1,4 +1,4 @@
-use Rattle.std.proofs.Common.{rules, ◌≡◌, ◌++◌, ◌∷◌, [], refl}
+use Rattle.std.proofs.Common.{rules, ◌≡◌, ◌++◌, ◌∷◌, [], refl, arith}
 use Rattle.nts_store.proofs.Growing.{Extends-trans}
 use Rattle.nts_terms.specs.Signatures.{variances_in}
 use Rattle.nts_unify.specs.Reading.{content_of}
@@ -19,7 +19,7 @@ loop-pair-init c =
       changes = s.changes;
       met = refl;
       invariant = tt;
-      due = λ b h. (let l = s.left in record { pairs = tt; known = l.goals; due = l.due b h });
+      due = λ b le h. (let l = s.left in let more = l.takes.later.more in record { before = omega (arith, le, more); pairs = tt; known = l.goals; due = l.due b le h });
       going = call_again (variances_in c.args.declarations.now) c.args.nodes.now c.relate_along.new.nodes c.args.table.now.entries c.relate_along.new.table.entries c.args.root left.equal.items left.goals.items c.requires.lawful.sound s.lawful s.left;
     })
 
@@ -59,7 +59,7 @@ loop-pair-preserved c =
       changes = KeepsHidden-trans i.changes s.changes;
       met = c.clear.ensures.empty;
       invariant = s.step.invariant i.invariant;
-      due = λ b h. s.due b (i.due b h);
+      due = λ b le h. s.due b (i.due b le h);
       going = call_forgets declared c.args.nodes.now c.step.new.nodes c.args.table.now.entries c.step.new.table.entries c.args.root _ _ _ _ there;
     }
 
@@ -72,6 +72,6 @@ returns-clause-related c =
     let going = rw none at (rw same at i.going) in
     let all = c.in-Ok-run_all.ensures in
     let last = all.all.call c.args.nodes.now c.args.table.now.entries c.args.root [] (rw i.met going) in
-    let due : LeavesDue (content_of c.run_all.new.nodes c.run_all.new.table.entries) (pair_at c.args.nodes.now c.args.root) (pairs_at c.run_all.new.nodes c.run_all.new.call.goals.items) = λ b h. (let d = all.due b (i.due b h) in d.due) in
+    let due : LeavesDue (content_of c.args.nodes.now c.args.table.now.entries) (content_of c.run_all.new.nodes c.run_all.new.table.entries) (pair_at c.args.nodes.now c.args.root) (pairs_at c.run_all.new.nodes c.run_all.new.call.goals.items) = λ b le h. (let d = all.due b (i.due b le h) in d.due) in
     let end = call_end declared c.args.nodes.now c.run_all.new.nodes c.args.table.now.entries c.run_all.new.table.entries c.args.root [] _ [] _ last (λ j. []) due in
     record { known = end.goals; are_goals = end.are_goals; takes = end.takes; due = end.due }

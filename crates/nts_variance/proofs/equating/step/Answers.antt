@@ -5,6 +5,8 @@ use Rattle.nts_store.proofs.Growing.{Extends-refl}
 use Rattle.nts_unify.specs.Reading.{content_of}
 use Rattle.nts_variance.proofs.Calls.{pair_known}
 use Rattle.nts_variance.proofs.DueCalls.{due_on}
+use Rattle.nts_variance.proofs.Dues.{aliases_due}
+use Rattle.nts_variance.specs.Terms.{pairs_at}
 use Rattle.nts_variance.proofs.Growing.{grown_refl}
 use Rattle.nts_terms.specs.Signatures.{variances_in}
 use Rattle.nts_unify.proofs.Tests.{is_true, is_false}
@@ -130,7 +132,7 @@ returns-in_ok-extend_from_slice-in-Ok-Bound-clause-due c = λ b g.
     let t = rw c.in-Ok-Bound.field-0-is at c.in-Ok-Bound.ensures.taken in
     let d = rw c.in-Ok-Bound.field-0-is at c.in-Ok-Bound.ensures.due in
     let items : c.extend_from_slice.new.self.items ≡ call.goals.items ++ c.in-Ok-Bound.goals.items = c.in_ok-extend_from_slice-in-Ok-Bound.ensures.items ∙ ap (λ x. call.goals.items ++ x) c.deref.ensures.value in
-    due_on b c.args.nodes.now c.take_equal.new.nodes c.args.table.now.entries c.take_equal.new.table.entries [] call.goals.items c.in-Ok-Bound.goals.items c.extend_from_slice.new.self.items tt c.in-Ok-Bound.ensures.extends t.2.later t.2.continues g t.1 (d b) items
+    due_on b c.args.nodes.now c.take_equal.new.nodes c.args.table.now.entries c.take_equal.new.table.entries [] call.goals.items c.in-Ok-Bound.goals.items c.extend_from_slice.new.self.items tt c.in-Ok-Bound.ensures.extends t.2.later t.2.continues g t.1 (aliases_due b (content_of c.take_equal.new.nodes c.take_equal.new.table.entries) (pairs_at c.take_equal.new.nodes c.in-Ok-Bound.goals.items) d) items
 
 pub returns-then-not-branch-clause-due : goal.returns-then-not-branch-clause-due
 returns-then-not-branch-clause-due c = λ b g. (let t = rw c.in-Ok-Owed.field-0-is at c.in-Ok-Owed.ensures.taken in rw (t.0, t.1) g)

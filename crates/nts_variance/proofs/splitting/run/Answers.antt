@@ -13,7 +13,7 @@ loop-pair-init c =
     record {
       extends = Extends-refl c.args.nodes.now;
       changes = KeepsHidden-refl _;
-      due = λ b f. rw (items, c.new-4.ensures.items) (record { pairs = (f, tt); known = tt; due = tt });
+      due = λ b le f. rw (items, c.new-4.ensures.items) (record { before = le; pairs = (f, tt); known = tt; due = tt });
       going = rw (c.new-2.ensures.empty, c.new-3.ensures.items, c.new-4.ensures.items) start;
     }
 
@@ -25,7 +25,7 @@ loop-pair-preserved c =
     record {
       extends = Extends-trans i.extends s.extends;
       changes = KeepsHidden-trans i.changes s.changes;
-      due = λ b f. s.due b (rw is at (i.due b f));
+      due = λ b le f. s.due b (rw is at (i.due b le f));
       going = s.call c.args.nodes.now c.args.table.now.entries c.args.root (rw is at i.going);
     }
 
@@ -39,4 +39,4 @@ pub returns-clause-left : goal.returns-clause-left
 returns-clause-left c =
     let i = c.loop-pair.invariant in
     let none : c.loop-pair.call.pairs.items ≡ [] = search rules in
-    call_end (variances_in c.args.declarations.now) c.args.nodes.now c.loop-pair.nodes c.args.table.now.entries c.loop-pair.table.entries c.args.root _ _ _ _ i.going none (λ b f. (let h = i.due b f in h.due))
+    call_end (variances_in c.args.declarations.now) c.args.nodes.now c.loop-pair.nodes c.args.table.now.entries c.loop-pair.table.entries c.args.root _ _ _ _ i.going none (λ b le f. (let h = i.due b le f in h.due))

@@ -153,7 +153,7 @@ returns-in_ok-push-in-Ok-Owed-clause-due c = λ b h.
     let call = c.args.call.now in
     let pairs = pairs_front ts (content_of ts e) call.pairs.items q c.requires.pairs in
     let front = due_front b ts e call.pairs.items q call.goals.items h in
-    rw (t.0, t.1) (due_on b ts ts e e call.pairs.items call.goals.items (q ∷ []) c.push-in-Ok-Owed.new.self.items pairs.0 (Extends-refl ts) (grown_refl (content_of ts e)) (Continues-refl (content_of ts e) c.requires.lawful.sound) front.1 (pair_known ts (content_of ts e) q pairs.1) (t.3 b front.0) c.in_ok-push-in-Ok-Owed.ensures.items)
+    rw (t.0, t.1) (due_on b ts ts e e call.pairs.items call.goals.items (q ∷ []) c.push-in-Ok-Owed.new.self.items pairs.0 (Extends-refl ts) (grown_refl (content_of ts e)) (Continues-refl (content_of ts e) c.requires.lawful.sound) front.1 (pair_known ts (content_of ts e) q pairs.1) (t.3 b h.before front.0) c.in_ok-push-in-Ok-Owed.ensures.items)
 
 pub returns-in_ok-extend_from_slice-in-Ok-Bound-clause-due : goal.returns-in_ok-extend_from_slice-in-Ok-Bound-clause-due
 returns-in_ok-extend_from_slice-in-Ok-Bound-clause-due c = λ b h.
@@ -164,7 +164,7 @@ returns-in_ok-extend_from_slice-in-Ok-Bound-clause-due c = λ b h.
     let items : c.extend_from_slice.new.self.items ≡ call.goals.items ++ c.in-Ok-Bound.goals.items = c.in_ok-extend_from_slice-in-Ok-Bound.ensures.items ∙ ap (λ x. call.goals.items ++ x) c.deref.ensures.value in
     let left = (pairs_front ts (content_of ts e) call.pairs.items c.args.pair c.requires.pairs).0 in
     let front = due_front b ts e call.pairs.items c.args.pair call.goals.items h in
-    due_on b ts c.take.new.nodes e c.take.new.table.entries call.pairs.items call.goals.items c.in-Ok-Bound.goals.items c.extend_from_slice.new.self.items left c.in-Ok-Bound.ensures.extends t.2.later t.2.continues front.1 t.1 (t.4 b front.0) items
+    due_on b ts c.take.new.nodes e c.take.new.table.entries call.pairs.items call.goals.items c.in-Ok-Bound.goals.items c.extend_from_slice.new.self.items left c.in-Ok-Bound.ensures.extends t.2.later t.2.continues front.1 t.1 (t.4 b h.before front.0) items
 
 pub returns-then-not-branch-clause-due : goal.returns-then-not-branch-clause-due
 returns-then-not-branch-clause-due c = λ b h.

@@ -55,7 +55,7 @@ use Rattle.nts_meaning.specs.Answering.{IfAnswered, told_in}
 use Rattle.nts_response.specs.Forms.{response_at}
 use Rattle.nts_theory.specs.Telling.{IsResponseOf}
 use Rattle.nts_evaluation.proofs.DecidedTrials.{its_decided}
-use Rattle.nts_evaluation.proofs.DecidedGoals.{opened_decided, kept_settled}
+use Rattle.nts_evaluation.proofs.DecidedGoals.{opened_decided, by_offers, kept_settled}
 use Rattle.nts_evaluation.proofs.evaluate.+evaluate.Goals as goal
 
 pub compute_goal-evaluate_candidates-response-requires : goal.compute_goal-evaluate_candidates-response-requires
@@ -150,7 +150,7 @@ compute_goal-returns g t c =
           let law = g.met.H.GoalHandler.lawful s.base c.args.handler.now s.formed s.is_ready in
           let same = g.met.H.GoalHandler.handler_kept s.base c.relevant_candidates.new.cx.nodes c.args.handler.now s.is_ready (Extends-trans s.extends up) in
           let offered = subst (λ os. LeavesOut os (candidates_of c.relevant_candidates.new.cx.nodes c.in_ok-candidates.candidates.items)) (ap (λ m. (g.H.GoalHandler.handler c.relevant_candidates.new.cx.nodes c.args.handler.now).offers (mode_of m) (tree_at c.relevant_candidates.new.cx.nodes c.in-Candidates.opened.param_env.node) (tree_at c.relevant_candidates.new.cx.nodes c.in-Candidates.opened.predicate.node)) c.typing_mode.ensures ∙ same.offers _ _ _) e.offered in
-          let x = opened_decided h law (mode_of c.args.table.now.mode) n b c.args.goal c.args.values.now d.0 d.1 c.requires.posed c.terms_are_formed.ensures o.grows.extends c.in-Candidates.opened opened posed in
+          let x = by_offers c.in-Candidates.ensures.1 (opened_decided h law (mode_of c.args.table.now.mode) n b c.args.goal c.args.values.now d.0 d.1 c.requires.posed c.terms_are_formed.ensures o.grows.extends c.in-Candidates.opened opened posed) in
           let environment = e.grows.extends.kept c.in-Candidates.opened.param_env.node posed.holds.env.within in
           let predicate = e.grows.extends.kept c.in-Candidates.opened.predicate.node posed.holds.predicate.within in
           let settled = kept_settled h c.args.table.now.mode n b c.enter_forall.new.cx.nodes c.in-Candidates.opened c.in_ok-candidates.candidates.items here environment predicate x (rw o.goes.mode at offered) in

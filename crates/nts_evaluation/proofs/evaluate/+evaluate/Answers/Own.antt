@@ -1,5 +1,5 @@
 -- Goals of the engine's own kinds.
-use Rattle.std.proofs.Common.{inl, inr, arith, rules, refl, ap, subst}
+use Rattle.std.proofs.Common.{inl, inr, ⊎_elim, arith, rules, refl, ap, subst}
 use Rattle.nts_model.specs.Derivations.Handlers.{meaning}
 use Rattle.nts_model.specs.Derivations.Rules.{statement_of}
 use Rattle.nts_model.specs.Searching.Stacks.{HoldsCandidateFrom}
@@ -28,10 +28,11 @@ use Rattle.nts_trying.proofs.Opened.{labels_through}
 use Rattle.nts_trying.proofs.Owning.{own_is_no_trait}
 use Rattle.nts_trying.proofs.Outcomes.{found_earlier}
 use Rattle.nts_trying.proofs.Probed.{found_in, doubtful}
-use Rattle.nts_evaluation.proofs.DecidedGoals.{is_asked_here}
+use Rattle.nts_evaluation.proofs.DecidedGoals.{is_asked_here, region_not_own, says_judged}
+use Rattle.nts_evaluation.proofs.Deciding.{decides_grown, same_search}
 use Rattle.nts_evaluation.proofs.FactTrials.{fact_asked}
 use Rattle.nts_evaluation.proofs.Failing.{own_failed}
-use Rattle.nts_evaluation.proofs.OwnGoals.{own_normalizes_none, posed_plain, judged_before, own_holds, own_says, own_none}
+use Rattle.nts_evaluation.proofs.OwnGoals.{own_normalizes_none, posed_plain, judged_before, judged_yes, judged_no, judged_unknown, judged_way, own_holds, own_says, own_none}
 use Rattle.nts_evaluation.proofs.evaluate.+evaluate.Goals as goal
 
 pub compute_goal-evaluate_own-response-requires : goal.compute_goal-evaluate_own-response-requires
@@ -90,8 +91,12 @@ compute_goal-returns-in-Own g t c =
           let h = g.H.GoalHandler.handler s.base c.args.handler.now in
           own_none c.requires.posed opened o.grows.extends posed c.in-Own.own says c.terms_are_formed.ensures h c.args.table.now.mode c.args.values.now (rw o.goes.mode at (r.refuted (Since-later o.grows s) (tell_grown h c.args.depth c.requires.search o.grows tells) n));
       decided = λ s n b d can.
-          let asked = is_asked_here (g.H.GoalHandler.handler s.base c.args.handler.now) (g.met.H.GoalHandler.lawful s.base c.args.handler.now s.formed s.is_ready) (mode_of c.args.table.now.mode) n b c.args.goal c.args.values.now d.0 d.1 c.requires.posed c.terms_are_formed.ensures o.grows.extends _ opened posed in
-          absurd (own_is_no_trait _ _ c.in-Own.own says (let z = asked.trait_goal in z.statement));
+          ⊎_elim
+          (λ asked. absurd (own_is_no_trait _ _ c.in-Own.own says (let z = asked.trait_goal in z.statement)))
+          (λ w. ⊎_elim
+          (λ y. absurd (region_not_own says y.says))
+          (λ y. r.decided (Since-later o.grows s) n b (says_judged _ _ _ b y) (decides_grown c.requires.search o.grows can)) w)
+          (is_asked_here (g.H.GoalHandler.handler s.base c.args.handler.now) (g.met.H.GoalHandler.lawful s.base c.args.handler.now s.formed s.is_ready) (mode_of c.args.table.now.mode) n b c.args.goal c.args.values.now d.0 d.1 c.requires.posed c.terms_are_formed.ensures o.grows.extends _ opened posed);
       facts = λ s tells f can.
           let settled = f.settled in
           let asked = fact_asked (g.H.GoalHandler.handler s.base c.args.handler.now) (mode_of c.args.table.now.mode) c.args.cx.now.nodes c.enter_forall.new.cx.nodes c.args.table.now c.enter_forall.new.table c.args.goal _ opened settled c.requires.posed posed o.grows.extends in
@@ -168,6 +173,9 @@ evaluate_own-returns-in-No g t c =
       refuted = λ s tells n.
           let same = g.met.H.GoalHandler.handler_kept s.base c.judge.new.cx.nodes c.args.handler.now s.is_ready (Extends-trans s.extends j.grows.extends) in
           inl (judged_before (λ z e p. IsDenied z (statement_of p)) same j.grows.extends c.requires.posed.holds known);
+      decided = λ s n b d can.
+          let same = g.met.H.GoalHandler.handler_kept s.base c.judge.new.cx.nodes c.args.handler.now s.is_ready (Extends-trans s.extends j.grows.extends) in
+          record { answer = judged_no same j.grows.extends c.requires.posed.holds _ j.exact b c.in-No.is d; search = same_search _ };
     }
 
 pub evaluate_own-returns-in_ok-response-in-Yes : goal.evaluate_own-returns-in_ok-response-in-Yes
@@ -192,6 +200,9 @@ evaluate_own-returns-in_ok-response-in-Yes g t c =
         subst (λ z. IsResponseOf z (trees_of c.args.cx.now.nodes c.args.values.now) (response_at c.boxed_response.new.cx.nodes x)) here (subst (λ z. IsResponseOf (content_of c.judge.new.cx.nodes c.args.table.now.entries) z (response_at c.boxed_response.new.cx.nodes x)) trees says),
       );
       refuted = search rules;
+      decided = λ s n b d can.
+          let same = g.met.H.GoalHandler.handler_kept s.base c.judge.new.cx.nodes c.args.handler.now s.is_ready (Extends-trans s.extends j.grows.extends) in
+          record { answer = (judged_yes same up holds _ j.exact b c.in-Yes.is d, r.certainty); search = same_search _ };
     }
 
 pub evaluate_own-returns-in_ok-response-in-Unknown : goal.evaluate_own-returns-in_ok-response-in-Unknown
@@ -209,6 +220,9 @@ evaluate_own-returns-in_ok-response-in-Unknown g t c =
       found = found_in x _ (Goes-extends c.requires.posed.table up) c.terms_are_formed.ensures r.grows.extends (only_same _ up c.requires.posed.table refl) c.requires.values r.certainty r.says r.holds (record { no_hidden = r.nothing.0; no_goals = r.nothing.1 }) (λ y. absurd (doubtful _ y));
       told = λ s tells. inr (inr (ap is_yes r.certainty, subst (λ z. IsPlainResponse z (trees_of c.args.cx.now.nodes c.args.values.now) (response_at c.boxed_response-in-Unknown.new.cx.nodes x)) here (subst (λ z. IsPlainResponse (content_of c.judge.new.cx.nodes c.args.table.now.entries) z (response_at c.boxed_response-in-Unknown.new.cx.nodes x)) trees plain)));
       refuted = search rules;
+      decided = λ s n b d can.
+          let same = g.met.H.GoalHandler.handler_kept s.base c.judge.new.cx.nodes c.args.handler.now s.is_ready (Extends-trans s.extends j.grows.extends) in
+          absurd (judged_unknown same up c.requires.posed.holds _ j.exact b c.in-Unknown.is d);
     }
 
 pub evaluate_own-returns-in-Way : goal.evaluate_own-returns-in-Way
@@ -248,4 +262,7 @@ evaluate_own-returns-in-Way g t c =
           let h = g.H.GoalHandler.handler s.base c.args.handler.now in
           let same = g.met.H.GoalHandler.handler_kept s.base c.judge.new.cx.nodes c.args.handler.now s.is_ready (Extends-trans s.extends up) in
           inr (x, judged_before (λ z e p. HasOwnWay z e p x) same up holds known.0, rw (here, c.deref.ensures) at (r.refuted (Since-later j.grows s) (tell_grown h c.args.depth c.requires.search j.grows tells) n));
+      decided = λ s n b d can.
+          let same = g.met.H.GoalHandler.handler_kept s.base c.judge.new.cx.nodes c.args.handler.now s.is_ready (Extends-trans s.extends j.grows.extends) in
+          absurd (judged_way same up holds _ j.exact b _ c.in-Way.is d);
     }

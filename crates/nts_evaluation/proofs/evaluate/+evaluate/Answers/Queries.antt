@@ -189,7 +189,7 @@ evaluate_round-returns g t c =
           let here = form_later a b input k.grows.extends over in
           let above = pushed_above h law b d.0 j c.args.graph.now c.push_query.new.graph own c.in_ok-push_query.ensures.pushed.1 up.above (rw here d.2) in
           let rest = c.push_query.ensures.rest in
-          let ready : CanDecide h c.query_table.new.cx c.push_query.new.graph d.0 c.args.depth = record { deep = up.deep; above = above; unmarked = rest.has_overflowed ∙ up.unmarked; steps = up.steps; rounds = up.rounds; tight = up.tight } in
+          let ready : CanDecide h c.query_table.new.cx c.push_query.new.graph d.0 c.args.depth = record { deep = up.deep; above = above; unmarked = rest.has_overflowed ∙ up.unmarked; steps = up.steps; rounds = up.rounds; tight = up.tight; fair = up.fair } in
           let y = c.compute_goal-response.ensures.decided (Since-later k.grows s) d.0 j (rw (c.deref_mut.ensures.value, c.deref-2.ensures.value) (there.query, rw x.mode there.decided)) ready in
           ended_decided j z ks c.args.graph.now c.push_query.new.graph c.compute_goal-response.new.graph c.end_round.new.graph own off.0 c.in_ok-push_query.ensures.pushed.1 c.push_query.ensures.rest refl off.1 c.compute_goal-response.result c.end_round.result off.2 c.end_round.ensures.answer
           (IfOk-map c.compute_goal-response.result (λ r f. own_there _ _ ks (response_at z r.value) (its_kinds h law mode d.0 j a b input table asked c.in_ok-table.values.items over x formed d.2) (x.values) (f.says)) (rw (c.deref_mut.ensures.value, c.deref-2.ensures.value) at c.compute_goal-response.ensures.found)) y;
@@ -198,7 +198,7 @@ evaluate_round-returns g t c =
           let before = (tell_pushed c.push_query.new.graph (g.H.GoalHandler.handler s.base c.args.handler.now) (c.args.depth + 1) c.args.asked.value.input c.args.step c.args.asked.value.provisional c.requires.search k.grows c.requires.input c.requires.provisional c.in_ok-push_query.ensures.pushed tells told) in
           let rest = c.push_query.ensures.rest in
           let up = decides_grown c.requires.search k.grows can in
-          let ready : CanDecide h c.query_table.new.cx c.push_query.new.graph 0 c.args.depth = record { deep = omega arith; above = nothing_above h b c.push_query.new.graph; unmarked = rest.has_overflowed ∙ up.unmarked; steps = up.steps; rounds = up.rounds; tight = up.tight } in
+          let ready : CanDecide h c.query_table.new.cx c.push_query.new.graph 0 c.args.depth = record { deep = omega arith; above = nothing_above h b c.push_query.new.graph; unmarked = rest.has_overflowed ∙ up.unmarked; steps = up.steps; rounds = up.rounds; tight = up.tight; fair = up.fair } in
           let formed = formed_before b z c.compute_goal-response.ensures.grows.extends c.terms_are_formed.ensures in
           let fact = fact_begun h a b input table asked c.in_ok-table.values.items over x formed f in
           let y = c.compute_goal-response.ensures.facts (Since-later k.grows s) before (rw (c.deref_mut.ensures.value, c.deref-2.ensures.value) fact) ready in

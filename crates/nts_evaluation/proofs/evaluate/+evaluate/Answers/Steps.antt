@@ -1,9 +1,12 @@
 -- Longer answers for the functions that ask goals in steps.
 use Rattle.std.proofs.Common.{◌≡◌, inl, inr, Err, arith, rules, ◌+◌, ◌≤◌, take, get_or, refl, ap, sym, ◌∙◌, subst, [], ◌∷◌, true, ◌++◌}
 use Rattle.std.proofs.lemmas.List.{take_all, take_more}
+use Rattle.std.specs.Prelude.{List}
+use Rattle.nts_model.specs.Terms.Trees.{Tree}
 use Rattle.nts_model.proofs.Tables.Bringing.{only-trans, only-refl}
 use Rattle.nts_certainty.specs.declared.sources.GoalSource.{GoalSource}
-use Rattle.nts_store.proofs.Growing.{Extends-refl}
+use Rattle.nts_store.specs.Growth.{Extends}
+use Rattle.nts_store.proofs.Growing.{Extends-refl, Extends-trans}
 use Rattle.nts_terms.specs.declared.handles.Goal.{Goal}
 use Rattle.nts_terms.proofs.Moved.{KeepsRest-refl}
 use Rattle.nts_unify.specs.Lawful.{content_of-extended}
@@ -13,7 +16,9 @@ use Rattle.nts_trying.specs.Stepping.{AreLeft, AreSettled, bound_of, none_left}
 use Rattle.nts_theory.specs.Telling.Reaches.{asks_nothing}
 use Rattle.nts_meaning.proofs.AskedGoals.{evaluates_at}
 use Rattle.nts_meaning.proofs.Cuts.{cut_at_first}
-use Rattle.nts_trying.proofs.Labels.{only_resolved}
+use Rattle.nts_terms.specs.Modes.{mode_of}
+use Rattle.nts_trying.specs.Fast.{IsFastAnswer}
+use Rattle.nts_trying.proofs.Labels.{only_resolved, only_same}
 use Rattle.nts_meaning.proofs.Evaluating.{Goes-trans, Goes-extends, Runs-trans, Runs-extends, Runs-refl, Since-later, IsPosed-later}
 use Rattle.nts_trying.proofs.Stepping.{among_get, posed_later, posed_left, only_one, only_left, reach_more, reach_still, after_error, stop_more, reach_step, stop_step, left_trans, settled_step, left_more, settled_proved, sure_more, left_refl}
 use Rattle.nts_meaning.proofs.Running.{unread}
@@ -27,6 +32,7 @@ use Rattle.std.specs.Result.{is_err}
 use Rattle.std.proofs.lemmas.Result.{IfOk-from_err}
 use Rattle.nts_evaluation.proofs.evaluate.+evaluate.Goals.{search-then-graph, search-else-graph}
 use Rattle.nts_evaluation.proofs.Deciding.{decides_fault, decides_error, decides_then, decides_later, same_search, then_same}
+use Rattle.nts_evaluation.proofs.Fast.{IsReadAs, answered_at_once, asked_at_once, stays_at_once, decided_so}
 use Rattle.nts_evaluation.proofs.DecidedSteps.{next_goal, at_end, step_decided}
 use Rattle.nts_trying.specs.Stepping.{left_after}
 use Rattle.nts_evaluation.proofs.evaluate.+evaluate.Goals as goal
@@ -34,8 +40,8 @@ use Rattle.nts_evaluation.proofs.evaluate.+evaluate.Goals as goal
 pub evaluate_added-evaluate_goal-requires : goal.evaluate_added-evaluate_goal-requires
 evaluate_added-evaluate_goal-requires g t c =
     λ κs k-1.
-    let k = c.in_ok-asked-in-Some.ensures in
-    let less : c.in-Some.below + 1 ≤ bound_of c.args.depth = omega (arith, c.in-Some.ensures.within) in (
+    let k = c.in_ok-asked.ensures in
+    let less : c.in-Some-next.below + 1 ≤ bound_of c.args.depth = omega (arith, c.in-Some-next.ensures.within) in (
       omega (arith, c.decreases),
       (
         k-1,
@@ -43,43 +49,75 @@ evaluate_added-evaluate_goal-requires g t c =
           k.posed,
           (
             g.met.H.GoalHandler.ready_kept _ _ _ c.requires.ready k.grows.extends,
-            search_grows (bound_of c.args.depth) (c.in-Some.below + 1) less c.requires.search k.grows,
+            search_grows (bound_of c.args.depth) (c.in-Some-next.below + 1) less c.requires.search k.grows,
           ),
         ),
       ),
     )
 
-pub evaluate_added-returns-in-None : goal.evaluate_added-returns-in-None
-evaluate_added-returns-in-None g t c =
-    record {
-      runs = Runs-refl c.requires.posed.table;
-      searches = search_marked (bound_of c.args.depth) c.requires.search;
-      err = search rules;
-      labels = search rules;
-      proved = search rules;
-      marks = λ e. refl;
-      told = λ s tells. inr (c.next.ensures.too_deep.0 (search rules), refl);
-      refuted = search rules;
-      decided = λ s n b d can. absurd (let none = c.next.ensures.too_deep.0 (search rules) in omega (arith, none, can.deep, d.1));
-    }
-
-pub evaluate_added-returns-in_err-asked-in-Some : goal.evaluate_added-returns-in_err-asked-in-Some
-evaluate_added-returns-in_err-asked-in-Some g t c =
+pub evaluate_added-returns-in_err-asked : goal.evaluate_added-returns-in_err-asked
+evaluate_added-returns-in_err-asked g t c =
+    let fails : is_err c.from_residual.result ≡ true = search rules in
     record {
       runs = Runs-extends c.requires.posed.table c.resolve_goal.ensures.grows.extends c.resolve_goal.ensures.grows.rest;
       searches = Searches-refl (bound_of c.args.depth) c.requires.search c.resolve_goal.ensures.grows;
       err = search rules;
       labels = search rules;
       proved = search rules;
-      marks = λ e. (let less : c.in-Some.below + 1 ≤ bound_of c.args.depth = omega (arith, c.in-Some.ensures.within) in absurd (omega (arith, e, less)));
+      marks = λ s e. IfOk-from_err c.from_residual.result _ fails;
       told = search rules;
       refuted = search rules;
       decided = λ s n b d can. decides_fault c.from_residual.result (search rules) (search rules);
     }
 
-pub evaluate_added-returns-in_ok-asked-in-Some : goal.evaluate_added-returns-in_ok-asked-in-Some
-evaluate_added-returns-in_ok-asked-in-Some g t c =
-    let k = c.in_ok-asked-in-Some.ensures in
+pub evaluate_added-returns-in-Some : goal.evaluate_added-returns-in-Some
+evaluate_added-returns-in-Some g t c =
+    let k = c.in_ok-asked.ensures in
+    let up = k.grows.extends in
+    let p = c.requires.posed in
+    let reads : IsReadAs c.args.cx.now c.resolve_goal.new.cx c.args.table.now c.args.goal c.in_ok-asked.asked = record { env = k.env; predicate = k.predicate } in
+    let fast : IsFastAnswer (g.H.GoalHandler.handler c.resolve_goal.new.cx.nodes c.args.handler.now) c.resolve_goal.new.cx c.in_ok-asked.asked c.in-Some.certainty = c.in-Some.ensures in
+    let asked = asked_at_once reads fast in
+    let answered = λ (b : List Tree) (r : g.H.GoalHandler.ready b c.args.handler.now) (e : Extends b c.args.cx.now.nodes). answered_at_once (g.met.H.GoalHandler.handler_kept b c.resolve_goal.new.cx.nodes c.args.handler.now r (Extends-trans e up)) k.grows reads fast in
+    record {
+      runs = Runs-extends p.table up k.grows.rest;
+      searches = Searches-refl (bound_of c.args.depth) c.requires.search k.grows;
+      err = search rules;
+      labels = only_same _ up p.table refl;
+      proved = λ s sure.
+          (let law = g.met.H.GoalHandler.lawful s.base c.args.handler.now s.formed s.is_ready in
+          let y = answered s.base s.is_ready s.extends in
+          let here = stays_at_once (g.H.GoalHandler.handler s.base c.args.handler.now) s.variances (mode_of c.args.table.now.mode) _ law.at_once c.terms_are_formed.ensures p asked (rw sure at y.answers) in
+          rw (up.kept c.args.goal.param_env.node p.holds.env.within, up.kept c.args.goal.predicate.node p.holds.predicate.within, content_of-extended up p.table.now) here);
+      marks = λ s e. inr (answered s.base s.is_ready s.extends);
+      told = λ s tells. inr (inr (answered s.base s.is_ready s.extends), refl);
+      refuted = search rules;
+      decided = λ s n b d can.
+          (let law = g.met.H.GoalHandler.lawful s.base c.args.handler.now s.formed s.is_ready in
+          let x = decided_so (mode_of c.args.table.now.mode) d.0 b law.at_once can.fair asked d.2 (answered s.base s.is_ready s.extends) in
+          record { answer = (x.0, (x.1, refl)); search = same_search _ });
+    }
+
+pub evaluate_added-returns-in-None : goal.evaluate_added-returns-in-None
+evaluate_added-returns-in-None g t c =
+    let k = c.in_ok-asked.ensures in
+    let up = k.grows.extends in
+    let p = c.requires.posed in
+    record {
+      runs = Runs-extends p.table up k.grows.rest;
+      searches = search_then (bound_of c.args.depth) c.requires.search k.grows (search_marked (bound_of c.args.depth) (search_grows (bound_of c.args.depth) (bound_of c.args.depth) (omega arith) c.requires.search k.grows));
+      err = search rules;
+      labels = only_same _ up p.table refl;
+      proved = search rules;
+      marks = λ s e. inl refl;
+      told = λ s tells. inr (inl (c.next.ensures.too_deep.0 (search rules)), refl);
+      refuted = search rules;
+      decided = λ s n b d can. absurd (let none = c.next.ensures.too_deep.0 (search rules) in omega (arith, none, can.deep, d.1));
+    }
+
+pub evaluate_added-returns-in-Some-next : goal.evaluate_added-returns-in-Some-next
+evaluate_added-returns-in-Some-next g t c =
+    let k = c.in_ok-asked.ensures in
     let e = c.evaluate_goal.ensures in
     let p = c.requires.posed in
     let all = Goes-trans (Goes-extends p.table k.grows.extends) e.runs.goes in
@@ -87,21 +125,21 @@ evaluate_added-returns-in_ok-asked-in-Some g t c =
     let predicate = e.runs.goes.extends.kept _ k.posed.holds.predicate.within ∙ k.predicate in
     let same = content_of-extended k.grows.extends c.requires.posed.table.now in
     record {
-      runs = Runs-trans (Runs-extends c.requires.posed.table c.in_ok-asked-in-Some.ensures.grows.extends c.in_ok-asked-in-Some.ensures.grows.rest) c.evaluate_goal.ensures.runs;
-      searches = search_then (bound_of c.args.depth) c.requires.search c.in_ok-asked-in-Some.ensures.grows c.evaluate_goal.ensures.searches;
+      runs = Runs-trans (Runs-extends c.requires.posed.table c.in_ok-asked.ensures.grows.extends c.in_ok-asked.ensures.grows.rest) c.evaluate_goal.ensures.runs;
+      searches = search_then (bound_of c.args.depth) c.requires.search c.in_ok-asked.ensures.grows c.evaluate_goal.ensures.searches;
       err = e.err;
-      labels = OnOk-map c.evaluate_goal.result (λ h. only_resolved c.args.goal c.in_ok-asked-in-Some.asked k.grows.extends c.requires.posed.table k.env k.predicate h) c.evaluate_goal.ensures.labels;
+      labels = OnOk-map c.evaluate_goal.result (λ h. only_resolved c.args.goal c.in_ok-asked.asked k.grows.extends c.requires.posed.table k.env k.predicate h) c.evaluate_goal.ensures.labels;
       proved = λ s.
           IfOk-map c.evaluate_goal.result
           (λ x f y.
           rw (all.extends.kept c.args.goal.param_env.node p.holds.env.within, all.extends.kept c.args.goal.predicate.node p.holds.predicate.within)
           (unread _ _ _ _ all env predicate p.knows.env p.knows.predicate (f y))) (e.proved (Since-later k.grows s));
-      marks = λ e. (let less : c.in-Some.below + 1 ≤ bound_of c.args.depth = omega (arith, c.in-Some.ensures.within) in absurd (omega (arith, e, less)));
+      marks = λ s e. (let less : c.in-Some-next.below + 1 ≤ bound_of c.args.depth = omega (arith, c.in-Some-next.ensures.within) in absurd (omega (arith, e, less)));
       told = λ s tells. IfOk-map c.evaluate_goal.result (λ x f. inl (evaluates_at same (rw (k.env, k.predicate) at f))) (c.evaluate_goal.ensures.told (Since-later k.grows s) (tell_grown (g.H.GoalHandler.handler s.base c.args.handler.now) (bound_of c.args.depth) c.requires.search k.grows tells));
       refuted = λ s tells n. goal_cut_earlier k.grows.extends c.requires.search.stack c.requires.search.heads (rw (same, k.env, k.predicate) at (c.evaluate_goal.ensures.refuted (Since-later k.grows s) (tell_grown (g.H.GoalHandler.handler s.base c.args.handler.now) (bound_of c.args.depth) c.requires.search k.grows tells) n));
       decided = λ s n b d can.
-          let depth : c.in-Some.below + 1 ≡ bound_of c.args.depth = c.in-Some.ensures.whole can.unmarked in
-          c.evaluate_goal.ensures.decided (Since-later k.grows s) n b (d.0, d.1, rw (k.env, k.predicate) d.2) (decides_later n (c.in-Some.below + 1) c.requires.search k.grows (same_search _) (omega arith) (omega (arith, depth, can.deep)) can);
+          let depth : c.in-Some-next.below + 1 ≡ bound_of c.args.depth = c.in-Some-next.ensures.whole can.unmarked in
+          c.evaluate_goal.ensures.decided (Since-later k.grows s) n b (d.0, d.1, rw (k.env, k.predicate) d.2) (decides_later n (c.in-Some-next.below + 1) c.requires.search k.grows (same_search _) (omega arith) (omega (arith, depth, can.deep)) can);
     }
 
 pub evaluate_step-evaluate_added-requires : goal.evaluate_step-evaluate_added-requires

@@ -1,0 +1,77 @@
+-- What a handler affirms or denies of a goal of the engine's own kinds, by what the goal states: so nothing else is affirmed or denied.
+use Rattle.std.proofs.Common.{◌≡◌, ℕ, List, refl, sym, subst, ◌∙◌}
+use Rattle.std.specs.Prelude.{IsTrue, false}
+use Rattle.nts_model.specs.declared.labels.ClauseHead.TheVariants as clause_head
+use Rattle.nts_model.specs.declared.labels.ConstHead.TheVariants as const_head
+use Rattle.nts_model.specs.declared.labels.Leaf.TheVariants as leaf
+use Rattle.nts_model.specs.declared.labels.PredicateHead.TheVariants as predicate_head
+use Rattle.nts_model.specs.declared.labels.Label.TheVariants as label
+use Rattle.nts_model.specs.Terms.Trees.{Tree, more, node}
+use Rattle.nts_model.specs.Derivations.Related.{unbound}
+use Rattle.nts_model.specs.Derivations.Rules.{statement_of, const_error}
+use Rattle.nts_model.specs.Derivations.Handlers.{Judgements, IsEvaluated}
+use Rattle.nts_theory.specs.Affirming.{IsAffirmed, feature_allowed, has_objects, named_const, value_const, error_const, error_type, evaluated_const, SaysAffirmed, IsDenied}
+use Rattle.nts_store.specs.Growth.{tree_at, Extends}
+use Rattle.nts_terms.specs.declared.handles.Goal.{Goal}
+use Rattle.nts_terms.specs.declared.kinds.ConstKind.{ConstKind}
+use Rattle.nts_terms.specs.declared.kinds.ConstKind.TheVariants as konst
+use Rattle.nts_terms.specs.Handles.{HoldsGoal}
+use Rattle.nts_terms.specs.Kinds.{tree_of_const}
+use Rattle.nts_trying.specs.Owning.{tree_of_own, IsOwnGoal}
+use Rattle.nts_trying.specs.declared.own.OwnGoal.{OwnGoal}
+use Rattle.nts_trying.proofs.Owning.{states_in}
+
+-- a const that can be evaluated
+abbrev pub IsEvaluable : Judgements → Tree → Tree → Type 0
+IsEvaluable j e (node (label.Leaf (leaf.ConstConstant c)) ts) = Unit {0}
+IsEvaluable j e (node (label.Const (const_head.Value b)) ts) = Unit {0}
+IsEvaluable j e (node (label.Const const_head.Error) ts) = Unit {0}
+IsEvaluable j e (node (label.Const (const_head.Unevaluated i)) ts) = IsEvaluated j e (node (label.Const (const_head.Unevaluated i)) ts)
+IsEvaluable j e t = ⊥
+
+-- what is so where a statement is affirmed, and where it is denied
+abbrev pub AffirmedBy : Judgements → Tree → Tree → Type 0
+AffirmedBy j e (node (label.Clause (clause_head.UnstableFeature f)) ts) = IsTrue (j.allows e f)
+AffirmedBy j e (node (label.Predicate (predicate_head.DynCompatible i)) ts) = IsTrue (j.is_dyn_compatible i)
+AffirmedBy j e (node (label.Clause clause_head.ConstEvaluatable) (more c ts)) = IsEvaluable j e c
+AffirmedBy j e (node (label.Clause clause_head.ConstArgHasType) (more c ts)) = c ≡ const_error
+AffirmedBy j e s = ⊥
+
+abbrev pub DeniedBy : Judgements → Tree → Type 0
+DeniedBy j (node (label.Predicate (predicate_head.DynCompatible i)) ts) = j.is_dyn_compatible i ≡ false
+DeniedBy j s = ⊥
+
+affirmed_by : (j : Judgements) (e s : Tree) → IsAffirmed j e s → AffirmedBy j e s
+affirmed_by j e s (feature_allowed x) = x
+affirmed_by j e s (has_objects x) = x
+affirmed_by j e s named_const = tt
+affirmed_by j e s value_const = tt
+affirmed_by j e s error_const = tt
+affirmed_by j e s error_type = refl
+affirmed_by j e s (evaluated_const {v = v} q) = (v, q)
+
+one_statement : (s t : Tree) → unbound s ≡ unbound t → s ≡ t
+one_statement s t q = cc q
+
+-- of a goal of the store, in one that has grown
+module _ {a b : List Tree} {g : Goal} {o : OwnGoal} (j : Judgements) (up : Extends a b) (holds : HoldsGoal a g) (says : IsOwnGoal a g o) where
+  pub affirms : SaysAffirmed j (tree_at b g.param_env.node) (tree_at b g.predicate.node) → AffirmedBy j (tree_at b g.param_env.node) (tree_of_own b o)
+  affirms x =
+      let states = states_in up holds says in
+      subst (AffirmedBy j (tree_at b g.param_env.node)) (one_statement x.statement (tree_of_own b o) (sym x.binds_nothing ∙ states.binds_nothing)) (affirmed_by j (tree_at b g.param_env.node) x.statement x.affirmed)
+
+  pub denies : IsDenied j (statement_of (tree_at b g.predicate.node)) → DeniedBy j (tree_of_own b o)
+  denies x =
+      let states = states_in up holds says in
+      let there : IsDenied j (tree_of_own b o) = subst (λ z. IsDenied j (statement_of z)) states.binds_nothing x in
+      subst (DeniedBy j) (sym there.is) there.has_none
+
+-- no const that is a variable, or bound, is
+pub not_evaluable : (j : Judgements) (e : Tree) (ts : List Tree) (k : ConstKind) → ((n : _) → k ≡ konst.Param n → ⊥) → ((p : _) → k ≡ konst.Placeholder p → ⊥) → ((t : _) (b : _) → k ≡ konst.Value t b → ⊥) → (k ≡ konst.Error → ⊥) → ((u : _) → k ≡ konst.Unevaluated u → ⊥) → IsEvaluable j e (tree_of_const ts k) → ⊥
+not_evaluable j e ts (konst.Param n) p h v x u i = p n refl
+not_evaluable j e ts (konst.Placeholder n) p h v x u i = h n refl
+not_evaluable j e ts (konst.Value t b) p h v x u i = v t b refl
+not_evaluable j e ts konst.Error p h v x u i = x refl
+not_evaluable j e ts (konst.Unevaluated n) p h v x u i = u n refl
+not_evaluable j e ts (konst.Infer n) p h v x u i = i
+not_evaluable j e ts (konst.Bound n m) p h v x u i = i
