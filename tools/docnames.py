@@ -9,7 +9,7 @@ import sys
 
 TOP = os.path.join(os.path.dirname(os.path.abspath(__file__)), "..")
 CODE = (".rt", ".antt", ".edit", ".py", ".sh", ".nts")
-FOREIGN = {"rustc_next_trait_solver", "indexmap", "thiserror", "fold_binder", "Send", "TYPE", "HANDLES"}
+FOREIGN = {"rustc_next_trait_solver", "indexmap", "thiserror", "fold_binder", "Send", "TYPE", "HANDLES", "staticlib"}
 COMMANDS = {"rt", "cd", "grep"}
 
 

@@ -18,7 +18,7 @@ def read_crates():
     for line in open(f"{ROOT}/crates.txt"):
         if line.strip() and not line.startswith("#"):
             name, rest = line.split(":", 1)
-            uses[name.strip()] = rest.split()
+            uses[name.split()[0]] = rest.split()
     return uses
 
 

@@ -23,6 +23,7 @@ LAWS = "IsLawfulHandler"
 
 USE = re.compile(r"(?:pub |ghost )*use (Rattle\.[^\s;{]+?)(?:\.\{([^}]*)\})?(?: as \S+?)?;?$")
 HEAD = re.compile(r"((?:abbrev |unfoldable |data |record |opaque |pub )*)([^\s:({=]*)\s*(.*)$")
+HANDED = re.compile(r"^Rattle\.(?:nts_\w+\.specs\.)+(?=nts_\w+\.)")
 TOKEN = re.compile(r"[^\s(){}\[\],;]+")
 CLAUSE = re.compile(r"(requires|ensures)\s+(\w*)\s*\{")
 
@@ -40,12 +41,13 @@ def files_below(folder, ending):
 
 
 def imported(line):
-    """The words that a line imports, each with its room and its name there."""
+    """The words that a line imports, each with its room and its name there. A crate that hands on another is passed over."""
     use = USE.match(line)
     if not use or not use.group(2):
         return {}
     items = (item.strip().partition(" as ") for item in use.group(2).split(","))
-    return {renamed or word: (use.group(1), word) for word, _, renamed in items}
+    room = HANDED.sub("Rattle.", use.group(1))
+    return {renamed or word: (room, word) for word, _, renamed in items}
 
 
 def crates():
@@ -183,7 +185,7 @@ def exported():
     """What the library hands on: the names, by the crate that they come from."""
     names = collections.defaultdict(set)
     for path in files_below(os.path.join(CRATES, LIBRARY, "src"), ".rt"):
-        for crate, rest in re.findall(r"pub use (\w+)::([^;]+);", read(path)):
+        for crate, rest in re.findall(r"pub use (?:nts_\w+::)*?(nts_\w+)::(?!nts_)([^;]+);", read(path)):
             items = braces(rest, rest.index("{")).split(",") if "{" in rest else [rest]
             names[crate] |= {item.split(" as ")[0].strip().split("::")[-1] for item in items if item.strip()}
     return names

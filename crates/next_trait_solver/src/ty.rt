@@ -3,12 +3,12 @@ pub use nts_certainty::{
     Certainty, GoalSource, HasChanged, MaybeCause, MaybeInfo, OpaqueTypesJank, PathKind,
     RerunCondition,
 };
+pub use nts_contexts::nts_solver_relating::{Relate, RelateExt};
 pub use nts_folding::{TermFolder, TypeFoldable, TypeFolder};
 pub use nts_model::{
     AliasRelationDirection, BoundVarIndexKind, DebruijnIndex, FloatTy, IntTy, Relation, Sort,
     UintTy, VariableKind, Variance,
 };
-pub use nts_solver_relating::{Relate, RelateExt};
 pub use nts_store::{EvalError, Fault, NodeId};
 pub use nts_table::{InferCtxt, is_unbound};
 pub use nts_terms::{

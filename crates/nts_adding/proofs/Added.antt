@@ -5,7 +5,7 @@ use Rattle.std.proofs.lemmas.List.Elements.{All-append}
 use Rattle.nts_model.specs.Terms.Trees.{Tree}
 use Rattle.nts_terms.specs.declared.handles.Goal.{Goal}
 use Rattle.nts_certainty.specs.declared.sources.GoalSource.{GoalSource}
-use Rattle.nts_search.specs.declared.kinds.CurrentGoalKind.{CurrentGoalKind}
+use Rattle.nts_meaning.specs.nts_search.specs.declared.kinds.CurrentGoalKind.{CurrentGoalKind}
 use Rattle.nts_unify.specs.Entries.{Entries}
 use Rattle.nts_table.specs.Tables.{Table}
 use Rattle.nts_meaning.specs.Evaluation.{Goes, IsPosed}

@@ -7,8 +7,8 @@ use Rattle.nts_certainty.specs.declared.sources.GoalSource.{GoalSource}
 use Rattle.nts_certainty.specs.declared.sources.GoalSource.TheVariants as source
 use Rattle.nts_certainty.specs.declared.sources.PathKind.{PathKind}
 use Rattle.nts_candidates.specs.Offered.{source_of, path_kind_of}
-use Rattle.nts_search.specs.declared.kinds.CurrentGoalKind.{CurrentGoalKind}
-use Rattle.nts_search.specs.Kinds.{goal_kind_of}
+use Rattle.nts_meaning.specs.nts_search.specs.declared.kinds.CurrentGoalKind.{CurrentGoalKind}
+use Rattle.nts_meaning.specs.nts_search.specs.Kinds.{goal_kind_of}
 use Rattle.nts_unify.specs.Entries.{Entries}
 use Rattle.nts_table.specs.Tables.{Table}
 use Rattle.nts_meaning.specs.Evaluation.{IsPosed}

@@ -10,7 +10,7 @@ ghost use Rattle.nts_adding.specs.Adding.{AddsBehind, AddsEach, ArePosedIn};
 
 use crate::putting::put_variables;
 use nts_certainty::GoalSource;
-use nts_search::{CurrentGoalKind, step_kind_for_source};
+use nts_meaning::nts_search::{CurrentGoalKind, step_kind_for_source};
 use nts_solver_relating::goals_of;
 use nts_store::EvalError;
 use nts_table::InferCtxt;

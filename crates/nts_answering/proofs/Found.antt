@@ -7,9 +7,9 @@ use Rattle.nts_model.specs.Derivations.Handlers.{hidden_by, premise_by}
 use Rattle.nts_model.specs.Answers.Responses.{Findings, Response as Form, recorded_by, findings_by, positioned, own_leaves, answer_kinds, greatest, response_of}
 use Rattle.nts_store.specs.Growth.{Extends}
 use Rattle.nts_terms.specs.Handles.{HoldsArg}
-use Rattle.nts_candidates.specs.Offered.{hidden_of}
-use Rattle.nts_canonical.specs.declared.types.Canonical.{Canonical}
-use Rattle.nts_canonical.specs.Forms.{kind_of_var, IsHidden}
+use Rattle.nts_response.specs.nts_candidates.specs.Offered.{hidden_of}
+use Rattle.nts_response.specs.nts_canonical.specs.declared.types.Canonical.{Canonical}
+use Rattle.nts_response.specs.nts_canonical.specs.Forms.{kind_of_var, IsHidden}
 use Rattle.nts_response.specs.declared.types.Response.{Response}
 use Rattle.nts_response.specs.Forms.{StoreHoldsConstraint, HoldsOpen, HoldsResponse, recorded_at, premise_at, findings_at, response_at}
 use Rattle.nts_response.specs.Replacing.{ReplacesEach, argument_value}

@@ -7,9 +7,9 @@ use Rattle.nts_model.specs.declared.labels.Leaf.{Leaf}
 use Rattle.nts_model.specs.Tables.Contents.{Content}
 use Rattle.nts_model.specs.Canonical.Inputs.{sub_root_of, are_one, share, PositionKind}
 use Rattle.nts_model.specs.Answers.Responses.{answer_kind, answer_kinds, universe_of_kind, greatest}
-use Rattle.nts_canonical.specs.declared.types.CanonicalVarKind.{CanonicalVarKind}
-use Rattle.nts_canonical.specs.Forms.{kind_of_var}
-use Rattle.nts_canonical.proofs.VarLists.{place-map, map-push, map-take-more}
+use Rattle.nts_response.specs.nts_canonical.specs.declared.types.CanonicalVarKind.{CanonicalVarKind}
+use Rattle.nts_response.specs.nts_canonical.specs.Forms.{kind_of_var}
+use Rattle.nts_response.specs.nts_canonical.proofs.VarLists.{place-map, map-push, map-take-more}
 
 -- the kind of a leaf among these
 abbrev pub kind_among : Content → (ℕ → ℕ) → ℕ → List Leaf → Leaf → PositionKind

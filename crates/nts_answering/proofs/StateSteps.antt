@@ -7,7 +7,7 @@ use Rattle.nts_model.specs.Tables.Resolving.{deeply_resolved}
 use Rattle.nts_model.specs.Canonical.Numbered.{seen}
 use Rattle.nts_model.specs.Answers.Responses.{is_fixed, positioned, answer_kinds, greatest}
 use Rattle.nts_model.proofs.Tables.Resolved.{deeply_resolved-empty}
-use Rattle.nts_folding.specs.Folding.{tree_of_list}
+use Rattle.nts_response.specs.nts_folding.specs.Folding.{tree_of_list}
 use Rattle.nts_response.specs.States.{StateForm, state_leaves, resolved_state_of}
 use Rattle.nts_response.specs.StateTrees.{state_row}
 use Rattle.nts_model.proofs.Tables.TableInstances.{deeply_resolved-more}

@@ -1,1 +1,2 @@
 pub mod Kinds
+pub use Rattle.nts_canonicalizer

@@ -6,14 +6,16 @@ ghost use Rattle.nts_model.specs.Terms.Trees.{Tree};
 ghost use Rattle.nts_model.specs.Answers.Responses.{answer_kind, answer_kinds, constant_kind, region_kind, universe_of_kind, greatest};
 ghost use Rattle.nts_model.specs.Canonical.Inputs.{placeholder};
 ghost use Rattle.nts_unify.specs.Reading.{content_of, LinksDescend};
-ghost use Rattle.nts_canonical.specs.SubRoots.{sub_root_in};
-ghost use Rattle.nts_canonical.specs.Owned.{IsOwned, AreOwned};
-ghost use Rattle.nts_canonical.specs.Forms.{kind_of_var};
+ghost use Rattle.nts_response.specs.nts_canonical.specs.SubRoots.{sub_root_in};
+ghost use Rattle.nts_response.specs.nts_canonical.specs.Owned.{IsOwned, AreOwned};
+ghost use Rattle.nts_response.specs.nts_canonical.specs.Forms.{kind_of_var};
 ghost use Rattle.nts_answering.specs.Kinds.{kind_in};
 
-use nts_canonical::{CanonicalVarKind, first_of, sub_root_of, sub_roots, universe_of};
 use nts_model::{Constant, FreeRegion, Leaf, VariableKind};
-use nts_table::InferCtxt;
+use nts_response::nts_canonical::{
+    CanonicalVarKind, first_of, sub_root_of, sub_roots, universe_of,
+};
+use nts_response::nts_table::InferCtxt;
 use nts_terms::{
     BoundConst, BoundRegion, BoundTy, PlaceholderConst, PlaceholderRegion, PlaceholderType,
     UniverseIndex,

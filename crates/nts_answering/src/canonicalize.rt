@@ -4,18 +4,18 @@ ghost use Rattle.nts_model.specs.Answers.Responses.{response_of, findings_by, po
 ghost use Rattle.nts_store.specs.Growth.{Extends};
 ghost use Rattle.nts_terms.specs.Rest.{Grows};
 ghost use Rattle.nts_unify.specs.Reading.{content_of};
-ghost use Rattle.nts_table.specs.Tables.{IsTable};
-ghost use Rattle.nts_canonical.specs.SubRoots.{sub_root_in};
+ghost use Rattle.nts_response.specs.nts_table.specs.Tables.{IsTable};
+ghost use Rattle.nts_response.specs.nts_canonical.specs.SubRoots.{sub_root_in};
 ghost use Rattle.nts_response.specs.Forms.{findings_at, response_at, HoldsResponse, KnowsFindings};
 
 use crate::answer_kinds::{answer_kinds, greatest};
 use crate::leaves::leaves_of;
 use crate::numbered::{numbered_constraints, numbered_goals, numbered_hidden, numbered_values};
-use nts_canonical::Canonical;
 use nts_canonicalizer::Leaves;
+use nts_response::nts_canonical::Canonical;
+use nts_response::nts_table::InferCtxt;
 use nts_response::{CanonicalResponse, ExternalConstraintsData, Response};
 use nts_store::{Fault, Nodes};
-use nts_table::InferCtxt;
 use nts_terms::{Cx, UniverseIndex};
 use std::alloc::{AllocError, Global};
 

@@ -5,14 +5,14 @@ ghost use Rattle.nts_model.specs.Canonical.Numbered.{seen};
 ghost use Rattle.nts_model.specs.Answers.Responses.{is_fixed, own_leaves, value_row, constraint_row, hidden_row, goal_row};
 ghost use Rattle.nts_store.specs.Growth.{tree_at, IsIn};
 ghost use Rattle.nts_terms.specs.Handles.{HoldsArg};
-ghost use Rattle.nts_candidates.specs.Offered.{hidden_of};
-ghost use Rattle.nts_canonical.specs.Forms.{trees_of, IsHidden};
+ghost use Rattle.nts_response.specs.nts_candidates.specs.Offered.{hidden_of};
+ghost use Rattle.nts_response.specs.nts_canonical.specs.Forms.{trees_of, IsHidden};
 ghost use Rattle.nts_response.specs.Forms.{recorded_at, premise_at, findings_at, StoreHoldsConstraint, HoldsOpen, HoldsResponse};
 
-use nts_candidates::RegionConstraint;
 use nts_canonicalizer::{Leaves, Staying, collect};
-use nts_certainty::GoalSource;
 use nts_response::Response;
+use nts_response::nts_candidates::RegionConstraint;
+use nts_response::nts_certainty::GoalSource;
 use nts_store::NodeId;
 use nts_terms::{AliasTerm, Cx, GenericArg, Goal, Ty, VisibleForLeakCheck};
 use std::alloc::AllocError;

@@ -8,4 +8,5 @@ mod numbered;
 mod states;
 
 pub use canonicalize::canonicalize_response;
+pub use nts_canonicalizer;
 pub use states::make_canonical_state;

@@ -4,14 +4,14 @@ ghost use Rattle.nts_model.specs.Answers.Responses.{positioned, recorded_by};
 ghost use Rattle.nts_model.specs.Derivations.Handlers.{hidden_by, premise_by};
 ghost use Rattle.nts_store.specs.Growth.{tree_at, Extends};
 ghost use Rattle.nts_terms.specs.Handles.{Holds, HoldsArg};
-ghost use Rattle.nts_candidates.specs.Offered.{hidden_of};
-ghost use Rattle.nts_canonical.specs.Forms.{IsHidden};
+ghost use Rattle.nts_response.specs.nts_candidates.specs.Offered.{hidden_of};
+ghost use Rattle.nts_response.specs.nts_canonical.specs.Forms.{IsHidden};
 ghost use Rattle.nts_response.specs.Forms.{recorded_at, premise_at, StoreHoldsConstraint, HoldsOpen};
 ghost use Rattle.nts_response.specs.Replacing.{ReplacesEach, argument_value};
 
-use nts_candidates::RegionConstraint;
 use nts_canonicalizer::{Leaves, Staying, numbered};
-use nts_certainty::GoalSource;
+use nts_response::nts_candidates::RegionConstraint;
+use nts_response::nts_certainty::GoalSource;
 use nts_store::Nodes;
 use nts_terms::{AliasTerm, GenericArg, Goal, Stored, Ty, VisibleForLeakCheck};
 use std::alloc::{AllocError, Global};

@@ -4,19 +4,19 @@ ghost use Rattle.nts_model.specs.Tables.Resolving.{Knows};
 ghost use Rattle.nts_terms.specs.Handles.{HoldsArg};
 ghost use Rattle.nts_terms.specs.Rest.{Grows};
 ghost use Rattle.nts_unify.specs.Reading.{content_of};
-ghost use Rattle.nts_table.specs.Tables.{IsTable};
-ghost use Rattle.nts_canonical.specs.Forms.{trees_of};
-ghost use Rattle.nts_canonical.specs.SubRoots.{sub_root_in};
+ghost use Rattle.nts_response.specs.nts_table.specs.Tables.{IsTable};
+ghost use Rattle.nts_response.specs.nts_canonical.specs.Forms.{trees_of};
+ghost use Rattle.nts_response.specs.nts_canonical.specs.SubRoots.{sub_root_in};
 ghost use Rattle.nts_response.specs.States.{state_at, resolved_state_of};
 ghost use Rattle.nts_response.specs.StateTrees.{state_row};
 
 use crate::answer_kinds::{answer_kinds, greatest};
-use nts_canonical::Canonical;
 use nts_canonicalizer::{leaves_of_value, position_value, resolve_value};
-use nts_folding::TypeFoldable;
+use nts_response::nts_canonical::Canonical;
+use nts_response::nts_folding::TypeFoldable;
+use nts_response::nts_table::InferCtxt;
 use nts_response::{CanonicalState, State};
 use nts_store::Fault;
-use nts_table::InferCtxt;
 use nts_terms::{Cx, GenericArg, UniverseIndex};
 
 /// The values and the payload as they are now, as a canonical value: variables are replaced by what the table knows of

@@ -15,12 +15,12 @@ use Rattle.nts_theory.proofs.Responses.Applied.{FailsToEqual, applied, refused}
 use Rattle.nts_model.proofs.Tables.Slots.{Knows-kept}
 use Rattle.nts_store.specs.Growth.{tree_at, AllIn, Extends}
 use Rattle.nts_store.specs.Formed.{AreFormed}
-use Rattle.nts_folding.specs.FoldLaws.{list_holds}
+use Rattle.nts_canonical.specs.nts_folding.specs.FoldLaws.{list_holds}
 use Rattle.nts_terms.specs.declared.cx.Cx.{Cx}
 use Rattle.nts_terms.specs.declared.handles.GenericArg.{GenericArg}
 use Rattle.nts_terms.specs.declared.handles.Goal.{Goal}
 use Rattle.nts_terms.specs.Handles.{HoldsArg}
-use Rattle.nts_certainty.specs.declared.sources.GoalSource.{GoalSource}
+use Rattle.nts_candidates.specs.nts_certainty.specs.declared.sources.GoalSource.{GoalSource}
 use Rattle.nts_unify.specs.Entries.{Entries, moved}
 use Rattle.nts_theory.proofs.Responses.ChosenClosed.{chosen_records}
 use Rattle.nts_unify.specs.Changing.{AddsVisible}

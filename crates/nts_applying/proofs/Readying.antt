@@ -31,7 +31,7 @@ use Rattle.nts_canonical.specs.declared.types.Canonical.{Canonical}
 use Rattle.nts_canonical.specs.declared.types.CanonicalVarKind.{CanonicalVarKind}
 use Rattle.nts_canonical.specs.Forms.{kind_of_var, trees_of, hidden_pairs, IsHidden, AreHidden}
 use Rattle.nts_canonical.proofs.PairLists.{are_hidden-kept, hidden_row-kept}
-use Rattle.nts_certainty.specs.declared.sources.GoalSource.{GoalSource}
+use Rattle.nts_candidates.specs.nts_certainty.specs.declared.sources.GoalSource.{GoalSource}
 use Rattle.nts_terms.specs.declared.handles.Goal.{Goal}
 use Rattle.nts_terms.specs.Handles.{HoldsArg, alias_head}
 use Rattle.nts_response.specs.declared.types.Response.{Response}

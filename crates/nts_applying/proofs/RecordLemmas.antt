@@ -39,8 +39,8 @@ use Rattle.nts_unify.specs.Unchanged.{HasUnset}
 use Rattle.nts_unify.specs.Joining.{RegionsJoin}
 use Rattle.nts_unify.proofs.JoinLemmas.{regions_join}
 use Rattle.nts_unify.proofs.Leading.{IsRoot-content, Reaches-leads}
-use Rattle.nts_relating.specs.Relating.{RegionsRelate}
-use Rattle.nts_relating.proofs.RegionLemmas.{IsRegionVariable, regions_same, regions_joined}
+use Rattle.nts_equating.specs.nts_relating.specs.Relating.{RegionsRelate}
+use Rattle.nts_equating.specs.nts_relating.proofs.RegionLemmas.{IsRegionVariable, regions_same, regions_joined}
 use Rattle.nts_model.proofs.Tables.Slots.{KeepsKinds, KeepsKinds-refl}
 use Rattle.nts_store.specs.declared.fault.Fault.{Fault}
 use Rattle.nts_table.specs.Tables.{Table}

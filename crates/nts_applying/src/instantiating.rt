@@ -16,8 +16,8 @@ ghost use Rattle.nts_response.specs.Instantiated.{values_alone, AreValuesFor, Ar
 
 use crate::choosing::choose_values;
 use crate::equating::equate_values;
+use nts_canonical::nts_folding::TypeFoldable;
 use nts_canonical::{Canonical, CanonicalVarKind, instantiate_canonical, nodes_of};
-use nts_folding::TypeFoldable;
 use nts_response::{CanonicalState, State};
 use nts_store::{EvalError, Fault};
 use nts_table::InferCtxt;

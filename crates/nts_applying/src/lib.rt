@@ -12,3 +12,4 @@ mod registering;
 
 pub use applying::instantiate_and_apply_query_response;
 pub use instantiating::instantiate_canonical_state;
+pub use nts_equating;

@@ -7,8 +7,8 @@ ghost use Rattle.nts_response.specs.Forms.{premise_at, HoldsOpen};
 ghost use Rattle.nts_response.specs.Opened.{IsOpenable};
 ghost use Rattle.nts_response.specs.Replacing.{ReplacesEach};
 
+use nts_candidates::nts_certainty::GoalSource;
 use nts_canonical::fill;
-use nts_certainty::GoalSource;
 use nts_store::{NodeId, Nodes};
 use nts_terms::Goal;
 use std::alloc::{AllocError, Global};

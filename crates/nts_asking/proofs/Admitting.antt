@@ -13,7 +13,7 @@ use Rattle.nts_store.proofs.Escaping.{escapes, closed_by_facts}
 use Rattle.nts_table.specs.Tables.{Table}
 use Rattle.nts_unify.specs.Reading.{content_of}
 use Rattle.nts_meaning.specs.Evaluation.{IsRootTerm}
-use Rattle.nts_delegate.proofs.Testing.{or_false}
+use Rattle.nts_meaning.specs.nts_delegate.proofs.Testing.{or_false}
 use Rattle.nts_store.proofs.Filling.{both_false}
 
 -- no label passes a test

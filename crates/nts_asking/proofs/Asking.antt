@@ -8,7 +8,7 @@ use Rattle.nts_table.specs.Tables.{Table}
 use Rattle.nts_table.specs.Tables.{IsTable}
 use Rattle.nts_unify.specs.Lawful.{content_of-extended}
 use Rattle.nts_table.specs.TableLaws.{IsTable-extended}
-use Rattle.nts_delegate.specs.ClausesKept.{AreClausesReady-kept}
+use Rattle.nts_meaning.specs.nts_delegate.specs.ClausesKept.{AreClausesReady-kept}
 use Rattle.nts_meaning.specs.Evaluation.{IsAdmitted}
 use Rattle.nts_meaning.proofs.Evaluating.{HoldsGoal-extended}
 

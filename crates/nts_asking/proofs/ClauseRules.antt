@@ -4,11 +4,11 @@ use Rattle.std.proofs.Common.{inl, inr, List, [], sym, ap, ◌∙◌}
 use Rattle.nts_model.specs.Terms.Trees.{Tree}
 use Rattle.nts_model.specs.Derivations.Handlers.{meaning}
 use Rattle.nts_model.specs.Derivations.Rules.{goal_kind}
-use Rattle.nts_delegate.specs.declared.clauses.Clauses.{Clauses}
-use Rattle.nts_delegate.specs.Assumptions.{assuming}
-use Rattle.nts_delegate.specs.Both.{either}
-use Rattle.nts_delegate.specs.Clauses.{coinductive_of}
-use Rattle.nts_delegate.specs.ClauseHandlers.{handler_of}
+use Rattle.nts_meaning.specs.nts_delegate.specs.declared.clauses.Clauses.{Clauses}
+use Rattle.nts_meaning.specs.nts_delegate.specs.Assumptions.{assuming}
+use Rattle.nts_meaning.specs.nts_delegate.specs.Both.{either}
+use Rattle.nts_meaning.specs.nts_delegate.specs.Clauses.{coinductive_of}
+use Rattle.nts_meaning.specs.nts_delegate.specs.ClauseHandlers.{handler_of}
 use Rattle.nts_theory.specs.Refutation.Refutation.{HasNoAliases, RespectsLeaks}
 use Rattle.nts_theory.proofs.Refutation.Tight.{tight_respects}
 use Rattle.nts_model.specs.Refutation.Containing.{Truth}

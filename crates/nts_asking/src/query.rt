@@ -6,8 +6,8 @@ ghost use Rattle.nts_meaning.specs.Answering.{is_kept, IsQueryInput, IsQueryOf};
 ghost use Rattle.nts_meaning.specs.Rounds.{BeginsQuery};
 
 use nts_canonical::{CanonicalInput, build_with_canonical};
-use nts_canonicalizer::canonicalize_goal;
 use nts_certainty::{Certainty, MaybeCause};
+use nts_meaning::nts_canonicalizer::canonicalize_goal;
 use nts_store::Fault;
 use nts_table::InferCtxt;
 use nts_terms::{Cx, GenericArg, Goal};

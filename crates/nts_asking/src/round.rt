@@ -4,17 +4,17 @@ ghost use Rattle.std.specs.Prelude.{◌≡◌, ◌≢◌, ◌<◌, ◌≤◌, �
 ghost use Rattle.nts_model.specs.Terms.Trees.{Tree};
 ghost use Rattle.nts_terms.specs.Rest.{Grows};
 ghost use Rattle.nts_canonical.specs.Forms.{HoldsQuery};
-ghost use Rattle.nts_search.specs.declared.stack.StackEntry.{StackEntry};
-ghost use Rattle.nts_search.specs.Searching.{HoldsAnswer, IsStack, KeepsRestOfGraph};
+ghost use Rattle.nts_meaning.specs.nts_search.specs.declared.stack.StackEntry.{StackEntry};
+ghost use Rattle.nts_meaning.specs.nts_search.specs.Searching.{HoldsAnswer, IsStack, KeepsRestOfGraph};
 ghost use Rattle.nts_meaning.specs.Answering.{IsQueryInput};
 ghost use Rattle.nts_meaning.specs.Rounds.{IsFirstRound, IsTakenOff, EndsWith, IsBoxed};
 
 use crate::cycles::{answer_of, unchanged_answer};
 use nts_canonical::CanonicalInput;
 use nts_certainty::{Certainty, PathKind};
+use nts_meaning::nts_response::CanonicalResponse;
+use nts_meaning::nts_search::{SearchGraph, StackEntry};
 use nts_meaning::{Ended, Round};
-use nts_response::CanonicalResponse;
-use nts_search::{SearchGraph, StackEntry};
 use nts_store::{EvalError, Fault};
 use nts_terms::Cx;
 use std::alloc::{AllocError, Global};

@@ -1,7 +1,7 @@
 -- Reasons whose terms are those of a store.
 use Rattle.std.specs.Prelude.{List}
-use Rattle.nts_model.specs.Terms.Trees.{Tree}
-use Rattle.nts_terms.specs.Handles.{HoldsGoal}
+use Rattle.nts_certainty.specs.nts_model.specs.Terms.Trees.{Tree}
+use Rattle.nts_certainty.specs.nts_terms.specs.Handles.{HoldsGoal}
 use Rattle.nts_candidates.specs.declared.reasons.Reason.{Reason}
 use Rattle.nts_candidates.specs.declared.reasons.Reason.TheVariants as reason
 

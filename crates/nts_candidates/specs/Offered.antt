@@ -1,10 +1,10 @@
 -- A candidate's data as trees.
 use Rattle.std.specs.Prelude.{Bool, true, false, List, map}
-use Rattle.nts_model.specs.Terms.Trees.{Tree}
-use Rattle.nts_model.specs.Derivations.Related.{Constraint}
-use Rattle.nts_model.specs.Derivations.Sequents.{PathKind, coinductive, unknown, inductive, forced_ambiguity, Source, misc, type_relating, impl_where_bound, alias_bound_const, alias_well_formed, normalize_goal, Premise, Hidden}
-use Rattle.nts_model.specs.Derivations.Rules.{Equation, related, alike}
-use Rattle.nts_model.specs.Derivations.Handlers.{Cause, ambiguity, overflow, Certainty, certain, perhaps, Candidate}
+use Rattle.nts_certainty.specs.nts_model.specs.Terms.Trees.{Tree}
+use Rattle.nts_certainty.specs.nts_model.specs.Derivations.Related.{Constraint}
+use Rattle.nts_certainty.specs.nts_model.specs.Derivations.Sequents.{PathKind, coinductive, unknown, inductive, forced_ambiguity, Source, misc, type_relating, impl_where_bound, alias_bound_const, alias_well_formed, normalize_goal, Premise, Hidden}
+use Rattle.nts_certainty.specs.nts_model.specs.Derivations.Rules.{Equation, related, alike}
+use Rattle.nts_certainty.specs.nts_model.specs.Derivations.Handlers.{Cause, ambiguity, overflow, Certainty, certain, perhaps, Candidate}
 use Rattle.nts_certainty.specs.declared.certainty.Certainty.{Certainty as CertaintyData}
 use Rattle.nts_certainty.specs.declared.certainty.Certainty.TheVariants as certainty_data
 use Rattle.nts_certainty.specs.declared.certainty.MaybeCause.{MaybeCause}
@@ -16,14 +16,14 @@ use Rattle.nts_certainty.specs.declared.sources.PathKind.TheVariants as path_dat
 use Rattle.nts_certainty.specs.declared.sources.GoalSource.{GoalSource}
 use Rattle.nts_certainty.specs.declared.sources.GoalSource.TheVariants as source_data
 use Rattle.nts_certainty.specs.Accesses.{access_of}
-use Rattle.nts_terms.specs.declared.handles.AliasTerm.{AliasTerm}
-use Rattle.nts_store.specs.Growth.{tree_at}
-use Rattle.nts_terms.specs.Kinds.{tree_of_alias}
-use Rattle.nts_terms.specs.Modes.{numbers_of}
+use Rattle.nts_certainty.specs.nts_terms.specs.declared.handles.AliasTerm.{AliasTerm}
+use Rattle.nts_certainty.specs.nts_store.specs.Growth.{tree_at}
+use Rattle.nts_certainty.specs.nts_terms.specs.Kinds.{tree_of_alias}
+use Rattle.nts_certainty.specs.nts_terms.specs.Modes.{numbers_of}
 use Rattle.nts_candidates.specs.declared.data.Equation.{Equation as EquationData}
 use Rattle.nts_candidates.specs.declared.data.EquationKind.{EquationKind}
 use Rattle.nts_candidates.specs.declared.data.EquationKind.TheVariants as kind_data
-use Rattle.nts_terms.specs.declared.handles.Ty.{Ty}
+use Rattle.nts_certainty.specs.nts_terms.specs.declared.handles.Ty.{Ty}
 use Rattle.nts_candidates.specs.declared.data.RegionConstraint.{RegionConstraint}
 use Rattle.nts_candidates.specs.declared.data.CandidateGoal.{CandidateGoal}
 use Rattle.nts_candidates.specs.declared.data.CandidateData.{CandidateData}

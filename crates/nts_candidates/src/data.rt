@@ -1,7 +1,7 @@
 //! What a candidate asks for.
+use nts_certainty::nts_model::{Relation, Sort};
+use nts_certainty::nts_terms::{AliasTerm, GenericArg, Goal, Region, Ty};
 use nts_certainty::{Certainty, GoalSource, RerunCondition};
-use nts_model::{Relation, Sort};
-use nts_terms::{AliasTerm, GenericArg, Goal, Region, Ty};
 
 /// How the two sides of an equation are made equal.
 #[derive(Clone, Copy)]

@@ -1,11 +1,11 @@
 //! What the leaves and positions of a candidate's terms may be.
 ghost use Rattle.std.specs.Prelude.{◌≡◌, ◌↔◌, IsTrue, slice_get};
-ghost use Rattle.nts_model.specs.Terms.Trees.{of_sort};
-ghost use Rattle.nts_model.specs.Terms.Substitutions.{position_of};
-ghost use Rattle.nts_model.specs.Derivations.Handlers.{IsOfSort, NamesAt};
+ghost use Rattle.nts_certainty.specs.nts_model.specs.Terms.Trees.{of_sort};
+ghost use Rattle.nts_certainty.specs.nts_model.specs.Terms.Substitutions.{position_of};
+ghost use Rattle.nts_certainty.specs.nts_model.specs.Derivations.Handlers.{IsOfSort, NamesAt};
 ghost use Rattle.nts_candidates.specs.Foreign.{is_foreign_leaf};
 
-use nts_model::{BoundVarIndexKind, FreeRegion, Label, Leaf, Sort};
+use nts_certainty::nts_model::{BoundVarIndexKind, FreeRegion, Label, Leaf, Sort};
 
 /// Whether the position that a label names, if it is one, is among the variables of these sorts, and of its sort.
 pub fn names_fresh(fresh: &[Sort], label: Label) -> bool

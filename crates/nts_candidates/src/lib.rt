@@ -7,4 +7,5 @@ mod reasons;
 
 pub use data::{CandidateData, CandidateGoal, Equation, EquationKind, RegionConstraint};
 pub use leaves::{is_foreign_leaf_of, names_fresh};
+pub use nts_certainty;
 pub use reasons::Reason;

@@ -1,6 +1,6 @@
 //! What a candidate comes to.
 use nts_certainty::Certainty;
-use nts_terms::Goal;
+use nts_certainty::nts_terms::Goal;
 
 /// Why a candidate does not serve a goal, or that it does. Equations and conditions are counted from 0.
 #[derive(Clone, Copy, Debug)]

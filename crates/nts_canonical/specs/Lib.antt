@@ -7,3 +7,6 @@ pub mod Mapping
 pub mod Owned
 pub mod Replaced
 pub mod SubRoots
+pub use Rattle.nts_folding
+pub use Rattle.nts_table
+pub use Rattle.nts_unify

@@ -134,6 +134,6 @@ pub fn fill<T: Stored>(
     ensures tree { IfOk result (λ r. tree_at nodes.new (T.id r) ≡ filled
         (map (tree_at nodes.old) values.now) (tree_at nodes.old (T.id x))) }
 {
-    let node = nts_replacing::instantiate_canonical(alloc, nodes, values, x.node())?;
+    let node = nts_table::nts_replacing::instantiate_canonical(alloc, nodes, values, x.node())?;
     Ok(T::from_node(node))
 }

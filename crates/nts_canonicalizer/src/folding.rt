@@ -10,16 +10,16 @@ ghost use Rattle.nts_store.specs.declared.fault.Fault.TheVariants.{Memory};
 ghost use Rattle.nts_terms.specs.Rest.{Grows};
 ghost use Rattle.nts_unify.specs.Reading.{content_of};
 ghost use Rattle.nts_unify.specs.Lawful.{content_of-extended};
-ghost use Rattle.nts_table.specs.Tables.{IsTable};
-ghost use Rattle.nts_table.specs.TableLaws.{IsTable-extended};
+ghost use Rattle.nts_canonical.specs.nts_table.specs.Tables.{IsTable};
+ghost use Rattle.nts_canonical.specs.nts_table.specs.TableLaws.{IsTable-extended};
 ghost use Rattle.nts_canonical.specs.Mapping.{AnswersImage, IsAny, itself, same_state};
 
 use crate::collecting::{Staying, collect};
 use crate::leaves::Leaves;
 use crate::numbering::numbered;
-use nts_folding::{TermFolder, TypeFoldable};
+use nts_canonical::nts_folding::{TermFolder, TypeFoldable};
+use nts_canonical::nts_table::{InferCtxt, eager_resolve_vars};
 use nts_store::Fault;
-use nts_table::{InferCtxt, eager_resolve_vars};
 use nts_terms::{Cx, Stored};
 
 /// The value with each variable replaced by its value, through values of values, or by the first variable of its class.

@@ -12,8 +12,8 @@ ghost use Rattle.nts_canonicalizer.specs.Positions.{kind_of-numbered};
 
 use crate::collecting::{Staying, stays};
 use crate::leaves::Leaves;
+use nts_canonical::nts_replacing::{Replacer, Step, replace};
 use nts_model::{BoundVarIndexKind, Label, Leaf, Sort, VariableKind};
-use nts_replacing::{Replacer, Step, replace};
 use nts_store::{NodeId, Nodes};
 use nts_terms::Stored;
 use std::alloc::{AllocError, Global};

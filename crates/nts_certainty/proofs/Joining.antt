@@ -1,6 +1,6 @@
 -- Conditions joined, and lists of ids united.
 use Rattle.std.proofs.Common.{◌≡◌, ℕ, List, refl}
-use Rattle.nts_model.specs.Derivations.Handlers.{Access, never, always, any_infer, in_storage, in_storage_or_infer}
+use Rattle.nts_terms.specs.nts_model.specs.Derivations.Handlers.{Access, never, always, any_infer, in_storage, in_storage_or_infer}
 use Rattle.nts_theory.specs.Erased.Accessing.{joined_accesses}
 
 -- ids, and that a hidden type is a type variable, are joined one after the other

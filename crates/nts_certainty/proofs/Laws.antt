@@ -1,7 +1,7 @@
 -- Joining never turns a rerun into none.
 use Rattle.std.proofs.Common.{◌≡◌}
-use Rattle.nts_model.specs.Derivations.Handlers.{Access}
-use Rattle.nts_model.specs.Derivations.Rules.{Mode}
+use Rattle.nts_terms.specs.nts_model.specs.Derivations.Handlers.{Access}
+use Rattle.nts_terms.specs.nts_model.specs.Derivations.Rules.{Mode}
 use Rattle.nts_theory.specs.Erased.Accessing.{Parents, IsFewer, joined_accesses, decides, runs_again}
 use Rattle.nts_theory.proofs.Erased.Accessing.{is_joined, again_above}
 

@@ -1,5 +1,5 @@
 -- When a goal is asked again, as proofs know it.
-use Rattle.nts_model.specs.Derivations.Handlers.{Access, never, always, any_infer, in_storage, in_storage_or_infer}
+use Rattle.nts_terms.specs.nts_model.specs.Derivations.Handlers.{Access, never, always, any_infer, in_storage, in_storage_or_infer}
 use Rattle.nts_terms.specs.Modes.{numbers_of}
 use Rattle.nts_certainty.specs.declared.reruns.RerunCondition.{RerunCondition}
 use Rattle.nts_certainty.specs.declared.reruns.RerunCondition.TheVariants as rerun_data

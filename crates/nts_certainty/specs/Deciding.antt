@@ -1,14 +1,14 @@
 -- What hidden types decide, and how a condition asks for them.
 use Rattle.std.specs.Prelude.{◌≡◌, ◌||◌, ℕ, Bool, true, false, List, [], ◌∷◌}
-use Rattle.nts_model.specs.declared.labels.Label.{Label}
-use Rattle.nts_model.specs.declared.labels.Label.TheVariants as label
-use Rattle.nts_model.specs.declared.labels.Leaf.TheVariants as leaf
-use Rattle.nts_model.specs.declared.labels.VariableKind.TheVariants as kind
-use Rattle.nts_model.specs.Terms.Trees.{Tree, empty, more, node}
-use Rattle.nts_model.specs.Derivations.Handlers.{Access, never, always, any_infer, in_storage, in_storage_or_infer}
-use Rattle.nts_model.specs.Derivations.Rules.{Mode, coherence, analysis, borrowck, post_borrowck, post_analysis, erased}
+use Rattle.nts_terms.specs.nts_model.specs.declared.labels.Label.{Label}
+use Rattle.nts_terms.specs.nts_model.specs.declared.labels.Label.TheVariants as label
+use Rattle.nts_terms.specs.nts_model.specs.declared.labels.Leaf.TheVariants as leaf
+use Rattle.nts_terms.specs.nts_model.specs.declared.labels.VariableKind.TheVariants as kind
+use Rattle.nts_terms.specs.nts_model.specs.Terms.Trees.{Tree, empty, more, node}
+use Rattle.nts_terms.specs.nts_model.specs.Derivations.Handlers.{Access, never, always, any_infer, in_storage, in_storage_or_infer}
+use Rattle.nts_terms.specs.nts_model.specs.Derivations.Rules.{Mode, coherence, analysis, borrowck, post_borrowck, post_analysis, erased}
 use Rattle.nts_theory.specs.Erased.Accessing.{Decision, stands, runs_again, is_handed_on, Parents, is_in, is_stored}
-use Rattle.nts_store.specs.Growth.{tree_at}
+use Rattle.nts_terms.specs.nts_store.specs.Growth.{tree_at}
 use Rattle.nts_terms.specs.declared.handles.AliasDefId.{AliasDefId}
 use Rattle.nts_terms.specs.declared.handles.AliasDefId.TheVariants as alias
 use Rattle.nts_terms.specs.declared.handles.AliasTerm.{AliasTerm}

@@ -1,15 +1,15 @@
 //! The table of conditions and modes.
 ghost use Rattle.std.specs.Prelude.{◌≡◌, ◌↔◌, [], All, IsTrue};
-ghost use Rattle.nts_model.specs.Derivations.Handlers.{never};
+ghost use Rattle.nts_terms.specs.nts_model.specs.Derivations.Handlers.{never};
 ghost use Rattle.nts_theory.specs.Erased.Accessing.{is_in, is_stored, again_if, decides};
-ghost use Rattle.nts_store.specs.Growth.{tree_at};
+ghost use Rattle.nts_terms.specs.nts_store.specs.Growth.{tree_at};
 ghost use Rattle.nts_terms.specs.Handles.{HoldsTy};
 ghost use Rattle.nts_terms.specs.Modes.{mode_of, numbers_of};
 ghost use Rattle.nts_certainty.specs.Accesses.{access_of};
 ghost use Rattle.nts_certainty.specs.Deciding.{decision_of, key_before, keys_of, of_keys, parents_of, is_open, has_open, names_ids, rests_on_open, rests_on_stored};
 
 use crate::reruns::{RerunCondition, is_listed};
-use nts_model::{Label, Leaf, VariableKind};
+use nts_terms::nts_model::{Label, Leaf, VariableKind};
 use nts_terms::{AliasDefId, AliasId, AliasTerm, Cx, Ty, TypingMode};
 
 /// What an answer rests on of hidden types.

@@ -14,6 +14,8 @@ mod sources;
 
 pub use certainty::{Certainty, MaybeCause, MaybeInfo, OpaqueTypesJank};
 pub use decision::{AccessedOpaques, RerunDecision, should_rerun_after_erased_canonicalization};
+pub use nts_terms;
+pub use nts_terms::nts_model;
 pub use reruns::{RerunCondition, is_listed};
 pub use rigid::opaque_type_is_rigid;
 pub use sources::{GoalSource, HasChanged, PathKind};

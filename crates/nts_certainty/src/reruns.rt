@@ -1,12 +1,12 @@
 //! When a goal is asked again, since what it was answered rests on hidden types.
 ghost use Rattle.std.specs.Prelude.{◌≡◌, IfOk, OnOk, OnErr, IsOkUnless};
-ghost use Rattle.nts_model.specs.Derivations.Handlers.{any_infer, in_storage};
+ghost use Rattle.nts_terms.specs.nts_model.specs.Derivations.Handlers.{any_infer, in_storage};
 ghost use Rattle.nts_theory.specs.Erased.Accessing.{is_in, united, joined_accesses};
 ghost use Rattle.nts_terms.specs.Modes.{numbers_of};
 ghost use Rattle.nts_certainty.specs.Accesses.{access_of};
 
-use nts_store::Fault;
 use nts_terms::AliasId;
+use nts_terms::nts_store::Fault;
 use std::alloc::AllocError;
 
 /// When a goal must be asked again, since its answer rests on hidden types.

@@ -1,6 +1,6 @@
 //! Which opaque types stand for themselves alone.
 ghost use Rattle.std.specs.Prelude.{◌≢◌, ◌↔◌, IsTrue};
-ghost use Rattle.nts_model.specs.Derivations.Rules.{erased};
+ghost use Rattle.nts_terms.specs.nts_model.specs.Derivations.Rules.{erased};
 ghost use Rattle.nts_terms.specs.Modes.{mode_of};
 ghost use Rattle.nts_certainty.specs.Deciding.{IsRigidIn};
 

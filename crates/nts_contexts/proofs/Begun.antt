@@ -6,9 +6,9 @@ use Rattle.nts_terms.specs.declared.handles.Goal.{Goal}
 use Rattle.nts_certainty.specs.declared.sources.GoalSource.{GoalSource}
 use Rattle.nts_table.specs.Tables.{Table, IsTable}
 use Rattle.nts_table.specs.TableLaws.{IsTable-opened}
-use Rattle.nts_meaning.proofs.Evaluating.{IsPosed-opened}
+use Rattle.nts_evaluation.specs.nts_meaning.proofs.Evaluating.{IsPosed-opened}
 use Rattle.nts_contexts.specs.declared.context.EvalCtxt.{EvalCtxt}
-use Rattle.nts_trying.specs.Stepping.{ArePosed}
+use Rattle.nts_evaluation.specs.nts_trying.specs.Stepping.{ArePosed}
 use Rattle.nts_contexts.specs.Contexts.{IsContextReady, IsOpened, IsCopy, IsProbe, IsRootContext}
 use Rattle.nts_terms.specs.declared.modes.Span.{Span}
 

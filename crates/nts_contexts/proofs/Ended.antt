@@ -9,8 +9,8 @@ use Rattle.nts_store.specs.Errors.{error_of}
 use Rattle.nts_unify.specs.Entries.{Entries, front}
 use Rattle.nts_table.specs.Tables.{Table, IsTable}
 use Rattle.nts_terms.specs.declared.cx.Cx.{Cx}
-use Rattle.nts_meaning.specs.Evaluation.{Goes, Runs}
-use Rattle.nts_meaning.proofs.Evaluating.{ended, runs-back}
+use Rattle.nts_evaluation.specs.nts_meaning.specs.Evaluation.{Goes, Runs}
+use Rattle.nts_evaluation.specs.nts_meaning.proofs.Evaluating.{ended, runs-back}
 use Rattle.nts_contexts.specs.Faults.{fault_in, fault_after}
 use Rattle.nts_contexts.specs.Contexts.{IsOpened}
 

@@ -10,16 +10,16 @@ use Rattle.nts_terms.specs.declared.cx.Cx.{Cx}
 use Rattle.nts_terms.specs.declared.handles.Goal.{Goal}
 use Rattle.nts_certainty.specs.declared.sources.GoalSource.{GoalSource}
 use Rattle.nts_table.specs.Tables.{Table, IsTable, RelatingKeeps}
-use Rattle.nts_meaning.specs.Evaluation.{Runs, IsPosed}
+use Rattle.nts_evaluation.specs.nts_meaning.specs.Evaluation.{Runs, IsPosed}
 use Rattle.nts_model.specs.Tables.Equations.{AreRelated}
 use Rattle.nts_unify.specs.Reading.{content_of}
 use Rattle.nts_unify.proofs.Keeping.{closed_later}
-use Rattle.nts_meaning.proofs.Evaluating.{Runs-trans, Runs-refl, runs-back, goes}
-use Rattle.nts_trying.proofs.Stepping.{posed_later}
+use Rattle.nts_evaluation.specs.nts_meaning.proofs.Evaluating.{Runs-trans, Runs-refl, runs-back, goes}
+use Rattle.nts_evaluation.specs.nts_trying.proofs.Stepping.{posed_later}
 use Rattle.nts_contexts.specs.declared.state.EvalState.{EvalState}
 use Rattle.nts_contexts.specs.declared.context.EvalCtxt.{EvalCtxt}
 use Rattle.nts_contexts.specs.Faults.{fault_after}
-use Rattle.nts_trying.specs.Stepping.{ArePosed}
+use Rattle.nts_evaluation.specs.nts_trying.specs.Stepping.{ArePosed}
 use Rattle.nts_contexts.specs.Contexts.{IsContextReady, KeepsContext}
 
 fault-kept : (a b c : Option Fault) → IfSome a (λ f. b ≡ Some f) → IfSome b (λ f. c ≡ Some f) → IfSome a (λ f. c ≡ Some f)

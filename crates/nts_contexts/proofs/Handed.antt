@@ -9,8 +9,8 @@ use Rattle.nts_terms.specs.declared.handles.ParamEnv.{ParamEnv}
 use Rattle.nts_terms.proofs.Moved.{Holds-extended}
 use Rattle.nts_unify.specs.Lawful.{content_of-extended}
 use Rattle.nts_table.specs.Tables.{Table, IsTable, IsSide, IsPlainSide}
-use Rattle.nts_meaning.specs.Evaluation.{Goes, IsPosed}
-use Rattle.nts_meaning.proofs.Evaluating.{IsPosed-opened, IsPosed-later, Knows-goes}
+use Rattle.nts_evaluation.specs.nts_meaning.specs.Evaluation.{Goes, IsPosed}
+use Rattle.nts_evaluation.specs.nts_meaning.proofs.Evaluating.{IsPosed-opened, IsPosed-later, Knows-goes}
 use Rattle.nts_contexts.specs.declared.context.EvalCtxt.{EvalCtxt}
 use Rattle.nts_contexts.specs.Contexts.{IsGoalOfContext, KeepsContext, IsOpened, IsRootContext, IsProbe}
 use Rattle.nts_contexts.specs.Related.{IsEnvOf}

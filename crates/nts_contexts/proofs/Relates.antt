@@ -28,10 +28,10 @@ use Rattle.nts_unify.proofs.Keeping.{sides-added}
 use Rattle.nts_table.specs.Tables.{Table, IsTable}
 use Rattle.nts_variance.specs.Walking.{IsTableGrown}
 use Rattle.nts_solver_relating.specs.Sides.{IsRelatedBy, SolverRelatingKeeps, AreMadeEqual}
-use Rattle.nts_meaning.specs.Evaluation.{Goes, Runs, IsPosed}
-use Rattle.nts_trying.specs.Stepping.{ArePosed}
-use Rattle.nts_meaning.proofs.Evaluating.{goes, runs-back}
-use Rattle.nts_trying.proofs.Stepping.{posed_later}
+use Rattle.nts_evaluation.specs.nts_meaning.specs.Evaluation.{Goes, Runs, IsPosed}
+use Rattle.nts_evaluation.specs.nts_trying.specs.Stepping.{ArePosed}
+use Rattle.nts_evaluation.specs.nts_meaning.proofs.Evaluating.{goes, runs-back}
+use Rattle.nts_evaluation.specs.nts_trying.proofs.Stepping.{posed_later}
 use Rattle.nts_contexts.specs.declared.state.EvalState.{EvalState}
 use Rattle.nts_contexts.specs.Related.{IsEnvOf, AddsTo, RelatesAdding, LeavesNothing, AddsRelated, AreEquatedIn}
 

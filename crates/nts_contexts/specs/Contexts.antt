@@ -12,8 +12,8 @@ use Rattle.nts_terms.specs.declared.cx.Cx.{Cx}
 use Rattle.nts_terms.specs.declared.handles.Goal.{Goal}
 use Rattle.nts_unify.specs.Reading.{content_of}
 use Rattle.nts_table.specs.Tables.{Table, IsTable}
-use Rattle.nts_meaning.specs.Evaluation.{Runs, IsPosed}
-use Rattle.nts_trying.specs.Stepping.{ArePosed}
+use Rattle.nts_evaluation.specs.nts_meaning.specs.Evaluation.{Runs, IsPosed}
+use Rattle.nts_evaluation.specs.nts_trying.specs.Stepping.{ArePosed}
 use Rattle.nts_contexts.specs.declared.state.EvalState.{EvalState}
 use Rattle.nts_contexts.specs.declared.context.EvalCtxt.{EvalCtxt}
 use Rattle.nts_terms.specs.declared.modes.Span.{Span}

@@ -14,9 +14,9 @@ use Rattle.nts_terms.specs.declared.handles.Goal.{Goal}
 use Rattle.nts_terms.specs.declared.handles.ParamEnv.{ParamEnv}
 use Rattle.nts_terms.specs.Signatures.{variances_in}
 use Rattle.nts_solver_relating.specs.Sides.{ArePlainIn, AreMadeEqualIn, AreUnrelatedIn, IsRelatedIn, RefusesIn}
-use Rattle.nts_meaning.specs.Meant.{Rules, Always, IsProvedSince, ReachesBy}
-use Rattle.nts_trying.specs.Stopping.{RefusesAmong}
-use Rattle.nts_trying.specs.Stepping.{AreLeft, AreSettled}
+use Rattle.nts_evaluation.specs.nts_meaning.specs.Meant.{Rules, Always, IsProvedSince, ReachesBy}
+use Rattle.nts_evaluation.specs.nts_trying.specs.Stopping.{RefusesAmong}
+use Rattle.nts_evaluation.specs.nts_trying.specs.Stepping.{AreLeft, AreSettled}
 use Rattle.nts_contexts.specs.declared.context.EvalCtxt.{EvalCtxt}
 use Rattle.nts_contexts.specs.Contexts.{KeepsContext, EvaluatedNothing, IsGoalOfContext, content_in}
 use Rattle.nts_contexts.specs.Faults.{fault_after}

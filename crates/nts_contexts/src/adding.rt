@@ -1,8 +1,8 @@
 //! What is added to the goals of a context.
 ghost use Rattle.std.specs.Prelude.{◌≡◌, ◌≢◌, ◌++◌, All, Err, IfOk, IfErr, OnOk, OnErr};
 ghost use Rattle.nts_table.specs.Tables.{IsTable};
-ghost use Rattle.nts_meaning.specs.Evaluation.{Runs, IsPosed};
-ghost use Rattle.nts_trying.specs.Stepping.{ArePosed};
+ghost use Rattle.nts_evaluation.specs.nts_meaning.specs.Evaluation.{Runs, IsPosed};
+ghost use Rattle.nts_evaluation.specs.nts_trying.specs.Stepping.{ArePosed};
 ghost use Rattle.nts_contexts.specs.Related.{AddsTo, KeepsState};
 
 use crate::state::EvalState;

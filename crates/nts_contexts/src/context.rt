@@ -3,7 +3,7 @@ ghost use Rattle.std.specs.Prelude.{◌≡◌, ◌≢◌, ◌++◌, ◌∷◌, [
 ghost use Rattle.std.specs.Borrow.{MutBor};
 ghost use Rattle.nts_store.specs.Errors.{error_of};
 ghost use Rattle.nts_table.specs.Tables.{IsTable};
-ghost use Rattle.nts_meaning.specs.Evaluation.{Runs};
+ghost use Rattle.nts_evaluation.specs.nts_meaning.specs.Evaluation.{Runs};
 ghost use Rattle.nts_contexts.specs.Faults.{fault_of, fault_in, fault_after, AnsweredNoFault};
 ghost use Rattle.nts_contexts.specs.Contexts.{IsContextReady, KeepsContext, IsOpened, IsRootContext, IsProbe, IsContextRun, IsLeftByRoot, IsCopy, EvaluatedNothing, RanOutIn, WasAnswered};
 

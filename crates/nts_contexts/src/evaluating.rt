@@ -6,8 +6,8 @@ ghost use Rattle.nts_unify.specs.Reading.{content_of};
 ghost use Rattle.nts_certainty.specs.declared.certainty.Certainty.TheVariants as certainty;
 ghost use Rattle.nts_response.specs.Forms.{response_at, HoldsResponse};
 ghost use Rattle.nts_theory.specs.Telling.{IsResponseOf};
-ghost use Rattle.nts_meaning.specs.Answering.{told_in};
-ghost use Rattle.nts_meaning.specs.Meant.{rules_of, Always};
+ghost use Rattle.nts_evaluation.specs.nts_meaning.specs.Answering.{told_in};
+ghost use Rattle.nts_evaluation.specs.nts_meaning.specs.Meant.{rules_of, Always};
 ghost use Rattle.nts_contexts.specs.Faults.{fault_after, tainted_after};
 ghost use Rattle.nts_contexts.specs.Contexts.{IsContextReady, KeepsContext, content_in};
 ghost use Rattle.nts_contexts.specs.Promises.{EvaluatesAdded, ReachesAdded, RefusesOneAdded};
@@ -15,14 +15,14 @@ ghost use Rattle.nts_contexts.specs.Promises.{EvaluatesAdded, ReachesAdded, Refu
 use crate::context::EvalCtxt;
 use nts_certainty::Certainty;
 use nts_delegate::GoalHandler;
+use nts_evaluation::nts_meaning::make_response;
+use nts_evaluation::nts_trying::AvailableDepth;
 use nts_evaluation::try_evaluate_goals;
-use nts_meaning::make_response;
 use nts_response::CanonicalResponse;
 use nts_search::{CurrentGoalKind, SearchGraph};
 use nts_store::EvalError;
 use nts_table::InferCtxt;
 use nts_terms::Cx;
-use nts_trying::AvailableDepth;
 
 impl<H: GoalHandler> EvalCtxt<'_, H> {
     /// Evaluates the goals that were added, in steps, until a step finds nothing out, or as often as the store's limit says: then

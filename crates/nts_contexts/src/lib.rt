@@ -12,4 +12,5 @@ mod state;
 mod unconstrained;
 
 pub use context::EvalCtxt;
+pub use nts_solver_relating;
 pub use state::EvalState;

@@ -5,14 +5,14 @@ ghost use Rattle.nts_store.specs.Errors.{error_of};
 ghost use Rattle.nts_store.specs.Growth.{tree_at};
 ghost use Rattle.nts_terms.specs.Rest.{Grows};
 ghost use Rattle.nts_unify.specs.Reading.{content_of};
-ghost use Rattle.nts_meaning.specs.Evaluation.{IsPosed};
+ghost use Rattle.nts_evaluation.specs.nts_meaning.specs.Evaluation.{IsPosed};
 ghost use Rattle.nts_contexts.specs.Faults.{fault_after};
 ghost use Rattle.nts_contexts.specs.Contexts.{IsContextReady, KeepsContext, IsGoalOfContext, EvaluatedNothing, content_in, tree_in};
 ghost use Rattle.nts_contexts.specs.Unconstrained.{Spares, variable_universe, term_universe, universe_at, IsFullyUnconstrained};
 
 use crate::context::EvalCtxt;
 use nts_delegate::GoalHandler;
-use nts_meaning::resolve_goal;
+use nts_evaluation::nts_meaning::resolve_goal;
 use nts_model::{Constant, Label, Leaf, VariableKind};
 use nts_store::{EvalError, LabelTest, all_labels};
 use nts_table::InferCtxt;

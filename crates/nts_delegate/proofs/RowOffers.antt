@@ -27,7 +27,7 @@ use Rattle.nts_delegate.specs.Candidates.{IsAskedIn, IsOverIn, AreEquations, IsC
 use Rattle.nts_delegate.specs.ClausesLawful.{pairs_read}
 use Rattle.nts_delegate.specs.EnvironmentRows.{one_or_none, IsAssumedOffer, IsOfferWhere, IsOfferIf, IsOfferOfRow}
 use Rattle.nts_delegate.specs.Keeping.{AreCandidates-kept, AreCandidates-append, candidates_of-kept, HoldsGoal-kept, same_goal}
-use Rattle.nts_certainty.specs.Accesses.{access_of}
+use Rattle.nts_candidates.specs.nts_certainty.specs.Accesses.{access_of}
 use Rattle.nts_candidates.specs.Offered.{certainty_of, equation_as, equation_of, constraint_of, hidden_of, premise_of, candidate_of, candidates_of}
 use Rattle.nts_delegate.specs.Offers.{AreArgumentPairs, trait_of}
 

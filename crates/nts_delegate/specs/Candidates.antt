@@ -10,7 +10,7 @@ use Rattle.nts_model.specs.Terms.Substitutions.{Occurs}
 use Rattle.nts_model.specs.Derivations.Related.{pair}
 use Rattle.nts_store.specs.declared.nodes.NodeId.{NodeId}
 use Rattle.nts_terms.specs.declared.handles.Goal.{Goal}
-use Rattle.nts_certainty.specs.declared.reruns.RerunCondition.TheVariants as rerun
+use Rattle.nts_candidates.specs.nts_certainty.specs.declared.reruns.RerunCondition.TheVariants as rerun
 use Rattle.nts_store.specs.Growth.{tree_at, IsIn}
 use Rattle.nts_terms.specs.Handles.{HoldsGoal}
 use Rattle.nts_model.specs.Derivations.Handlers.{NamesFresh, IsFixed}

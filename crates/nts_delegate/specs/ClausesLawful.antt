@@ -18,7 +18,7 @@ use Rattle.nts_terms.proofs.Standing.{args_tree}
 use Rattle.nts_delegate.specs.Clauses.{is_foreign, IsClauseTerm, AreBodies, HoldsClause, AreClauses, clauses_of, coinductive_of, AreClausesReady}
 use Rattle.nts_delegate.specs.Offers.{trait_of, IsArgumentPair, AreArgumentPairs, asked_by, IsOffer, takes, AreEach, AreOffersOf, AreOffers}
 use Rattle.nts_delegate.specs.ClauseHandlers.{ClauseTree, equations_of, asked_in, offer_by, takes_all, offers_by, handler_by, clause_tree, clauses_in_store, handler_of}
-use Rattle.nts_certainty.specs.Accesses.{access_of}
+use Rattle.nts_candidates.specs.nts_certainty.specs.Accesses.{access_of}
 use Rattle.nts_candidates.specs.Offered.{certainty_of, equation_as, equation_of, constraint_of, hidden_of, premise_of, candidate_of, candidates_of}
 use Rattle.nts_candidates.specs.declared.data.Equation.{Equation as EquationData}
 use Rattle.nts_candidates.specs.declared.data.CandidateData.{CandidateData}

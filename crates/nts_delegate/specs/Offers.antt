@@ -4,9 +4,9 @@ use Rattle.std.specs.List.{filter}
 use Rattle.nts_model.specs.declared.labels.ClauseHead.TheVariants as clause
 use Rattle.nts_model.specs.declared.labels.Label.TheVariants as label
 use Rattle.nts_model.specs.Terms.Trees.{Tree, empty, more, node, children, row_length, kind_of, any_argument, FitsPlace}
-use Rattle.nts_certainty.specs.declared.certainty.Certainty.TheVariants as certainty
-use Rattle.nts_certainty.specs.declared.sources.GoalSource.TheVariants as source
-use Rattle.nts_certainty.specs.declared.reruns.RerunCondition.TheVariants as rerun
+use Rattle.nts_candidates.specs.nts_certainty.specs.declared.certainty.Certainty.TheVariants as certainty
+use Rattle.nts_candidates.specs.nts_certainty.specs.declared.sources.GoalSource.TheVariants as source
+use Rattle.nts_candidates.specs.nts_certainty.specs.declared.reruns.RerunCondition.TheVariants as rerun
 use Rattle.nts_terms.specs.declared.handles.Goal.{Goal}
 use Rattle.nts_terms.specs.declared.handles.Predicate.{Predicate}
 use Rattle.nts_terms.specs.declared.handles.TraitRef.{TraitRef}

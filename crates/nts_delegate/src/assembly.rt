@@ -5,7 +5,7 @@ use crate::assumptions::Assumptions;
 use crate::both::Both;
 use crate::delegate::{FetchEligibleAssocItemResponse, GoalHandler};
 use nts_candidates::CandidateData;
-use nts_certainty::Certainty;
+use nts_candidates::nts_certainty::Certainty;
 use nts_store::{EvalError, Fault};
 use nts_table::InferCtxt;
 use nts_terms::{

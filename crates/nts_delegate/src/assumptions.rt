@@ -10,10 +10,10 @@ ghost use Rattle.nts_delegate.specs.EnvironmentRows.{one_or_none, IsOfferOfRow};
 use crate::clauses::{pairs_of, trait_of_statement};
 use crate::delegate::GoalHandler;
 use nts_candidates::CandidateData;
-use nts_certainty::{Certainty, RerunCondition};
+use nts_candidates::nts_certainty::{Certainty, RerunCondition};
 use nts_model::{BoundVarIndexKind, Label, Sort};
-use nts_replacing::{Place, ReplacerUnder, replace_under};
 use nts_store::{Fault, NodeId, Nodes, is_closed_under};
+use nts_table::nts_replacing::{Place, ReplacerUnder, replace_under};
 use nts_terms::{
     AliasTerm, BoundVars, Const, Cx, GenericArgs, Goal, ParamEnv, Predicate, Term, TraitId,
     TraitRef, TypingMode,

@@ -16,8 +16,8 @@ ghost use Rattle.nts_delegate.specs.Relevant.{built_by_label, first_built_by, Le
 
 use crate::delegate::GoalHandler;
 use crate::head_index::HeadIndex;
+use nts_candidates::nts_certainty::{Certainty, GoalSource, RerunCondition};
 use nts_candidates::{CandidateData, CandidateGoal, Equation, EquationKind};
-use nts_certainty::{Certainty, GoalSource, RerunCondition};
 use nts_model::{Label, Sort, TyHead};
 use nts_store::Fault;
 use nts_terms::{

@@ -6,7 +6,7 @@ ghost use Rattle.nts_store.specs.Growth.{Extends};
 ghost use Rattle.nts_terms.specs.Rest.{Grows};
 
 use nts_candidates::CandidateData;
-use nts_certainty::Certainty;
+use nts_candidates::nts_certainty::Certainty;
 use nts_store::{EvalError, Fault};
 use nts_table::InferCtxt;
 use nts_terms::{
@@ -37,7 +37,7 @@ pub trait GoalHandler {
     ghost use Rattle.nts_delegate.specs.Relevant.{LeavesOut};
     ghost use Rattle.nts_terms.specs.Modes.{mode_of};
     ghost use Rattle.nts_delegate.specs.SameHandlers.{MeansSame};
-    ghost use Rattle.nts_unify.specs.Reading.{content_of};
+    ghost use Rattle.nts_table.specs.nts_unify.specs.Reading.{content_of};
     ghost use Rattle.nts_table.specs.Tables.{IsTable};
     ghost use Rattle.nts_terms.specs.Handles.{HoldsEnv, HoldsArgs, HoldsTerm, HoldsConst, HoldsGoal, IsAliasOf};
     ghost use Rattle.nts_terms.specs.Kinds.{tree_of_alias};

@@ -3,9 +3,9 @@ ghost use Rattle.std.specs.Prelude.{◌≡◌, ◌≢◌, OnOk, OnErr, Err};
 ghost use Rattle.nts_model.specs.Tables.Equations.{AreRelated, AreUnrelated};
 ghost use Rattle.nts_model.specs.Tables.Passing.{BringsLabelsOf};
 ghost use Rattle.nts_store.specs.Growth.{tree_at, Extends};
-ghost use Rattle.nts_unify.specs.Reading.{content_of};
+ghost use Rattle.nts_table.specs.nts_unify.specs.Reading.{content_of};
 ghost use Rattle.nts_table.specs.Tables.{IsTable, IsTermIn};
-ghost use Rattle.nts_unify.specs.Changing.{IsLater};
+ghost use Rattle.nts_table.specs.nts_unify.specs.Changing.{IsLater};
 ghost use Rattle.nts_store.specs.declared.fault.EvalError.TheVariants.{NoSolution};
 ghost use Rattle.nts_table.specs.Frames.{ChangesVariables};
 

@@ -11,7 +11,7 @@ use Rattle.nts_unify.specs.declared.contents.State.TheVariants.{Link, Unset}
 use Rattle.nts_canonical.specs.Kinds.{AreInputKinds, value_leaves, variables_before, count_of, kind_of_position, link_to, made_variables}
 use Rattle.nts_canonical.specs.Building.{made_entries}
 use Rattle.nts_canonical.proofs.Kinded.{have_kinds}
-use Rattle.nts_canonicalizer.proofs.Handed.{form-kinds}
+use Rattle.nts_meaning.specs.nts_canonicalizer.proofs.Handed.{form-kinds}
 use Rattle.nts_meaning.specs.Telling.{queries}
 use Rattle.nts_decisions.proofs.UnrefusedFacts.{HasLeavesEach}
 

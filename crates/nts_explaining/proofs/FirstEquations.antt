@@ -16,7 +16,7 @@ use Rattle.nts_candidates.specs.declared.data.CandidateData.{CandidateData}
 use Rattle.nts_delegate.specs.Candidates.{AreEquations, IsCandidate}
 use Rattle.nts_candidates.specs.Offered.{equation_of, candidate_of}
 use Rattle.nts_certainty.specs.declared.reruns.RerunCondition.TheVariants as rerun
-use Rattle.nts_meaning.proofs.Running.{candidate-kept}
+use Rattle.nts_evaluation.specs.nts_meaning.proofs.Running.{candidate-kept}
 use Rattle.nts_explaining.specs.Explaining.{MeetsFirst, StopsAtEquation}
 
 -- the first equations are equations

@@ -10,7 +10,7 @@ use Rattle.nts_certainty.specs.declared.certainty.Certainty.{Certainty}
 use Rattle.nts_terms.specs.declared.handles.Goal.{Goal}
 use Rattle.std.specs.Prelude.{Option}
 use Rattle.nts_delegate.specs.Relevant.{IsIrrelevant}
-use Rattle.nts_trying.proofs.LeftOut.{unmet}
+use Rattle.nts_evaluation.specs.nts_trying.proofs.LeftOut.{unmet}
 use Rattle.nts_candidates.specs.declared.reasons.Reason.{Reason}
 use Rattle.nts_candidates.specs.declared.reasons.Reason.TheVariants as reason
 use Rattle.nts_explaining.specs.Explaining.{Explains, ExplainsEach}

@@ -19,12 +19,12 @@ use Rattle.nts_candidates.specs.declared.data.CandidateData.{CandidateData}
 use Rattle.nts_candidates.specs.declared.data.CandidateGoal.{CandidateGoal}
 use Rattle.nts_delegate.specs.Candidates.{AreCandidates}
 use Rattle.nts_candidates.specs.Offered.{candidate_of, candidates_of, premise_of}
-use Rattle.nts_response.specs.Forms.{premise_at}
-use Rattle.nts_meaning.proofs.Evaluating.{candidate_at, HoldsGoal-extended}
-use Rattle.nts_meaning.proofs.Running.{candidate-kept}
-use Rattle.nts_trying.specs.Adding.{AreAdded}
-use Rattle.nts_meaning.specs.Evaluation.{IsAskedGoal}
-use Rattle.nts_trying.specs.Opening.{IsOpenedTo, CannotOpen}
+use Rattle.nts_evaluation.specs.nts_response.specs.Forms.{premise_at}
+use Rattle.nts_evaluation.specs.nts_meaning.proofs.Evaluating.{candidate_at, HoldsGoal-extended}
+use Rattle.nts_evaluation.specs.nts_meaning.proofs.Running.{candidate-kept}
+use Rattle.nts_evaluation.specs.nts_trying.specs.Adding.{AreAdded}
+use Rattle.nts_evaluation.specs.nts_meaning.specs.Evaluation.{IsAskedGoal}
+use Rattle.nts_evaluation.specs.nts_trying.specs.Opening.{IsOpenedTo, CannotOpen}
 use Rattle.nts_explaining.specs.declared.conditions.Outcome.{Outcome}
 use Rattle.nts_explaining.specs.declared.conditions.Outcome.TheVariants as outcome
 use Rattle.nts_explaining.specs.Asking.{IsWithin, IsReasonOf}

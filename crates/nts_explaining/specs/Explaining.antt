@@ -11,9 +11,9 @@ use Rattle.nts_terms.specs.declared.handles.Goal.{Goal}
 use Rattle.nts_terms.specs.declared.modes.TypingMode.{TypingMode}
 use Rattle.nts_terms.specs.Modes.{mode_of}
 use Rattle.nts_candidates.specs.Offered.{certainty_of}
-use Rattle.nts_meaning.specs.Evaluation.{IsAskedGoal}
-use Rattle.nts_meaning.specs.Meant.{offers_of}
-use Rattle.nts_trying.specs.Opening.{IsOpenedTo, CannotOpen}
+use Rattle.nts_evaluation.specs.nts_meaning.specs.Evaluation.{IsAskedGoal}
+use Rattle.nts_evaluation.specs.nts_meaning.specs.Meant.{offers_of}
+use Rattle.nts_evaluation.specs.nts_trying.specs.Opening.{IsOpenedTo, CannotOpen}
 use Rattle.nts_candidates.specs.declared.reasons.Reason.{Reason}
 use Rattle.nts_candidates.specs.declared.reasons.Reason.TheVariants as reason
 

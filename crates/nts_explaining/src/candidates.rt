@@ -5,8 +5,8 @@ ghost use Rattle.nts_unify.specs.Reading.{content_of};
 ghost use Rattle.nts_table.specs.Tables.{IsTable};
 ghost use Rattle.nts_delegate.specs.Candidates.{IsCandidate, AreCandidates};
 ghost use Rattle.nts_candidates.specs.Offered.{candidate_of, candidates_of};
-ghost use Rattle.nts_meaning.specs.Evaluation.{IsAdmitted, IsPosed, IsAskedGoal, Goes, Runs};
-ghost use Rattle.nts_trying.specs.Stepping.{ArePosed};
+ghost use Rattle.nts_evaluation.specs.nts_meaning.specs.Evaluation.{IsAdmitted, IsPosed, IsAskedGoal, Goes, Runs};
+ghost use Rattle.nts_evaluation.specs.nts_trying.specs.Stepping.{ArePosed};
 ghost use Rattle.nts_terms.specs.Rest.{Grows};
 ghost use Rattle.nts_explaining.specs.Explaining.{Explains, ExplainsEach, GivesReasons};
 ghost use Rattle.nts_candidates.specs.HeldReasons.{HoldsReason};
@@ -17,11 +17,13 @@ use crate::conditions::{Outcome, ask_conditions};
 use crate::equations::unmet_equation;
 use nts_certainty::{Certainty, GoalSource};
 use nts_delegate::{CandidateData, GoalHandler, Reason};
-use nts_meaning::resolve_goal;
+use nts_evaluation::nts_meaning::resolve_goal;
+use nts_evaluation::nts_trying::{
+    GoalRow, Trial, enter_forall, equate, goal_kind, goal_row, record_constraints,
+};
 use nts_store::EvalError;
 use nts_table::InferCtxt;
 use nts_terms::{Cx, Goal};
-use nts_trying::{GoalRow, Trial, enter_forall, equate, goal_kind, goal_row, record_constraints};
 
 /// What each candidate that the handler offers for a goal comes to, in their order: why the goal is not answered yes, one level
 /// deep. A goal that binds variables is opened first. There is no reason where no candidate answers such a goal. The table is as

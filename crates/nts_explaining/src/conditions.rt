@@ -1,18 +1,18 @@
 //! Which condition of a candidate is in the way.
 ghost use Rattle.std.specs.Prelude.{◌+◌, length, IfOk};
 ghost use Rattle.nts_table.specs.Tables.{IsTable};
-ghost use Rattle.nts_meaning.specs.Evaluation.{IsPosed, Runs};
-ghost use Rattle.nts_trying.specs.Stepping.{ArePosed};
+ghost use Rattle.nts_evaluation.specs.nts_meaning.specs.Evaluation.{IsPosed, Runs};
+ghost use Rattle.nts_evaluation.specs.nts_trying.specs.Stepping.{ArePosed};
 ghost use Rattle.nts_explaining.specs.Asking.{IsWithin};
 
 use nts_certainty::{Certainty, GoalSource};
 use nts_delegate::GoalHandler;
+use nts_evaluation::nts_search::{CurrentGoalKind, SearchGraph};
+use nts_evaluation::nts_trying::AvailableDepth;
 use nts_evaluation::try_evaluate_goals;
-use nts_search::{CurrentGoalKind, SearchGraph};
 use nts_store::EvalError;
 use nts_table::InferCtxt;
 use nts_terms::{Cx, Goal};
-use nts_trying::AvailableDepth;
 
 /// What asking the conditions of a candidate comes to.
 #[derive(Clone, Copy)]

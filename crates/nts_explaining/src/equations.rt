@@ -5,16 +5,16 @@ ghost use Rattle.nts_unify.specs.Reading.{content_of};
 ghost use Rattle.nts_certainty.specs.declared.reruns.RerunCondition.TheVariants.{Never};
 ghost use Rattle.nts_delegate.specs.Candidates.{IsCandidate};
 ghost use Rattle.nts_candidates.specs.Offered.{candidate_of};
-ghost use Rattle.nts_meaning.specs.Evaluation.{IsPosed};
+ghost use Rattle.nts_evaluation.specs.nts_meaning.specs.Evaluation.{IsPosed};
 ghost use Rattle.nts_terms.specs.Rest.{Grows};
 ghost use Rattle.nts_explaining.specs.Explaining.{MeetsFirst, StopsAtEquation};
 
 use nts_certainty::{Certainty, RerunCondition};
 use nts_delegate::CandidateData;
+use nts_evaluation::nts_trying::equate;
 use nts_store::EvalError;
 use nts_table::InferCtxt;
 use nts_terms::{Cx, Goal};
-use nts_trying::equate;
 use std::alloc::{AllocError, Global};
 
 /// Of a candidate whose equations can't be met, the first that can't be met together with those before it. The table is as before.

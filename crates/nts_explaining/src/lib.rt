@@ -8,3 +8,5 @@ mod equations;
 
 pub use candidates::explain;
 pub use nts_delegate::Reason;
+pub use nts_evaluation;
+pub use nts_evaluation::{nts_answering, nts_applying, nts_asking};

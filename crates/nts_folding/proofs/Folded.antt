@@ -10,15 +10,15 @@ use Rattle.nts_model.specs.declared.labels.Label.TheVariants as label
 use Rattle.nts_model.specs.declared.labels.ListHead.TheVariants as list
 use Rattle.nts_model.specs.Terms.Trees.{Tree, empty, more, node, children, NodeKind, kind_of, kind_of_label, row_length, row_push, IsRow, Place, Shape, in_order, each, shape, HavePlaces, AllFit, Meets}
 use Rattle.nts_model.specs.Derivations.Related.{pair}
-use Rattle.nts_store.specs.declared.nodes.NodeId.{NodeId}
+use Rattle.nts_terms.specs.nts_store.specs.declared.nodes.NodeId.{NodeId}
 use Rattle.nts_replacing.specs.declared.replacement.Task.{Task}
 use Rattle.nts_replacing.specs.declared.replacement.Task.TheVariants as task
-use Rattle.nts_store.specs.Growth.{tree_at, trees_at, IsIn, AllIn, Extends}
+use Rattle.nts_terms.specs.nts_store.specs.Growth.{tree_at, trees_at, IsIn, AllIn, Extends}
 use Rattle.nts_terms.specs.Handles.{Holds}
-use Rattle.nts_store.specs.Kept.{map-kept}
+use Rattle.nts_terms.specs.nts_store.specs.Kept.{map-kept}
 use Rattle.nts_replacing.specs.Replacement.{Job, enter, build, job, jobs, TaskIn, TasksIn, entered, building, IsFormedNode}
 use Rattle.nts_folding.specs.Folding.{MayAnswer, asked_as, GoesInto, ComesBack, Walk, done, next, answer, down, Starts, CannotMake, Stops, anywhere, early, late, at_term, at_binder, inside, at_made, statement_about, tree_of_binder, tree_of_list}
-use Rattle.nts_store.proofs.Growing.{Extends-trans, AllIn-extended, AllIn-push}
+use Rattle.nts_terms.specs.nts_store.proofs.Growing.{Extends-trans, AllIn-extended, AllIn-push}
 use Rattle.nts_replacing.proofs.Replacing.{AreLaws, jobs-push, TasksIn-front, TasksIn-extended, jobs-extended, map-push, row, row-trees, IsRow-Meets, AllIn-take, AllIn-drop, MayBuild, weight, weights, weights-append, weights-building, weights_split, weights_extended}
 use Rattle.nts_terms.proofs.Moved.{KeepsRest-trans}
 use Rattle.nts_terms.specs.Rest.{Grows}

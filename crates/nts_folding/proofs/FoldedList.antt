@@ -3,10 +3,10 @@ use Rattle.std.proofs.Common.{◌≡◌, suc, List, [], ◌∷◌, ◌++◌, map
 use Rattle.std.proofs.lemmas.List.{map-append}
 use Rattle.std.proofs.lemmas.List.Elements.{All-nil, All-push}
 use Rattle.nts_model.specs.Terms.Trees.{Tree, more, row_push}
-use Rattle.nts_store.specs.Growth.{Extends}
+use Rattle.nts_terms.specs.nts_store.specs.Growth.{Extends}
 use Rattle.nts_folding.specs.FoldLaws.{list_holds, list_same}
 use Rattle.nts_folding.specs.Folding.{Walk, done, Stops, tree_of_list}
-use Rattle.nts_store.proofs.Growing.{Extends-refl, Extends-trans}
+use Rattle.nts_terms.specs.nts_store.proofs.Growing.{Extends-refl, Extends-trans}
 use Rattle.nts_folding.proofs.Folded.{walk_push, stops_at}
 use Rattle.nts_terms.proofs.Standing.{all_rest}
 

@@ -7,8 +7,8 @@ use Rattle.nts_model.specs.Terms.Trees.{Tree, Place}
 use Rattle.nts_model.specs.Derivations.Related.{pair}
 use Rattle.nts_terms.specs.Handles.{Holds}
 use Rattle.nts_folding.specs.Folding.{statement_about, tree_of_binder, tree_of_option, tree_of_list}
-use Rattle.nts_store.specs.declared.nodes.NodeId.{NodeId}
-use Rattle.nts_store.specs.Growth.{Extends}
+use Rattle.nts_terms.specs.nts_store.specs.declared.nodes.NodeId.{NodeId}
+use Rattle.nts_terms.specs.nts_store.specs.Growth.{Extends}
 
 pub Holds-kept : (p : Place) (a b : List Tree) (n : NodeId) → Holds p a n → Extends a b → Holds p b n
 Holds-kept p a b n h e =

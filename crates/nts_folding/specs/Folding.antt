@@ -8,7 +8,7 @@ use Rattle.nts_model.specs.declared.labels.Label.TheVariants as label
 use Rattle.nts_model.specs.declared.labels.ListHead.TheVariants as list
 use Rattle.nts_model.specs.Terms.Trees.{Tree, empty, more, node, binders, NodeKind, of_sort, bound_predicate, statement, kind_of, kind_of_label}
 use Rattle.nts_model.specs.Derivations.Related.{pair}
-use Rattle.nts_store.specs.Growth.{tree_at}
+use Rattle.nts_terms.specs.nts_store.specs.Growth.{tree_at}
 use Rattle.nts_terms.specs.declared.handles.TraitRef.{TraitRef}
 use Rattle.nts_terms.specs.declared.handles.AliasTerm.{AliasTerm}
 use Rattle.nts_terms.specs.Handles.{alias_head}

@@ -2,7 +2,7 @@
 ghost use Rattle.std.specs.Prelude.{◌≡◌, List, Option, IfOk, IfErr, IfSome, Some, None, option_map};
 ghost use Rattle.std.specs.Allocator.{alloc_error};
 ghost use Rattle.nts_model.specs.Terms.Trees.{Tree};
-ghost use Rattle.nts_store.specs.Growth.{tree_at, Extends};
+ghost use Rattle.nts_terms.specs.nts_store.specs.Growth.{tree_at, Extends};
 ghost use Rattle.nts_terms.specs.Handles.{Holds};
 ghost use Rattle.nts_terms.specs.Rest.{Grows};
 ghost use Rattle.nts_folding.specs.Folding.{StaysHere, StaysMade};

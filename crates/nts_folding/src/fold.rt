@@ -2,14 +2,14 @@
 ghost use Rattle.std.specs.Prelude.{◌≡◌, ◌++◌, ◌∷◌, [], List, Option, IfOk, IfErr, IfSome, OnOk, None, Some, option_map};
 ghost use Rattle.std.specs.Allocator.{alloc_error};
 ghost use Rattle.nts_model.specs.Terms.Trees.{Tree, node, children, kind_of, kind_of_label, shape, Meets, binders};
-ghost use Rattle.nts_store.specs.Growth.{tree_at, trees_at, IsIn, AllIn, Extends};
+ghost use Rattle.nts_terms.specs.nts_store.specs.Growth.{tree_at, trees_at, IsIn, AllIn, Extends};
 ghost use Rattle.nts_terms.specs.Handles.{HoldsTy, HoldsRegion, HoldsConst, HoldsTerm, HoldsPredicate};
 ghost use Rattle.nts_folding.specs.Folding.{MayAnswer, AtBinder, Starts, HandsOver, ComesBack, Walk, Stops, CannotMake};
 ghost use Rattle.nts_terms.specs.Rest.{Grows};
 
 use nts_model::{Label, ListHead, Sort};
 use nts_replacing::{Task, push_node};
-use nts_store::{NodeId, binders_of, sort_of};
+use nts_terms::nts_store::{NodeId, binders_of, sort_of};
 use nts_terms::{Const, Cx, Predicate, Region, Term, Ty};
 use std::alloc::AllocError;
 

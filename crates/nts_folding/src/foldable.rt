@@ -2,7 +2,7 @@
 ghost use Rattle.std.specs.Prelude.{◌≡◌, [], List, All, map, IfOk, IfErr, IfSome, option_map};
 ghost use Rattle.nts_model.specs.Terms.Trees.{Tree, empty, more, a_type, a_region, a_const, any_term, any_argument, is, arguments, bound_predicate, environment, sort_list};
 ghost use Rattle.nts_model.specs.Derivations.Related.{pair};
-ghost use Rattle.nts_store.specs.Growth.{tree_at, Extends};
+ghost use Rattle.nts_terms.specs.nts_store.specs.Growth.{tree_at, Extends};
 ghost use Rattle.nts_terms.specs.Handles.{Holds, HoldsTy, HoldsRegion, HoldsConst, HoldsTerm, HoldsArg, HoldsArgs, HoldsPredicate, HoldsEnv, HoldsVars};
 ghost use Rattle.nts_folding.specs.FoldLaws.{Holds-kept};
 ghost use Rattle.nts_folding.specs.Folding.{Walk, Stops};

@@ -4,8 +4,8 @@ ghost use Rattle.nts_certainty.specs.declared.certainty.Certainty.{Certainty as 
 ghost use Rattle.nts_model.specs.Derivations.Handlers.{HasNoLeaks};
 ghost use Rattle.nts_table.specs.Tables.{IsTable};
 ghost use Rattle.nts_terms.specs.Rest.{Grows};
-ghost use Rattle.nts_meaning.specs.Evaluation.{IsAdmitted, IsPosed};
-ghost use Rattle.nts_meaning.specs.Meant.{rules_of, Always, IsRefusedUnder};
+ghost use Rattle.nts_evaluation.specs.nts_meaning.specs.Evaluation.{IsAdmitted, IsPosed};
+ghost use Rattle.nts_evaluation.specs.nts_meaning.specs.Meant.{rules_of, Always, IsRefusedUnder};
 ghost use Rattle.nts_certainty.specs.declared.certainty.Certainty.TheVariants as certainty;
 ghost use Rattle.nts_evaluation.specs.Deciding.{IsDeterminate, IsFact, IsOnlyFact, MayAnswer, IsAsDecided};
 ghost use Rattle.nts_evaluation.specs.Solutions.{IsCoherenceOf, HasNoSolutionUnder, WasEvaluated, IsAllGood};

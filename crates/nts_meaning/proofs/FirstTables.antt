@@ -48,7 +48,7 @@ use Rattle.nts_meaning.specs.Answering.{IsQueryInput}
 use Rattle.nts_meaning.specs.Telling.{queries}
 use Rattle.nts_canonical.proofs.Making.{some, append-none, value-at}
 use Rattle.nts_canonical.proofs.Valued.{root_kinds, values-known}
-use Rattle.nts_canonicalizer.proofs.Handed.{form-kinds, form-no_name, form-well_bound}
+use Rattle.nts_answering.specs.nts_canonicalizer.proofs.Handed.{form-kinds, form-no_name, form-well_bound}
 use Rattle.nts_canonical.proofs.Built.{query-known}
 use Rattle.nts_meaning.specs.Asking.{first_table, first_values}
 use Rattle.nts_meaning.proofs.QueryTables.{first_passes, values_pass, asked_passes, value_formed}

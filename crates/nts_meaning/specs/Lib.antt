@@ -6,3 +6,8 @@ pub mod Rounds
 pub mod Running
 pub mod Searching
 pub mod Telling
+pub use Rattle.nts_applying
+pub use Rattle.nts_answering.specs.nts_canonicalizer
+pub use Rattle.nts_delegate
+pub use Rattle.nts_response
+pub use Rattle.nts_search

@@ -6,6 +6,12 @@ mod response;
 mod round;
 mod terms;
 
+pub use nts_answering;
+pub use nts_answering::nts_canonicalizer;
+pub use nts_applying;
+pub use nts_applying::nts_equating;
+pub use nts_response;
+pub use nts_search;
 pub use response::{Evaluated, boxed_response, make_response};
 pub use round::{Ended, Round};
 pub use terms::{resolve_goal, resolve_term};

@@ -7,10 +7,10 @@ use Rattle.nts_terms.specs.declared.handles.GenericArg.{GenericArg}
 use Rattle.nts_table.specs.Tables.{Table}
 use Rattle.nts_table.specs.TableLaws.{IsTable-extended}
 use Rattle.nts_delegate.specs.ClausesKept.{AreClausesReady-kept}
-use Rattle.nts_meaning.specs.Evaluation.{Runs}
+use Rattle.nts_evaluation.specs.nts_meaning.specs.Evaluation.{Runs}
 use Rattle.nts_wording.specs.Found.{IsKnownValue}
 use Rattle.nts_wording.proofs.Telling.{values-extended}
-use Rattle.nts_asking.proofs.Asking.{IsAdmitted-extended}
+use Rattle.nts_evaluation.specs.nts_asking.proofs.Asking.{IsAdmitted-extended}
 use Rattle.nts_declaring.proofs.Values.{values-later}
 
 -- the values after an evaluation

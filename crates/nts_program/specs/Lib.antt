@@ -1,3 +1,4 @@
 pub mod Obeying
 pub mod Proving
 pub mod Running
+pub use Rattle.nts_declaring

@@ -3,7 +3,7 @@ ghost use Rattle.std.specs.Prelude.{◌≡◌, All, None, Some, IfOk, OnOk};
 ghost use Rattle.nts_table.specs.Tables.{IsTable};
 ghost use Rattle.nts_terms.specs.Handles.{HoldsGoal};
 ghost use Rattle.nts_delegate.specs.Clauses.{AreClausesReady};
-ghost use Rattle.nts_meaning.specs.Evaluation.{IsAdmitted};
+ghost use Rattle.nts_evaluation.specs.nts_meaning.specs.Evaluation.{IsAdmitted};
 ghost use Rattle.nts_certainty.specs.declared.certainty.Certainty.TheVariants as certainty;
 ghost use Rattle.nts_program.specs.Proving.{IsProvedGoal, IsJustifiedAnswer};
 ghost use Rattle.nts_wording.specs.Found.{IsKnownValue};

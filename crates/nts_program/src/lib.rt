@@ -10,7 +10,9 @@ mod obeying;
 mod running;
 
 pub use answer::ask;
+pub use nts_declaring;
 pub use nts_declaring::Program;
+pub use nts_evaluation;
 pub use nts_wording::{Status, Stop};
 pub use obeying::{follow, obey};
 pub use running::run;

@@ -6,7 +6,7 @@ use Rattle.nts_text.specs.Spelled.{KeepsNumbers}
 use Rattle.nts_text.specs.declared.commands.Command.{Command}
 use Rattle.nts_text.specs.declared.names.NameTable.{NameTable}
 use Rattle.nts_text.specs.declared.names.Scope.{Scope}
-use Rattle.nts_declaring.proofs.Reading.{once_read}
+use Rattle.nts_program.specs.nts_declaring.proofs.Reading.{once_read}
 use Rattle.nts_program.proofs.Obeyed.{follows_from}
 use Rattle.nts_reasons.specs.declared.explainer.Asked.{Asked}
 use Rattle.nts_reasons.specs.declared.explainer.Explainer.{Explainer}

@@ -17,7 +17,7 @@ use Rattle.nts_wording.specs.Meaning.{Values, BoundStatement, binding_first, bin
 use Rattle.nts_program.specs.Obeying.{Follows}
 use Rattle.nts_reasons.specs.declared.explainer.Asked.{Asked}
 use Rattle.nts_reasons.specs.declared.explainer.Explainer.{Explainer}
-use Rattle.nts_declaring.specs.ImplLines.{lines_of, NotesLine}
+use Rattle.nts_program.specs.nts_declaring.specs.ImplLines.{lines_of, NotesLine}
 use Rattle.nts_reasons.specs.Obeying.{trait_of, answer_of, HasLines, Notes, IsObeyed}
 
 -- the statement is about this trait

@@ -8,12 +8,12 @@ use Rattle.nts_text.specs.declared.commands.Command.TheVariants as commands
 use Rattle.nts_text.specs.declared.resolver.Resolved.{Resolved}
 use Rattle.nts_text.specs.declared.resolver.Resolved.TheVariants as nodes
 use Rattle.nts_wording.specs.declared.answer.Answer.{Answer}
-use Rattle.nts_declaring.specs.Declaring.{IsNewProgram}
+use Rattle.nts_program.specs.nts_declaring.specs.Declaring.{IsNewProgram}
 use Rattle.nts_program.specs.Obeying.{PassesOver, Follows}
-use Rattle.nts_declaring.specs.ImplLines.{lines_of, NotesLine}
+use Rattle.nts_program.specs.nts_declaring.specs.ImplLines.{lines_of, NotesLine}
 use Rattle.nts_reasons.specs.declared.explainer.Asked.{Asked}
 use Rattle.nts_reasons.specs.declared.explainer.Explainer.{Explainer}
-use Rattle.nts_declaring.specs.declared.impl_lines.ImplLines.{ImplLines}
+use Rattle.nts_program.specs.nts_declaring.specs.declared.impl_lines.ImplLines.{ImplLines}
 
 -- the trait that a node names
 abbrev pub trait_in : Resolved → Option ℕ

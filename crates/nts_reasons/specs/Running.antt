@@ -17,12 +17,12 @@ use Rattle.nts_wording.specs.Answers.{IsAnswerText}
 use Rattle.nts_wording.specs.Growing.{refusal_line}
 use Rattle.nts_explaining.specs.Explaining.{GivesReasons}
 use Rattle.nts_candidates.specs.declared.reasons.Reason.{Reason}
-use Rattle.nts_declaring.specs.Posing.{IsPosedLine}
+use Rattle.nts_program.specs.nts_declaring.specs.Posing.{IsPosedLine}
 use Rattle.nts_program.specs.Proving.{rules_with}
-use Rattle.nts_declaring.specs.declared.posing.Posed.{Posed}
-use Rattle.nts_declaring.specs.declared.program.Program.{Program}
+use Rattle.nts_program.specs.nts_declaring.specs.declared.posing.Posed.{Posed}
+use Rattle.nts_program.specs.nts_declaring.specs.declared.program.Program.{Program}
 use Rattle.nts_reasons.specs.Obeying.{trait_of, lines_for, IsNewExplainer, IsObeyed}
-use Rattle.nts_declaring.specs.Reasons.{IsReasonsText}
+use Rattle.nts_program.specs.nts_declaring.specs.Reasons.{IsReasonsText}
 use Rattle.nts_reasons.specs.declared.explainer.Asked.{Asked}
 use Rattle.nts_reasons.specs.declared.explainer.Explainer.{Explainer}
 

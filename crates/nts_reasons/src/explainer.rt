@@ -11,10 +11,10 @@ ghost use Rattle.nts_wording.specs.Statuses.{is_refusal};
 ghost use Rattle.nts_reasons.specs.Obeying.{trait_of, lines_for, IsNewExplainer, HasLines, DoesCommand, IsObeyed, Notes};
 ghost use Rattle.nts_reasons.specs.Running.{is_yes, HasMoreTerms, HasReasons, AreReasonsOf, IsReasonedPut, IsTold};
 
-use nts_declaring::{ImplLines, Program, pose, write_reasons};
 use nts_delegate::{Assembly, Clauses, Reason};
-use nts_evaluation::goal_is_admitted;
 use nts_explaining::explain;
+use nts_program::nts_declaring::{ImplLines, Program, pose, write_reasons};
+use nts_program::nts_evaluation::goal_is_admitted;
 use nts_program::{Stop, follow};
 use nts_table::InferCtxt;
 use nts_terms::{Cx, Goal};

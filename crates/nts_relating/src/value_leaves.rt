@@ -14,7 +14,7 @@ ghost use Rattle.nts_unify.specs.Entries.{KeepsHidden};
 use indexmap::IndexSet;
 use nts_model::{BoundVarIndexKind, Constant, FreeRegion, Label, Leaf, Relation, VariableKind};
 use nts_store::{EvalError, NodeId, Nodes, TypeFlags};
-use nts_terms::UniverseIndex;
+use nts_unify::nts_terms::UniverseIndex;
 use nts_unify::{Constraint, InferCtxtInner, add_variable, join, join_regions, region_number};
 
 /// What a value is made for: a variable, the universe that bounds its leaves, and how many binders

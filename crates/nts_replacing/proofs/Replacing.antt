@@ -2,8 +2,8 @@
 use Rattle.std.proofs.Common.{◌≡◌, ⊎_elim, ℕ, zero, suc, ◌+◌, ◌-◌, ◌*◌, ◌<◌, ◌≤◌, List, [], ◌∷◌, ◌++◌, length, map, take, drop, get_or, Option, Some, Bool, true, false, nat_eq, cond, eqb-true, refl, sym, ap, subst, ◌∙◌, arith, append_assoc, length-append, add-one}
 use Rattle.std.proofs.lemmas.List.{append-nil, length-map, take-map, drop-map}
 use Rattle.std.proofs.Math.Seq.{take-append_seam, drop-append_seam}
-use Rattle.nts_model.specs.declared.labels.Label.{Label}
-use Rattle.nts_model.specs.Terms.Trees.{Tree, empty, more, node, size, kind_of, children, row_length, row_at, IsRow, Place, Shape, in_order, each, shape, HavePlaces, AllFit, Meets}
+use Rattle.nts_store.specs.nts_model.specs.declared.labels.Label.{Label}
+use Rattle.nts_store.specs.nts_model.specs.Terms.Trees.{Tree, empty, more, node, size, kind_of, children, row_length, row_at, IsRow, Place, Shape, in_order, each, shape, HavePlaces, AllFit, Meets}
 use Rattle.nts_store.specs.declared.nodes.NodeId.{NodeId}
 use Rattle.nts_replacing.specs.declared.replacement.Step.TheVariants as step
 use Rattle.nts_replacing.specs.declared.replacement.Task.{Task}

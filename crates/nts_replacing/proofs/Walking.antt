@@ -2,12 +2,12 @@
 use Rattle.std.proofs.Common.{◌≡◌, ℕ, zero, suc, ◌+◌, ◌-◌, ◌*◌, ◌<◌, ◌≤◌, List, [], ◌∷◌, ◌++◌, length, map, take, drop, Option, Some, Bool, true, false, cond, refl, sym, ap, subst, ◌∙◌, arith, rules, append_assoc, length-append, add-one}
 use Rattle.std.proofs.lemmas.List.{append-nil, length-map, take-map, drop-map}
 use Rattle.std.proofs.Math.Seq.{take-append_seam, drop-append_seam}
-use Rattle.nts_model.specs.declared.labels.TyHead.TheVariants as ty
-use Rattle.nts_model.specs.declared.labels.ListHead.TheVariants as list
-use Rattle.nts_model.specs.declared.labels.Label.{Label}
-use Rattle.nts_model.specs.declared.labels.Label.TheVariants as label
-use Rattle.nts_model.specs.Terms.Trees.{Tree, empty, more, node, size, kind_of, children, row_length, row_at, binders, IsRow, Shape, in_order, each, shape, HavePlaces, AllFit, Meets}
-use Rattle.nts_model.specs.Terms.Trees.{Place as TreePlace}
+use Rattle.nts_store.specs.nts_model.specs.declared.labels.TyHead.TheVariants as ty
+use Rattle.nts_store.specs.nts_model.specs.declared.labels.ListHead.TheVariants as list
+use Rattle.nts_store.specs.nts_model.specs.declared.labels.Label.{Label}
+use Rattle.nts_store.specs.nts_model.specs.declared.labels.Label.TheVariants as label
+use Rattle.nts_store.specs.nts_model.specs.Terms.Trees.{Tree, empty, more, node, size, kind_of, children, row_length, row_at, binders, IsRow, Shape, in_order, each, shape, HavePlaces, AllFit, Meets}
+use Rattle.nts_store.specs.nts_model.specs.Terms.Trees.{Place as TreePlace}
 use Rattle.nts_store.specs.declared.nodes.NodeId.{NodeId}
 use Rattle.nts_store.specs.Growth.{tree_at, trees_at, IsIn, AllIn, Extends}
 use Rattle.nts_store.specs.Kept.{map-kept}

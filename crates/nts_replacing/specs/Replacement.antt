@@ -1,7 +1,7 @@
 -- What a replacer says of a tree, and what a walk still has to do.
 use Rattle.std.specs.Prelude.{◌≡◌, ◌⊎◌, ℕ, List, [], ◌∷◌, ◌++◌, Option, Some, cond, nat_eq}
-use Rattle.nts_model.specs.declared.labels.Label.{Label}
-use Rattle.nts_model.specs.Terms.Trees.{Tree, empty, more, node, row_length, shape, Meets}
+use Rattle.nts_store.specs.nts_model.specs.declared.labels.Label.{Label}
+use Rattle.nts_store.specs.nts_model.specs.Terms.Trees.{Tree, empty, more, node, row_length, shape, Meets}
 use Rattle.nts_store.specs.declared.nodes.NodeId.{NodeId}
 use Rattle.nts_replacing.specs.declared.replacement.Step.{Step}
 use Rattle.nts_replacing.specs.declared.replacement.Step.TheVariants as step

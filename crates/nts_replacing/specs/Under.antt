@@ -1,7 +1,7 @@
 -- What a replacer says of a tree under some binders, and what a walk under binders still has to do.
 use Rattle.std.specs.Prelude.{◌≡◌, ℕ, ◌+◌, ◌≤◌, List, [], ◌∷◌, ◌++◌, Option, Some, None}
-use Rattle.nts_model.specs.declared.labels.Label.{Label}
-use Rattle.nts_model.specs.Terms.Trees.{Tree, empty, more, node, row_length, binders}
+use Rattle.nts_store.specs.nts_model.specs.declared.labels.Label.{Label}
+use Rattle.nts_store.specs.nts_model.specs.Terms.Trees.{Tree, empty, more, node, row_length, binders}
 use Rattle.nts_store.specs.declared.nodes.NodeId.{NodeId}
 use Rattle.nts_store.specs.Growth.{tree_at, IsIn}
 use Rattle.nts_replacing.specs.declared.under.Place.{Place}

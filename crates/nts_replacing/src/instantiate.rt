@@ -1,13 +1,13 @@
 //! Values in place of the bound variables of a canonical value.
 ghost use Rattle.std.specs.Prelude.{◌≡◌, List, map, IfOk, refl};
-ghost use Rattle.nts_model.specs.Terms.Trees.{Tree};
+ghost use Rattle.nts_store.specs.nts_model.specs.Terms.Trees.{Tree};
 ghost use Rattle.nts_store.specs.Growth.{tree_at, IsIn, AllIn, Extends};
 ghost use Rattle.nts_store.specs.Kept.{AllIn-kept, map-kept};
 ghost use Rattle.nts_store.specs.Filled.{HasValues, kind_of-filled};
-ghost use Rattle.nts_model.specs.Terms.Substitutions.{filled};
+ghost use Rattle.nts_store.specs.nts_model.specs.Terms.Substitutions.{filled};
 
 use crate::replacement::{Replacer, Step, replace};
-use nts_model::{BoundVarIndexKind, Label};
+use nts_store::nts_model::{BoundVarIndexKind, Label};
 use nts_store::{NodeId, Nodes};
 use std::alloc::{AllocError, Global};
 

@@ -1,11 +1,11 @@
 //! One walk that replaces parts of a term, for all kinds of replacement.
 ghost use Rattle.std.specs.Prelude.{◌≡◌, ◌++◌, ◌∷◌, [], ℕ, List, None, nat_eq, IfOk, OnOk};
 ghost use Rattle.std.specs.HashMap.{get};
-ghost use Rattle.nts_model.specs.Terms.Trees.{Tree, empty, more, kind_of};
+ghost use Rattle.nts_store.specs.nts_model.specs.Terms.Trees.{Tree, empty, more, kind_of};
 ghost use Rattle.nts_store.specs.Growth.{tree_at, IsIn, Extends};
 ghost use Rattle.nts_replacing.specs.Replacement.{IsStep, jobs, TasksIn, building, IsFormedNode, MayHold};
 
-use nts_model::Label;
+use nts_store::nts_model::Label;
 use nts_store::{NodeId, Nodes};
 use std::alloc::{AllocError, Global};
 use std::collections::HashMap;

@@ -2,12 +2,12 @@
 ghost use Rattle.std.specs.Prelude.{◌≡◌, ◌++◌, ◌^◌, ◌<◌, ◌≤◌, [], ℕ, None, length, IfOk, OnOk};
 ghost use Rattle.std.specs.HashMap.{get};
 ghost use Rattle.nts_replacing.specs.declared.under.Place.{Place};
-ghost use Rattle.nts_model.specs.Terms.Trees.{Tree, empty, more, kind_of};
+ghost use Rattle.nts_store.specs.nts_model.specs.Terms.Trees.{Tree, empty, more, kind_of};
 ghost use Rattle.nts_store.specs.Growth.{tree_at, IsIn, Extends};
 ghost use Rattle.nts_replacing.specs.Replacement.{IsFormedNode};
 ghost use Rattle.nts_replacing.specs.Under.{IsStepUnder, jobs, AreTasksUnder, building};
 
-use nts_model::Label;
+use nts_store::nts_model::Label;
 use nts_store::{NodeId, Nodes, binders_of};
 use std::alloc::{AllocError, Global};
 use std::collections::HashMap;

@@ -5,7 +5,7 @@ use Rattle.std.proofs.lemmas.List.{take_more}
 use Rattle.std.proofs.lemmas.List.Elements.{All-push}
 use Rattle.nts_model.specs.Terms.Trees.{Tree}
 use Rattle.nts_store.specs.Growth.{Extends}
-use Rattle.nts_folding.specs.FoldLaws.{list_holds}
+use Rattle.nts_canonical.specs.nts_folding.specs.FoldLaws.{list_holds}
 use Rattle.nts_terms.specs.Handles.{HoldsArg}
 use Rattle.nts_canonical.proofs.PairLists.{holds_kept, is_hidden-kept, alias-kept}
 use Rattle.nts_canonical.proofs.VarLists.{map-push}

@@ -7,7 +7,7 @@ use Rattle.nts_model.specs.Tables.Contents.{Content}
 use Rattle.nts_model.specs.Terms.Substitutions.{filled}
 use Rattle.nts_model.specs.Tables.Equations.{AreRelated, AreUnrelated}
 use Rattle.nts_model.specs.Answers.Applying.{IsProperContent, MakesEqual}
-use Rattle.nts_theory.proofs.Responses.Applied.{FailsToEqual}
+use Rattle.nts_candidates.specs.nts_theory.proofs.Responses.Applied.{FailsToEqual}
 use Rattle.nts_model.proofs.Tables.Slots.{Knows-kept}
 use Rattle.nts_store.specs.declared.nodes.NodeId.{NodeId}
 use Rattle.nts_store.specs.Growth.{tree_at, AllIn}
@@ -15,8 +15,8 @@ use Rattle.nts_store.specs.Kept.{map-kept}
 use Rattle.nts_store.proofs.Growing.{IsIn-extended}
 use Rattle.nts_terms.specs.declared.cx.Cx.{Cx}
 use Rattle.nts_terms.specs.declared.handles.GenericArg.{GenericArg}
-use Rattle.nts_unify.specs.Reading.{content_of}
-use Rattle.nts_table.specs.Tables.{Table}
+use Rattle.nts_canonical.specs.nts_unify.specs.Reading.{content_of}
+use Rattle.nts_canonical.specs.nts_table.specs.Tables.{Table}
 use Rattle.nts_canonical.specs.Forms.{trees_of}
 use Rattle.nts_canonical.specs.Building.{IsArgOf}
 use Rattle.nts_response.specs.Applied.{StepKeeps, IsFillable}

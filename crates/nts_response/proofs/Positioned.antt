@@ -7,7 +7,7 @@ use Rattle.nts_model.specs.Terms.Trees.{Tree}
 use Rattle.nts_model.specs.Canonical.Numbered.{position}
 use Rattle.nts_model.specs.Canonical.Inputs.{PositionKind}
 use Rattle.nts_store.specs.Growth.{tree_at, IsIn, Extends}
-use Rattle.nts_folding.specs.FoldLaws.{list_holds}
+use Rattle.nts_canonical.specs.nts_folding.specs.FoldLaws.{list_holds}
 use Rattle.nts_terms.specs.declared.handles.GenericArg.{GenericArg}
 use Rattle.nts_terms.specs.Handles.{HoldsArg}
 use Rattle.nts_canonical.specs.declared.types.CanonicalVarKind.{CanonicalVarKind}

@@ -25,10 +25,10 @@ use Rattle.nts_terms.specs.declared.handles.Goal.{Goal}
 use Rattle.nts_terms.specs.declared.handles.Ty.{Ty}
 use Rattle.nts_terms.specs.declared.modes.VisibleForLeakCheck.{VisibleForLeakCheck}
 use Rattle.nts_terms.specs.Handles.{Holds}
-use Rattle.nts_certainty.specs.declared.sources.GoalSource.{GoalSource}
-use Rattle.nts_unify.specs.Entries.{Entries}
-use Rattle.nts_unify.specs.Reading.{content_of}
-use Rattle.nts_unify.specs.Changing.{AddsVisible}
+use Rattle.nts_candidates.specs.nts_certainty.specs.declared.sources.GoalSource.{GoalSource}
+use Rattle.nts_canonical.specs.nts_unify.specs.Entries.{Entries}
+use Rattle.nts_canonical.specs.nts_unify.specs.Reading.{content_of}
+use Rattle.nts_canonical.specs.nts_unify.specs.Changing.{AddsVisible}
 use Rattle.nts_candidates.specs.declared.data.RegionConstraint.{RegionConstraint}
 use Rattle.nts_candidates.specs.Offered.{hidden_of}
 use Rattle.nts_canonical.specs.declared.types.Canonical.{Canonical}

@@ -26,10 +26,10 @@ use Rattle.nts_terms.specs.declared.cx.Cx.{Cx}
 use Rattle.nts_terms.specs.declared.handles.GenericArg.{GenericArg}
 use Rattle.nts_terms.specs.Handles.{HoldsArg}
 use Rattle.nts_terms.specs.Rest.{Grows}
-use Rattle.nts_unify.specs.declared.contents.Variable.{Variable}
-use Rattle.nts_unify.specs.Entries.{Entries}
-use Rattle.nts_unify.specs.Reading.{content_of}
-use Rattle.nts_table.specs.Tables.{Table, IsTable}
+use Rattle.nts_canonical.specs.nts_unify.specs.declared.contents.Variable.{Variable}
+use Rattle.nts_canonical.specs.nts_unify.specs.Entries.{Entries}
+use Rattle.nts_canonical.specs.nts_unify.specs.Reading.{content_of}
+use Rattle.nts_canonical.specs.nts_table.specs.Tables.{Table, IsTable}
 use Rattle.nts_canonical.specs.declared.types.CanonicalVarKind.{CanonicalVarKind}
 use Rattle.nts_canonical.specs.Forms.{kind_of_var}
 

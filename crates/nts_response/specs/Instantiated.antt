@@ -13,9 +13,9 @@ use Rattle.nts_store.specs.Growth.{tree_at}
 use Rattle.nts_terms.specs.declared.cx.Cx.{Cx}
 use Rattle.nts_terms.specs.declared.handles.GenericArg.{GenericArg}
 use Rattle.nts_terms.specs.Handles.{HoldsArg}
-use Rattle.nts_unify.specs.Entries.{Entries}
-use Rattle.nts_unify.specs.Reading.{content_of}
-use Rattle.nts_table.specs.Tables.{Table}
+use Rattle.nts_canonical.specs.nts_unify.specs.Entries.{Entries}
+use Rattle.nts_canonical.specs.nts_unify.specs.Reading.{content_of}
+use Rattle.nts_canonical.specs.nts_table.specs.Tables.{Table}
 use Rattle.nts_canonical.specs.declared.types.Canonical.{Canonical}
 use Rattle.nts_canonical.specs.declared.types.CanonicalVarKind.{CanonicalVarKind}
 use Rattle.nts_canonical.specs.Building.{IsArgOf}

@@ -11,3 +11,7 @@ pub mod Replacing
 pub mod Same
 pub mod StateTrees
 pub mod States
+pub use Rattle.nts_candidates
+pub use Rattle.nts_canonical
+pub use Rattle.nts_canonical.specs.nts_folding
+pub use Rattle.nts_canonical.specs.nts_table

@@ -4,7 +4,7 @@ use Rattle.nts_model.specs.Terms.Trees.{Tree}
 use Rattle.nts_store.specs.Growth.{tree_at}
 use Rattle.nts_store.specs.Filled.{HasValues}
 use Rattle.nts_terms.specs.declared.handles.Goal.{Goal}
-use Rattle.nts_certainty.specs.declared.sources.GoalSource.{GoalSource}
+use Rattle.nts_candidates.specs.nts_certainty.specs.declared.sources.GoalSource.{GoalSource}
 use Rattle.nts_response.specs.Forms.{HoldsOpen}
 
 -- a goal of the store that holds no position beyond what was chosen

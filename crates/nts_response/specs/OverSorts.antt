@@ -12,7 +12,7 @@ use Rattle.nts_terms.specs.declared.handles.Goal.{Goal}
 use Rattle.nts_terms.specs.declared.handles.Ty.{Ty}
 use Rattle.nts_terms.specs.declared.modes.VisibleForLeakCheck.{VisibleForLeakCheck}
 use Rattle.nts_terms.specs.Handles.{HoldsArg}
-use Rattle.nts_certainty.specs.declared.sources.GoalSource.{GoalSource}
+use Rattle.nts_candidates.specs.nts_certainty.specs.declared.sources.GoalSource.{GoalSource}
 use Rattle.nts_candidates.specs.declared.data.RegionConstraint.{RegionConstraint}
 use Rattle.nts_candidates.specs.Foreign.{is_foreign_leaf}
 use Rattle.nts_canonical.specs.Forms.{IsHidden}

@@ -4,9 +4,9 @@ use Rattle.nts_model.specs.Terms.Trees.{Tree}
 use Rattle.nts_model.specs.Tables.Contents.{Content}
 use Rattle.nts_terms.specs.declared.handles.AliasTerm.{AliasTerm}
 use Rattle.nts_terms.specs.declared.handles.Ty.{Ty}
-use Rattle.nts_unify.specs.declared.contents.HiddenType.{HiddenType}
-use Rattle.nts_unify.specs.Entries.{HiddenTypes}
-use Rattle.nts_table.specs.Registering.{Registers}
+use Rattle.nts_canonical.specs.nts_unify.specs.declared.contents.HiddenType.{HiddenType}
+use Rattle.nts_canonical.specs.nts_unify.specs.Entries.{HiddenTypes}
+use Rattle.nts_canonical.specs.nts_table.specs.Registering.{Registers}
 use Rattle.nts_canonical.specs.Building.{replaced_by, RegistersAll}
 
 -- one is registered, and what gave place to it is a duplicate afterwards

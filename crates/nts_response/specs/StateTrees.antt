@@ -5,7 +5,7 @@ use Rattle.nts_model.specs.Derivations.Related.{pair}
 use Rattle.nts_store.specs.Growth.{Extends}
 use Rattle.nts_terms.specs.declared.handles.GenericArg.{GenericArg}
 use Rattle.nts_terms.specs.Handles.{HoldsArg}
-use Rattle.nts_folding.specs.Folding.{tree_of_list}
+use Rattle.nts_canonical.specs.nts_folding.specs.Folding.{tree_of_list}
 use Rattle.nts_canonical.specs.Forms.{trees_of}
 use Rattle.nts_canonical.specs.Folds.{trees_of-kept}
 use Rattle.nts_response.specs.declared.types.State.{State}

@@ -14,9 +14,9 @@ ghost use Rattle.nts_response.specs.OverSorts.{is_moved, MayStay, IsArgIn, IsCon
 
 use crate::types::{CanonicalResponse, CanonicalState, Response};
 use crate::unconstrained::sort_of_kind;
+use nts_candidates::nts_certainty::GoalSource;
 use nts_candidates::{RegionConstraint, is_foreign_leaf_of, names_fresh};
 use nts_canonical::{CanonicalVarKind, universe_of};
-use nts_certainty::GoalSource;
 use nts_model::{Label, Relation, Sort};
 use nts_store::{Fault, LabelTest, NodeId, all_labels, sort_of};
 use nts_terms::{

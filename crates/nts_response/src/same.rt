@@ -10,8 +10,8 @@ ghost use Rattle.nts_response.specs.Same.{AreOneEach, FoundOne, AreOneResponse};
 
 use crate::types::{CanonicalResponse, Response};
 use nts_candidates::RegionConstraint;
+use nts_candidates::nts_certainty::GoalSource;
 use nts_canonical::{same_kinds, same_pair};
-use nts_certainty::GoalSource;
 use nts_store::Nodes;
 use nts_terms::{AliasTerm, Cx, GenericArg, Goal, Ty, VisibleForLeakCheck};
 

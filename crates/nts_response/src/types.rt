@@ -1,8 +1,8 @@
 //! What a query answers, and states of an evaluation.
 use nts_candidates::RegionConstraint;
+use nts_candidates::nts_certainty::{Certainty, GoalSource};
 use nts_canonical::Canonical;
-use nts_certainty::{Certainty, GoalSource};
-use nts_folding::{TypeFoldable, TypeFolder};
+use nts_canonical::nts_folding::{TypeFoldable, TypeFolder};
 use nts_terms::{AliasTerm, Cx, GenericArg, Goal, Ty, VisibleForLeakCheck};
 
 /// What a query found out beside the values: region constraints, each with whether the leak check sees it,
@@ -39,7 +39,7 @@ pub type CanonicalState<T> = Canonical<State<T>>;
 impl<T: TypeFoldable> TypeFoldable for State<T> {
     ghost use Rattle.std.specs.Prelude.{All};
     ghost use Rattle.nts_terms.specs.Handles.{HoldsArg};
-    ghost use Rattle.nts_folding.specs.FoldLaws.{same_pair};
+    ghost use Rattle.nts_canonical.specs.nts_folding.specs.FoldLaws.{same_pair};
     ghost use Rattle.nts_canonical.specs.Folds.{AreHeld-kept};
     ghost use Rattle.nts_response.specs.StateTrees.{tree_of_state, values_same};
 

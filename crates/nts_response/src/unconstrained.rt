@@ -8,8 +8,8 @@ ghost use Rattle.nts_canonical.specs.Forms.{kind_of_var, trees_of};
 ghost use Rattle.nts_response.specs.Forms.{findings_at, response_at, HoldsResponse, FoundNothing};
 
 use crate::types::{CanonicalResponse, ExternalConstraintsData, Response};
+use nts_candidates::nts_certainty::Certainty;
 use nts_canonical::{Canonical, CanonicalVarKind};
-use nts_certainty::Certainty;
 use nts_model::{BoundVarIndexKind, Label, Sort};
 use nts_store::{Fault, Nodes};
 use nts_terms::{Cx, GenericArg, UniverseIndex};

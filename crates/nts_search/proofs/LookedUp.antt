@@ -5,9 +5,9 @@ use Rattle.std.proofs.lemmas.List.{reverse-append, reverse-reverse, length-rever
 use Rattle.std.proofs.Math.Seq.{get_or-append_seam}
 use Rattle.nts_model.specs.Terms.Trees.{Tree}
 use Rattle.nts_store.specs.Growth.{AreApart}
-use Rattle.nts_canonical.specs.declared.types.CanonicalInput.{CanonicalInput}
-use Rattle.nts_canonical.specs.Forms.{HoldsQuery}
-use Rattle.nts_canonical.specs.Alike.{AreOneInput}
+use Rattle.nts_response.specs.nts_canonical.specs.declared.types.CanonicalInput.{CanonicalInput}
+use Rattle.nts_response.specs.nts_canonical.specs.Forms.{HoldsQuery}
+use Rattle.nts_response.specs.nts_canonical.specs.Alike.{AreOneInput}
 use Rattle.nts_search.specs.declared.terms.GoalTerms.{GoalTerms}
 use Rattle.nts_search.specs.declared.stack.StackEntry.{StackEntry}
 use Rattle.nts_search.specs.declared.stack.SearchGraph.{SearchGraph}

@@ -5,7 +5,7 @@ use Rattle.std.proofs.lemmas.List.{reverse-append}
 use Rattle.nts_model.specs.Terms.Trees.{Tree}
 use Rattle.nts_model.specs.Derivations.Sequents.{PathKind, coinductive, unknown, inductive, forced_ambiguity}
 use Rattle.nts_model.specs.Searching.Stacks.{Entry, stronger, path_kind}
-use Rattle.nts_candidates.specs.Offered.{path_kind_of}
+use Rattle.nts_response.specs.nts_candidates.specs.Offered.{path_kind_of}
 use Rattle.nts_certainty.specs.declared.sources.PathKind.{PathKind as PathKindData}
 use Rattle.nts_search.specs.declared.stack.StackEntry.{StackEntry}
 use Rattle.nts_search.specs.Searching.{entry_at}

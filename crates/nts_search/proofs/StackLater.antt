@@ -4,12 +4,12 @@ use Rattle.std.specs.Prelude.{reverse}
 use Rattle.nts_model.specs.Terms.Trees.{Tree}
 use Rattle.nts_store.specs.Growth.{Extends}
 use Rattle.nts_store.proofs.Growing.{Extends-trans}
-use Rattle.nts_candidates.specs.Offered.{path_kind_of, hidden_of}
-use Rattle.nts_canonical.specs.declared.types.Canonical.{Canonical}
-use Rattle.nts_canonical.specs.declared.types.CanonicalInput.{CanonicalInput}
-use Rattle.nts_canonical.specs.Forms.{form_of, kind_of_var, IsHidden, HoldsQuery}
-use Rattle.nts_canonical.specs.Folds.{HoldsQuery-kept}
-use Rattle.nts_canonical.proofs.PairLists.{hidden_row-kept}
+use Rattle.nts_response.specs.nts_candidates.specs.Offered.{path_kind_of, hidden_of}
+use Rattle.nts_response.specs.nts_canonical.specs.declared.types.Canonical.{Canonical}
+use Rattle.nts_response.specs.nts_canonical.specs.declared.types.CanonicalInput.{CanonicalInput}
+use Rattle.nts_response.specs.nts_canonical.specs.Forms.{form_of, kind_of_var, IsHidden, HoldsQuery}
+use Rattle.nts_response.specs.nts_canonical.specs.Folds.{HoldsQuery-kept}
+use Rattle.nts_response.specs.nts_canonical.proofs.PairLists.{hidden_row-kept}
 use Rattle.nts_terms.specs.Handles.{HoldsArg}
 use Rattle.nts_response.specs.declared.types.Response.{Response}
 use Rattle.nts_response.specs.Forms.{response_at, recorded_at, premise_at, StoreHoldsConstraint, HoldsOpen, HoldsResponse}

@@ -4,9 +4,9 @@ use Rattle.std.specs.Prelude.{reverse, slice_get}
 use Rattle.std.proofs.lemmas.List.{reverse-append, length-reverse}
 use Rattle.nts_model.specs.Terms.Trees.{Tree}
 use Rattle.nts_model.specs.Searching.Stacks.{Entry}
-use Rattle.nts_theory.proofs.Searching.Ordered.{get_reversed}
-use Rattle.nts_canonical.specs.declared.types.CanonicalInput.{CanonicalInput}
-use Rattle.nts_canonical.specs.Forms.{form_of}
+use Rattle.nts_certainty.specs.nts_theory.proofs.Searching.Ordered.{get_reversed}
+use Rattle.nts_response.specs.nts_canonical.specs.declared.types.CanonicalInput.{CanonicalInput}
+use Rattle.nts_response.specs.nts_canonical.specs.Forms.{form_of}
 use Rattle.nts_search.specs.declared.terms.GoalTerms.{GoalTerms}
 use Rattle.nts_search.specs.declared.stack.StackEntry.{StackEntry}
 use Rattle.nts_search.specs.declared.stack.SearchGraph.{SearchGraph}

@@ -2,8 +2,8 @@
 use Rattle.std.specs.Prelude.{◌≢◌, List, Option, Some, None}
 use Rattle.nts_model.specs.Terms.Trees.{Tree}
 use Rattle.nts_certainty.specs.declared.certainty.Certainty.TheVariants as certainty
-use Rattle.nts_canonical.specs.declared.types.Canonical.{Canonical}
-use Rattle.nts_canonical.specs.Forms.{trees_of}
+use Rattle.nts_response.specs.nts_canonical.specs.declared.types.Canonical.{Canonical}
+use Rattle.nts_response.specs.nts_canonical.specs.Forms.{trees_of}
 use Rattle.nts_response.specs.declared.types.Response.{Response}
 use Rattle.nts_response.specs.Forms.{ArePositions, FoundNothing}
 use Rattle.nts_response.specs.Same.{AreOneResponse}

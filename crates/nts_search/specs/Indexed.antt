@@ -3,7 +3,7 @@ use Rattle.std.specs.Prelude.{◌≡◌, ℕ, Bool, List, [], ◌∷◌, length,
 use Rattle.std.specs.declared.hash.FoldHasher.{FoldHasher}
 use Rattle.std.specs.declared.hash.BuildHasherDefault.{BuildHasherDefault}
 use Rattle.std.specs.HashMap.{get, HashMap}
-use Rattle.nts_canonical.specs.declared.types.CanonicalInput.{CanonicalInput}
+use Rattle.nts_response.specs.nts_canonical.specs.declared.types.CanonicalInput.{CanonicalInput}
 use Rattle.nts_search.specs.declared.terms.GoalTerms.{GoalTerms}
 use Rattle.nts_search.specs.contracts.terms.GoalTermsPartialEq.TheImpl as terms_eq
 use Rattle.nts_search.specs.declared.stack.StackEntry.{StackEntry}

@@ -6,11 +6,11 @@ use Rattle.nts_model.specs.Answers.Responses.{Response as Form}
 use Rattle.nts_model.specs.Searching.Stacks.{Entry}
 use Rattle.nts_model.specs.Searching.Driving.{unconstrained}
 use Rattle.nts_certainty.specs.Certainties.{ambiguous}
-use Rattle.nts_candidates.specs.Offered.{certainty_of, path_kind_of}
-use Rattle.nts_canonical.specs.declared.types.Canonical.{Canonical}
-use Rattle.nts_canonical.specs.declared.types.CanonicalInput.{CanonicalInput}
-use Rattle.nts_canonical.specs.Forms.{form_of, kind_of_var, HoldsQuery}
-use Rattle.nts_canonical.specs.Alike.{AreOneInput}
+use Rattle.nts_response.specs.nts_candidates.specs.Offered.{certainty_of, path_kind_of}
+use Rattle.nts_response.specs.nts_canonical.specs.declared.types.Canonical.{Canonical}
+use Rattle.nts_response.specs.nts_canonical.specs.declared.types.CanonicalInput.{CanonicalInput}
+use Rattle.nts_response.specs.nts_canonical.specs.Forms.{form_of, kind_of_var, HoldsQuery}
+use Rattle.nts_response.specs.nts_canonical.specs.Alike.{AreOneInput}
 use Rattle.nts_response.specs.declared.types.Response.{Response}
 use Rattle.nts_response.specs.Forms.{response_at, HoldsResponse}
 use Rattle.nts_search.specs.declared.stack.StackEntry.{StackEntry}

@@ -1,13 +1,13 @@
 //! What is answered where responses can't be merged.
 ghost use Rattle.std.specs.Prelude.{◌≡◌, ◌↔◌, [], map, IfOk, IsOkUnless, Err};
-ghost use Rattle.nts_canonical.specs.Forms.{kind_of_var};
+ghost use Rattle.nts_response.specs.nts_canonical.specs.Forms.{kind_of_var};
 ghost use Rattle.nts_response.specs.Forms.{HoldsResponse, response_at};
 ghost use Rattle.nts_model.specs.Searching.Driving.{unconstrained};
 ghost use Rattle.nts_terms.specs.Rest.{Grows};
 ghost use Rattle.nts_search.specs.Merging.{doubt_of};
 
-use nts_canonical::CanonicalVarKind;
 use nts_certainty::Certainty;
+use nts_response::nts_canonical::CanonicalVarKind;
 use nts_response::{CanonicalResponse, response_no_constraints_raw};
 use nts_store::{EvalError, Fault};
 use nts_terms::{Cx, UniverseIndex};

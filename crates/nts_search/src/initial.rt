@@ -5,12 +5,12 @@ ghost use Rattle.nts_model.specs.Searching.Driving.{unconstrained};
 ghost use Rattle.nts_certainty.specs.Certainties.{overflowing};
 ghost use Rattle.nts_terms.specs.Modes.{mode_of};
 ghost use Rattle.nts_terms.specs.Rest.{Grows};
-ghost use Rattle.nts_canonical.specs.Forms.{kind_of_var};
+ghost use Rattle.nts_response.specs.nts_canonical.specs.Forms.{kind_of_var};
 ghost use Rattle.nts_response.specs.Forms.{response_at, HoldsResponse, FoundNothing};
 ghost use Rattle.nts_search.specs.Initial.{first_certainty};
 
-use nts_canonical::CanonicalInput;
 use nts_certainty::{Certainty, PathKind};
+use nts_response::nts_canonical::CanonicalInput;
 use nts_response::{CanonicalResponse, response_no_constraints_raw};
 use nts_store::Fault;
 use nts_terms::{Cx, TypingMode};

@@ -2,7 +2,7 @@
 ghost use Rattle.std.specs.Prelude.{◌≡◌};
 ghost use Rattle.nts_model.specs.Derivations.Rules.{step_kind};
 ghost use Rattle.nts_model.specs.Searching.Stacks.{stronger};
-ghost use Rattle.nts_candidates.specs.Offered.{path_kind_of, source_of};
+ghost use Rattle.nts_response.specs.nts_candidates.specs.Offered.{path_kind_of, source_of};
 ghost use Rattle.nts_search.specs.Kinds.{goal_kind_of};
 
 use nts_certainty::{GoalSource, PathKind};

@@ -3,17 +3,17 @@ ghost use Rattle.std.specs.Prelude.{◌≡◌, ◌-◌, ◌<◌, ◌≤◌, ◌+
 ghost use Rattle.nts_model.specs.Terms.Trees.{Tree};
 ghost use Rattle.nts_model.specs.Searching.Stacks.{path_kind};
 ghost use Rattle.nts_model.specs.Searching.Driving.{marked};
-ghost use Rattle.nts_candidates.specs.Offered.{path_kind_of};
-ghost use Rattle.nts_canonical.specs.Forms.{HoldsQuery};
+ghost use Rattle.nts_response.specs.nts_candidates.specs.Offered.{path_kind_of};
+ghost use Rattle.nts_response.specs.nts_canonical.specs.Forms.{HoldsQuery};
 ghost use Rattle.nts_search.specs.declared.terms.GoalTerms.{GoalTerms};
 ghost use Rattle.nts_search.specs.Indexed.{led_to, same_terms};
 ghost use Rattle.nts_search.specs.Searching.{entries_at, HoldsAnswer, HoldsEntry, IsStack, HasNoInput, IsInputAt, read_at, KeepsRestOfGraph};
 
 use crate::kinds::extend;
 use crate::terms::GoalTerms;
-use nts_canonical::{CanonicalInput, same_input};
 use nts_certainty::PathKind;
 use nts_response::CanonicalResponse;
+use nts_response::nts_canonical::{CanonicalInput, same_input};
 use nts_terms::Cx;
 use std::alloc::{AllocError, Global};
 use std::collections::HashMap;

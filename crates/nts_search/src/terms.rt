@@ -2,7 +2,7 @@
 ghost use Rattle.std.specs.Prelude.{◌≡◌};
 ghost use Rattle.nts_search.specs.Indexed.{input_terms};
 
-use nts_canonical::CanonicalInput;
+use nts_response::nts_canonical::CanonicalInput;
 use nts_store::NodeId;
 
 /// The terms of a goal. Terms with equal trees have one number, so goals of the same terms have equal ones.

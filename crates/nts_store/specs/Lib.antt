@@ -8,3 +8,4 @@ pub mod Levels
 pub mod Sorts
 pub mod Store
 pub mod Index
+pub use Rattle.nts_model

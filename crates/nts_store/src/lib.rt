@@ -18,5 +18,6 @@ pub use fault::{EvalError, Fault};
 pub use labels_walk::{LabelTest, all_labels};
 pub use levels_walk::is_closed_under;
 pub use nodes::{NodeId, Nodes};
+pub use nts_model;
 pub use sorts::sort_of;
 pub use type_flags::{TypeFlags, binders_of, may_vary};

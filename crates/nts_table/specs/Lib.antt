@@ -8,3 +8,4 @@ pub mod Frames
 pub mod Fresh
 pub mod TableLaws
 pub mod Tables
+pub use Rattle.nts_unify

@@ -20,5 +20,6 @@ mod variables;
 pub use eager::eager_resolve_vars;
 pub use equating::is_unbound;
 pub use infer_ctxt::InferCtxt;
+pub use nts_replacing;
 pub use nts_unify::{Constraint, HiddenType, Snapshot, State, Variable};
 pub use resolver::resolve_nodes;

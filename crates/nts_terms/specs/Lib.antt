@@ -4,3 +4,5 @@ pub mod Signatures
 pub mod Rest
 pub mod ConstTypes
 pub mod Modes
+pub use Rattle.nts_model
+pub use Rattle.nts_store

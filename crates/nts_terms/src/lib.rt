@@ -28,3 +28,5 @@ pub use kinds::{
     ClauseKind, ConstKind, GenericArgKind, InferTy, PredicateKind, RegionKind, TermKind, TyKind,
 };
 pub use modes::{Span, TypingMode, UniverseIndex, VisibleForLeakCheck};
+pub use nts_model;
+pub use nts_store;

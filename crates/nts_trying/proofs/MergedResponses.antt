@@ -19,9 +19,9 @@ use Rattle.nts_canonical.specs.Forms.{trees_of, kind_of_var}
 use Rattle.nts_canonical.specs.declared.types.Canonical.{Canonical}
 use Rattle.nts_response.specs.declared.types.Response.{Response}
 use Rattle.nts_response.specs.Forms.{response_at, recorded_at, premise_at, HoldsResponse}
-use Rattle.nts_search.specs.declared.merging.MergeCandidateInfo.{MergeCandidateInfo}
-use Rattle.nts_search.specs.declared.merging.MergeCandidateInfo.TheVariants as info
-use Rattle.nts_search.specs.Merging.{AppliesAlways, Merges, doubt_of}
+use Rattle.nts_meaning.specs.nts_search.specs.declared.merging.MergeCandidateInfo.{MergeCandidateInfo}
+use Rattle.nts_meaning.specs.nts_search.specs.declared.merging.MergeCandidateInfo.TheVariants as info
+use Rattle.nts_meaning.specs.nts_search.specs.Merging.{AppliesAlways, Merges, doubt_of}
 use Rattle.nts_theory.specs.Telling.{without_constraints, IsResponseOf}
 use Rattle.nts_meaning.specs.Answering.{told_in, is_yes, verdict_at}
 use Rattle.nts_trying.specs.Found.{IsMerged, IsTaken, StandsForThem}

@@ -51,7 +51,7 @@ use Rattle.nts_meaning.proofs.Fitting.{answer_to}
 use Rattle.nts_trying.proofs.MergedResponses.{told_unsure, unsure_yes}
 use Rattle.nts_meaning.proofs.QueryTables.{first_sides}
 use Rattle.nts_theory.proofs.Refutation.QueryLabels.{is_label_in, table_in}
-use Rattle.nts_search.proofs.StackLater.{response_same}
+use Rattle.nts_meaning.specs.nts_search.proofs.StackLater.{response_same}
 use Rattle.nts_meaning.proofs.Running.{term_table}
 
 -- what was found stays found

@@ -12,13 +12,13 @@ use Rattle.nts_theory.proofs.Derivations.Assuming.{Covers, covers_passed}
 use Rattle.nts_certainty.specs.declared.sources.PathKind.{PathKind}
 use Rattle.nts_certainty.specs.declared.sources.PathKind.TheVariants as path
 use Rattle.nts_certainty.specs.declared.sources.GoalSource.TheVariants as source
-use Rattle.nts_search.specs.declared.kinds.CurrentGoalKind.{CurrentGoalKind}
-use Rattle.nts_search.specs.declared.kinds.CurrentGoalKind.TheVariants as kinds
-use Rattle.nts_search.specs.Kinds.{goal_kind_of}
+use Rattle.nts_meaning.specs.nts_search.specs.declared.kinds.CurrentGoalKind.{CurrentGoalKind}
+use Rattle.nts_meaning.specs.nts_search.specs.declared.kinds.CurrentGoalKind.TheVariants as kinds
+use Rattle.nts_meaning.specs.nts_search.specs.Kinds.{goal_kind_of}
 use Rattle.nts_candidates.specs.Offered.{path_kind_of, source_of}
 use Rattle.nts_theory.specs.Telling.{CanAsk, IsInductive}
 use Rattle.nts_theory.specs.Telling.RefusesOne.{cuts_one}
-use Rattle.nts_search.specs.Searching.{IsStack}
+use Rattle.nts_meaning.specs.nts_search.specs.Searching.{IsStack}
 use Rattle.nts_meaning.specs.Searching.{IsHead, AreLater, IsGoalCut}
 use Rattle.nts_meaning.proofs.Cuts.{goal_cut_before}
 use Rattle.nts_meaning.proofs.Rounds.{not_cut}
@@ -58,7 +58,7 @@ use Rattle.nts_meaning.proofs.Running.{both_sure, Stays-later}
 use Rattle.nts_certainty.specs.declared.sources.HasChanged.{HasChanged}
 use Rattle.nts_meaning.proofs.AskedGoals.{was_asked}
 use Rattle.nts_meaning.proofs.BackEdges.{last_inductive}
-use Rattle.nts_search.specs.declared.stack.SearchGraph.{SearchGraph}
+use Rattle.nts_meaning.specs.nts_search.specs.declared.stack.SearchGraph.{SearchGraph}
 
 -- elements of lists
 pub among_get : {X : Type 0} (xs : List X) (i : ℕ) (d : X) → i < length xs → Among xs (get_or xs i d)

@@ -16,9 +16,9 @@ use Rattle.nts_canonical.specs.declared.types.CanonicalVarKind.{CanonicalVarKind
 use Rattle.nts_canonical.specs.Forms.{trees_of, kind_of_var}
 use Rattle.nts_response.specs.declared.types.Response.{Response}
 use Rattle.nts_response.specs.Forms.{response_at, HoldsResponse}
-use Rattle.nts_search.specs.declared.merging.MergeCandidateInfo.{MergeCandidateInfo}
-use Rattle.nts_search.specs.declared.merging.MergeCandidateInfo.TheVariants as info
-use Rattle.nts_search.specs.Merging.{Merges, doubt_of}
+use Rattle.nts_meaning.specs.nts_search.specs.declared.merging.MergeCandidateInfo.{MergeCandidateInfo}
+use Rattle.nts_meaning.specs.nts_search.specs.declared.merging.MergeCandidateInfo.TheVariants as info
+use Rattle.nts_meaning.specs.nts_search.specs.Merging.{Merges, doubt_of}
 use Rattle.nts_meaning.specs.Evaluation.{Goes, asked_terms}
 use Rattle.nts_theory.specs.Telling.{IsResponseOf, IsTermOfKind}
 use Rattle.nts_theory.specs.Telling.{IsPlainResponse}

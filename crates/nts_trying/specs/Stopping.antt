@@ -14,9 +14,9 @@ use Rattle.nts_terms.specs.declared.handles.Goal.{Goal}
 use Rattle.nts_terms.specs.declared.modes.TypingMode.{TypingMode}
 use Rattle.nts_terms.specs.Modes.{mode_of}
 use Rattle.nts_candidates.specs.Offered.{path_kind_of, source_of}
-use Rattle.nts_search.specs.declared.stack.SearchGraph.{SearchGraph}
-use Rattle.nts_search.specs.declared.kinds.CurrentGoalKind.{CurrentGoalKind}
-use Rattle.nts_search.specs.Kinds.{goal_kind_of}
+use Rattle.nts_meaning.specs.nts_search.specs.declared.stack.SearchGraph.{SearchGraph}
+use Rattle.nts_meaning.specs.nts_search.specs.declared.kinds.CurrentGoalKind.{CurrentGoalKind}
+use Rattle.nts_meaning.specs.nts_search.specs.Kinds.{goal_kind_of}
 use Rattle.nts_meaning.specs.Evaluation.{goals_at}
 use Rattle.nts_meaning.specs.Searching.{IsGoalCut}
 use Rattle.nts_meaning.specs.Telling.{Reaches, Refused}

@@ -27,7 +27,7 @@ ghost use Rattle.nts_terms.specs.Rest.{Grows};
 
 use nts_certainty::GoalSource;
 use nts_delegate::{CandidateData, CandidateGoal, Equation, RegionConstraint};
-use nts_equating::relate_nodes;
+use nts_meaning::nts_equating::relate_nodes;
 use nts_model::{Relation, Sort};
 use nts_replacing::instantiate_canonical;
 use nts_store::{EvalError, Fault, NodeId};

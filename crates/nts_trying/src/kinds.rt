@@ -4,7 +4,7 @@ ghost use Rattle.nts_model.specs.declared.labels.Variance.{Variance};
 ghost use Rattle.nts_model.specs.Terms.Trees.{Tree};
 ghost use Rattle.nts_model.specs.Derivations.Rules.{goal_kind};
 ghost use Rattle.nts_model.specs.Derivations.Handlers.{meaning};
-ghost use Rattle.nts_search.specs.Kinds.{goal_kind_of};
+ghost use Rattle.nts_meaning.specs.nts_search.specs.Kinds.{goal_kind_of};
 ghost use Rattle.nts_model.specs.Derivations.Sequents.{HasClosedStatements};
 ghost use Rattle.nts_store.specs.Growth.{tree_at};
 ghost use Rattle.nts_meaning.specs.Evaluation.{IsAskedGoal, SaysOfTrait};
@@ -16,7 +16,7 @@ ghost use Rattle.nts_theory.specs.Telling.{IsTraitStatement};
 use crate::outlives::{Outlives, outlives_in};
 use crate::own::{OwnGoal, own_goal_in};
 use nts_delegate::GoalHandler;
-use nts_search::CurrentGoalKind;
+use nts_meaning::nts_search::CurrentGoalKind;
 use nts_terms::{ClauseKind, Cx, Goal, ParamEnv, PredicateKind, TraitRef};
 
 /// Whether a goal is answered by the handler's candidates: a closed goal of a trait that binds nothing, and

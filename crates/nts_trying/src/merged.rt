@@ -16,9 +16,9 @@ ghost use Rattle.nts_meaning.specs.Answering.{IfAnswered};
 
 use nts_canonical::CanonicalVarKind;
 use nts_meaning::boxed_response;
+use nts_meaning::nts_search::{MergeCandidateInfo, join_doubts, try_merge_candidates};
 use nts_model::{Constant, FreeRegion, Label, Leaf, VariableKind};
 use nts_response::CanonicalResponse;
-use nts_search::{MergeCandidateInfo, join_doubts, try_merge_candidates};
 use nts_store::EvalError;
 use nts_table::InferCtxt;
 use nts_terms::{Cx, GenericArg};

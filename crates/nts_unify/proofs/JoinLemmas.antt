@@ -23,7 +23,7 @@ use Rattle.nts_unify.specs.Unchanged.{HasUnset}
 use Rattle.nts_unify.specs.Joining.{CanJoin, CanJoinRegions, IsOneClass, IsJoined, Joins, RegionsJoin}
 use Rattle.nts_model.proofs.Tables.Solving.{Lowers}
 use Rattle.nts_model.specs.Terms.Placeholders.{CanName}
-use Rattle.nts_store.specs.Growth.{tree_at}
+use Rattle.nts_terms.specs.nts_store.specs.Growth.{tree_at}
 use Rattle.nts_unify.specs.Proper.{IsProper, IsProper-link, IsProper-region_link}
 use Rattle.nts_unify.proofs.Leading.{universe_of-entry}
 use Rattle.nts_unify.proofs.Merging.{Marked, Marked-refl, marked, ComesDown, comes_down, LeadsTo, leads_to, leads_to_region, one_class}

@@ -5,7 +5,7 @@ use Rattle.nts_model.specs.Tables.Contents.{Content, changed}
 use Rattle.nts_model.specs.Tables.Passing.{BringsLabelsOf, BringsNoLabels}
 use Rattle.nts_model.proofs.Tables.Slots.{slice_get_below, slice_get-slice_set_other, field-changed_same, field-changed_other, field-changed_kept}
 use Rattle.nts_model.proofs.Tables.Bringing.{brings-refl, brings-linked, brings-with_slot, brings-with_constraint}
-use Rattle.nts_store.specs.Growth.{tree_at}
+use Rattle.nts_terms.specs.nts_store.specs.Growth.{tree_at}
 use Rattle.nts_unify.specs.declared.contents.State.TheVariants.{Unset, Link}
 use Rattle.nts_unify.specs.declared.contents.Variable.{Variable}
 use Rattle.nts_unify.specs.declared.contents.Constraint.{Constraint}

@@ -7,8 +7,8 @@ use Rattle.nts_model.specs.Tables.Contents.{Content, unset, known, with_slot, wi
 use Rattle.nts_model.proofs.Tables.Slots.{KeepsKinds, KeepsKinds-with_slot, Knows-kept, slice_get-push_old, slice_get-push_new}
 use Rattle.nts_model.proofs.Tables.Under.{same_or_other}
 use Rattle.nts_model.proofs.Tables.Sound.{IsSound-with_slot, IsSound-with_constraint, IsSound-in_universe}
-use Rattle.nts_store.specs.Growth.{tree_at, Extends}
-use Rattle.nts_store.proofs.Growing.{IsIn-extended}
+use Rattle.nts_terms.specs.nts_store.specs.Growth.{tree_at, Extends}
+use Rattle.nts_terms.specs.nts_store.proofs.Growing.{IsIn-extended}
 use Rattle.nts_unify.specs.declared.contents.State.{State}
 use Rattle.nts_unify.specs.declared.contents.State.TheVariants.{Unset, Link, Known}
 use Rattle.nts_unify.specs.declared.contents.Variable.{Variable}

@@ -8,7 +8,7 @@ use Rattle.nts_model.specs.Tables.Resolving.{Knows, IsSound}
 use Rattle.nts_model.specs.Tables.RegionClasses.{AreRegions}
 use Rattle.nts_unify.specs.declared.contents.HiddenType.{HiddenType}
 use Rattle.nts_terms.specs.Handles.{HoldsTy, HoldsArgs, IsAliasOf}
-use Rattle.nts_store.specs.Growth.{tree_at, IsIn}
+use Rattle.nts_terms.specs.nts_store.specs.Growth.{tree_at, IsIn}
 use Rattle.nts_unify.specs.declared.contents.State.{State}
 use Rattle.nts_unify.specs.declared.contents.State.TheVariants.{Unset, Link, Known}
 use Rattle.nts_unify.specs.declared.contents.Variable.{Variable}

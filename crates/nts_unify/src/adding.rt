@@ -1,15 +1,15 @@
 //! New variables.
 ghost use Rattle.std.specs.Prelude.{◌≡◌, ◌<◌, ◌≤◌, length, OnOk, OnErr, IfOk, IfSome};
 ghost use Rattle.nts_model.specs.Terms.Trees.{variable_tree};
-ghost use Rattle.nts_store.specs.Growth.{tree_at, IsIn, Extends};
+ghost use Rattle.nts_terms.specs.nts_store.specs.Growth.{tree_at, IsIn, Extends};
 ghost use Rattle.nts_unify.specs.Entries.{added, KeepsHidden};
 ghost use Rattle.nts_unify.specs.Reading.{IsLawful};
 
 use crate::contents::{State, Variable};
 use crate::inner::InferCtxtInner;
 use nts_model::{Label, Leaf, VariableKind};
-use nts_store::{NodeId, Nodes};
 use nts_terms::UniverseIndex;
+use nts_terms::nts_store::{NodeId, Nodes};
 use std::alloc::AllocError;
 
 /// Adds a variable of which nothing is known, of a universe of the table, and answers the leaf that names it. The leaf is made

@@ -3,7 +3,7 @@ ghost use Rattle.std.specs.Prelude.{◌≡◌, ◌<◌, ◌++◌, ◌∷◌, [],
 ghost use Rattle.nts_unify.specs.Entries.{Entries, undone, added, with_variable, bound, constrained, moved, registered, with_hidden, duplicated};
 
 use nts_model::{Relation, VariableKind};
-use nts_store::NodeId;
+use nts_terms::nts_store::NodeId;
 use nts_terms::{AliasDefId, GenericArgs, Ty, UniverseIndex};
 use std::alloc::{AllocError, Global};
 use std::marker::Model;

@@ -19,3 +19,4 @@ pub use labels::{
     fits, infer_number, is_same, is_same_kind, names_free_region, region_number, takes_variable,
 };
 pub use named::{named_variable, placeholder_universe};
+pub use nts_terms;

@@ -8,7 +8,7 @@ ghost use Rattle.nts_unify.specs.Entries.{KeepsHidden};
 
 use crate::contents::{State, Variable};
 use crate::inner::InferCtxtInner;
-use nts_store::NodeId;
+use nts_terms::nts_store::NodeId;
 use std::alloc::AllocError;
 
 impl InferCtxtInner {

@@ -2,8 +2,8 @@ use Rattle.std.proofs.Common.{arith, ap, ◌∙◌}
 use Rattle.std.specs.List.{position_or_len}
 use Rattle.nts_model.specs.Canonical.Inputs.{are_one}
 use Rattle.nts_unify.specs.Reading.{content_of}
-use Rattle.nts_canonical.specs.SubRoots.{sub_root_in}
-use Rattle.nts_canonical.proofs.VarLists.{owned-at}
+use Rattle.nts_response.specs.nts_canonical.specs.SubRoots.{sub_root_in}
+use Rattle.nts_response.specs.nts_canonical.proofs.VarLists.{owned-at}
 use Rattle.nts_answering.proofs.KindLists.{one_answer, all_answered}
 use Rattle.nts_answering.proofs.answer_kinds.answer_kinds.Goals as goal
 

@@ -1,8 +1,8 @@
 use Rattle.std.proofs.Common.{◌≡◌, List, map, take}
 use Rattle.nts_model.specs.Terms.Trees.{Tree}
 use Rattle.nts_unify.specs.Reading.{content_of}
-use Rattle.nts_canonical.specs.SubRoots.{sub_root_in}
-use Rattle.nts_canonical.specs.Forms.{kind_of_var}
+use Rattle.nts_response.specs.nts_canonical.specs.SubRoots.{sub_root_in}
+use Rattle.nts_response.specs.nts_canonical.specs.Forms.{kind_of_var}
 use Rattle.nts_answering.proofs.KindLists.{kind_among}
 use Rattle.nts_answering.proofs.answer_kinds.answer_kinds.Given as goal
 

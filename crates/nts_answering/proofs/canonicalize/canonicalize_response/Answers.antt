@@ -1,7 +1,7 @@
 use Rattle.std.proofs.Common.{◌∙◌, ap, [], rules}
 use Rattle.nts_model.specs.Answers.Responses.{is_fixed, row_of, answer_kinds}
 use Rattle.nts_unify.specs.Reading.{content_of}
-use Rattle.nts_canonical.specs.SubRoots.{sub_root_in}
+use Rattle.nts_response.specs.nts_canonical.specs.SubRoots.{sub_root_in}
 use Rattle.nts_canonicalizer.proofs.Canonizing.{owned-seen}
 use Rattle.nts_response.specs.Forms.{findings_at}
 use Rattle.nts_answering.proofs.Found.{made_response}

@@ -2,9 +2,9 @@ use Rattle.std.proofs.Common.{arith, subst}
 use Rattle.std.proofs.lemmas.List.{take_all}
 use Rattle.nts_model.specs.Answers.Responses.{positioned}
 use Rattle.nts_model.specs.Derivations.Handlers.{hidden_by}
-use Rattle.nts_candidates.specs.Offered.{hidden_of}
+use Rattle.nts_response.specs.nts_candidates.specs.Offered.{hidden_of}
 use Rattle.nts_store.proofs.Growing.{Extends-trans}
-use Rattle.nts_canonical.specs.Forms.{IsHidden}
+use Rattle.nts_response.specs.nts_canonical.specs.Forms.{IsHidden}
 use Rattle.nts_response.specs.Replacing.{ReplacesEach}
 use Rattle.nts_response.proofs.Each.{replaced_more, hidden_kept}
 use Rattle.nts_answering.proofs.numbered.numbered_hidden.Goals as goal

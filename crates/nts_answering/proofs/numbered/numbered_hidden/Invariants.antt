@@ -2,8 +2,8 @@ use Rattle.std.proofs.Common.{take}
 use Rattle.nts_model.specs.Answers.Responses.{positioned}
 use Rattle.nts_model.specs.Derivations.Handlers.{hidden_by}
 use Rattle.nts_store.specs.Growth.{Extends}
-use Rattle.nts_candidates.specs.Offered.{hidden_of}
-use Rattle.nts_canonical.specs.Forms.{IsHidden}
+use Rattle.nts_response.specs.nts_candidates.specs.Offered.{hidden_of}
+use Rattle.nts_response.specs.nts_canonical.specs.Forms.{IsHidden}
 use Rattle.nts_response.specs.Replacing.{ReplacesEach}
 use Rattle.nts_answering.proofs.numbered.numbered_hidden.Given as goal
 

@@ -2,8 +2,8 @@ use Rattle.std.proofs.Common.{◌≡◌, [], ◌∙◌, ap, rules}
 use Rattle.nts_model.specs.Tables.Resolving.{deeply_resolved}
 use Rattle.nts_model.specs.Answers.Responses.{is_fixed, positioned, answer_kinds}
 use Rattle.nts_unify.specs.Reading.{content_of}
-use Rattle.nts_canonical.specs.Forms.{trees_of}
-use Rattle.nts_canonical.specs.SubRoots.{sub_root_in}
+use Rattle.nts_response.specs.nts_canonical.specs.Forms.{trees_of}
+use Rattle.nts_response.specs.nts_canonical.specs.SubRoots.{sub_root_in}
 use Rattle.nts_canonicalizer.proofs.Canonizing.{owned-seen}
 use Rattle.nts_response.specs.States.{state_at}
 use Rattle.nts_response.specs.StateTrees.{state_row, tree_of_state}

@@ -6,8 +6,8 @@ use Rattle.nts_store.specs.Growth.{tree_at}
 use Rattle.nts_store.specs.Kept.{map-kept}
 use Rattle.nts_store.proofs.Growing.{AllIn-extended, Extends-trans}
 use Rattle.nts_terms.specs.declared.handles.Goal.{Goal}
-use Rattle.nts_certainty.specs.declared.sources.GoalSource.{GoalSource}
-use Rattle.nts_certainty.specs.declared.sources.GoalSource.TheVariants.{Misc}
+use Rattle.nts_candidates.specs.nts_certainty.specs.declared.sources.GoalSource.{GoalSource}
+use Rattle.nts_candidates.specs.nts_certainty.specs.declared.sources.GoalSource.TheVariants.{Misc}
 use Rattle.nts_response.specs.Forms.{HoldsOpen, premise_at}
 use Rattle.nts_response.specs.Replacing.{ReplacesEach}
 use Rattle.nts_response.proofs.Each.{replaced_more, goals_kept}

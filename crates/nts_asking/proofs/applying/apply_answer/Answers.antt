@@ -1,7 +1,7 @@
 use Rattle.std.proofs.Common.{◌≡◌, Err, rules, arith}
 use Rattle.nts_store.specs.declared.fault.EvalError.TheVariants as EvalError
 use Rattle.std.proofs.lemmas.Grind.{common_steps}
-use Rattle.nts_applying.proofs.ShownClosed.{closed_shown}
+use Rattle.nts_meaning.specs.nts_applying.proofs.ShownClosed.{closed_shown}
 use Rattle.nts_meaning.proofs.Evaluating.{runs-back, goes}
 use Rattle.nts_asking.proofs.applying.apply_answer.Goals as goal
 

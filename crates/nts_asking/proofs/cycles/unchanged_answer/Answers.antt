@@ -1,8 +1,8 @@
 use Rattle.std.proofs.Common.{sym, subst}
 use Rattle.nts_canonical.specs.Building.{kinds_of}
 use Rattle.nts_canonical.specs.declared.types.Canonical.{Canonical}
-use Rattle.nts_response.specs.declared.types.Response.{Response}
-use Rattle.nts_response.specs.Forms.{response_at}
+use Rattle.nts_meaning.specs.nts_response.specs.declared.types.Response.{Response}
+use Rattle.nts_meaning.specs.nts_response.specs.Forms.{response_at}
 use Rattle.nts_meaning.specs.Answering.{IsAnswerTo}
 use Rattle.nts_theory.specs.Telling.{SaysNothing}
 use Rattle.nts_meaning.proofs.Unchanged.{unchanged_fits, nothing_said}

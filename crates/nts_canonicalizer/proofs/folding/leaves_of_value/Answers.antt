@@ -2,7 +2,7 @@ use Rattle.std.proofs.Common.{◌≡◌, [], rules, ap, ◌∙◌}
 use Rattle.nts_model.specs.Canonical.Numbered.{seen}
 use Rattle.nts_model.specs.Answers.Responses.{is_fixed}
 use Rattle.nts_store.specs.declared.fault.Fault.TheVariants.{Memory}
-use Rattle.nts_folding.proofs.Folded.{on_same_err, stops_only}
+use Rattle.nts_canonical.specs.nts_folding.proofs.Folded.{on_same_err, stops_only}
 use Rattle.nts_canonical.specs.Mapping.{IsAny, itself}
 use Rattle.nts_canonical.proofs.Mapped.{seeing, walk_mapped}
 use Rattle.nts_canonicalizer.proofs.folding.leaves_of_value.Goals as goal

@@ -1,7 +1,7 @@
 use Rattle.std.proofs.Common.{◌≡◌}
 use Rattle.nts_model.specs.Answers.Responses.{positioned}
 use Rattle.nts_store.specs.declared.fault.Fault.TheVariants.{Memory}
-use Rattle.nts_folding.proofs.Folded.{on_same_err, stops_only}
+use Rattle.nts_canonical.specs.nts_folding.proofs.Folded.{on_same_err, stops_only}
 use Rattle.nts_canonical.specs.Mapping.{IsAny, same_state}
 use Rattle.nts_canonical.proofs.Mapped.{positioning, walk_mapped}
 use Rattle.nts_canonicalizer.proofs.folding.position_value.Goals as goal

@@ -4,7 +4,7 @@ use Rattle.nts_model.proofs.Tables.Open.{Knows-deeply_resolved}
 use Rattle.nts_unify.specs.Reading.{content_of}
 use Rattle.nts_unify.specs.Lawful.{content_of-extended}
 use Rattle.nts_store.specs.declared.fault.Fault.TheVariants.{Memory}
-use Rattle.nts_folding.proofs.Folded.{on_same_err, stops_only}
+use Rattle.nts_canonical.specs.nts_folding.proofs.Folded.{on_same_err, stops_only}
 use Rattle.nts_canonical.specs.Mapping.{same_state}
 use Rattle.nts_canonical.proofs.Mapped.{resolving, walk_mapped}
 use Rattle.nts_canonicalizer.proofs.folding.resolve_value.Goals as goal

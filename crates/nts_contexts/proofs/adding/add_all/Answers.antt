@@ -1,5 +1,5 @@
 use Rattle.std.proofs.Common.{refl}
-use Rattle.nts_meaning.proofs.Evaluating.{Runs-refl, IsPosed-opened}
+use Rattle.nts_evaluation.specs.nts_meaning.proofs.Evaluating.{Runs-refl, IsPosed-opened}
 use Rattle.nts_contexts.proofs.Ended.{ended_runs}
 use Rattle.nts_contexts.proofs.Relates.{adds_to, posed_pushed}
 use Rattle.nts_contexts.proofs.adding.add_all.Goals as goal

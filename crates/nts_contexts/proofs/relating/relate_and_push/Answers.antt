@@ -1,5 +1,5 @@
 use Rattle.std.proofs.Common.{refl, ◌∙◌, sym}
-use Rattle.nts_meaning.proofs.Evaluating.{Runs-refl}
+use Rattle.nts_evaluation.specs.nts_meaning.proofs.Evaluating.{Runs-refl}
 use Rattle.nts_contexts.proofs.Ended.{ended_runs}
 use Rattle.nts_contexts.proofs.Relates.{where_added, adds_related, adds_nothing, posed_pushed}
 use Rattle.nts_contexts.proofs.relating.relate_and_push.Goals as goal

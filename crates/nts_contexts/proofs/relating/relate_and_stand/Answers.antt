@@ -1,6 +1,6 @@
 use Rattle.nts_certainty.specs.declared.sources.GoalSource.TheVariants as source
 use Rattle.nts_search.specs.declared.kinds.CurrentGoalKind.TheVariants as kind
-use Rattle.nts_meaning.proofs.Evaluating.{Runs-trans}
+use Rattle.nts_evaluation.specs.nts_meaning.proofs.Evaluating.{Runs-trans}
 use Rattle.nts_solver_relating.proofs.GoalsLeft.{if_ok}
 use Rattle.nts_adding.specs.Adding.{AddsEach}
 use Rattle.nts_adding.proofs.Known.{goals_posed}

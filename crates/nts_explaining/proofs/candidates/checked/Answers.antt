@@ -1,4 +1,4 @@
-use Rattle.nts_trying.proofs.Adding.{posed_kept}
+use Rattle.nts_evaluation.specs.nts_trying.proofs.Adding.{posed_kept}
 use Rattle.nts_explaining.proofs.candidates.checked.Goals as goal
 
 pub condition-requires-in-Doubtful-clause-posed : goal.condition-requires-in-Doubtful-clause-posed

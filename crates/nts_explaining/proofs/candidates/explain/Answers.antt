@@ -1,5 +1,5 @@
 use Rattle.nts_candidates.proofs.Results.{IfOk-map}
-use Rattle.nts_meaning.proofs.Evaluating.{IsPosed-admitted, IsPosed-opened, rolled_back}
+use Rattle.nts_evaluation.specs.nts_meaning.proofs.Evaluating.{IsPosed-admitted, IsPosed-opened, rolled_back}
 use Rattle.nts_explaining.proofs.Tried.{reasons_before}
 use Rattle.nts_explaining.proofs.candidates.explain.Goals as goal
 

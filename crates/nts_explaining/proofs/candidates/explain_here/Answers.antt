@@ -5,11 +5,11 @@ use Rattle.nts_unify.specs.Lawful.{content_of-extended}
 use Rattle.nts_terms.specs.Modes.{mode_of}
 use Rattle.nts_candidates.specs.Offered.{candidates_of}
 use Rattle.nts_candidates.proofs.Results.{IfOk-map}
-use Rattle.nts_meaning.specs.Meant.{offers_of}
-use Rattle.nts_meaning.proofs.Evaluating.{Goes-trans, Goes-extends, IsPosed-later, offers-kept, goes-back}
+use Rattle.nts_evaluation.specs.nts_meaning.specs.Meant.{offers_of}
+use Rattle.nts_evaluation.specs.nts_meaning.proofs.Evaluating.{Goes-trans, Goes-extends, IsPosed-later, offers-kept, goes-back}
 use Rattle.nts_explaining.specs.Explaining.GivesReasons.{of_candidates}
 use Rattle.nts_explaining.proofs.Tried.{unasked_reasons, unopened_reasons}
-use Rattle.nts_trying.proofs.Owning.{own_is_no_trait}
+use Rattle.nts_evaluation.specs.nts_trying.proofs.Owning.{own_is_no_trait}
 use Rattle.nts_explaining.proofs.candidates.explain_here.Goals as goal
 
 pub returns-in-Unopened-clause-reasons : goal.returns-in-Unopened-clause-reasons

@@ -3,7 +3,7 @@ use Rattle.std.specs.Prelude.{Ok, None, IfOk, IsNone}
 use Rattle.nts_model.specs.Refutation.Choosing.{IsCandidateMet}
 use Rattle.nts_unify.specs.Reading.{content_of}
 use Rattle.nts_candidates.specs.Offered.{candidate_of}
-use Rattle.nts_meaning.proofs.Evaluating.{goes-back, rolled_back, IsPosed-later, IsCandidate-extended}
+use Rattle.nts_evaluation.specs.nts_meaning.proofs.Evaluating.{goes-back, rolled_back, IsPosed-later, IsCandidate-extended}
 use Rattle.nts_explaining.proofs.FirstEquations.{met_same, stops_same}
 use Rattle.nts_explaining.proofs.candidates.reason_of.Goals as goal
 

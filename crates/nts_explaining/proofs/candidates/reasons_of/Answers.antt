@@ -6,9 +6,9 @@ use Rattle.nts_unify.specs.Reading.{content_of}
 use Rattle.nts_store.proofs.Growing.{Extends-refl}
 use Rattle.nts_terms.proofs.Moved.{KeepsRest-refl}
 use Rattle.nts_candidates.specs.Offered.{candidates_of}
-use Rattle.nts_trying.proofs.Adding.{grown_more}
-use Rattle.nts_meaning.proofs.TraitsAsked.{IsAskedGoal-extended}
-use Rattle.nts_meaning.proofs.Evaluating.{goes-back, IsPosed-later, IsCandidate-extended, candidate_at}
+use Rattle.nts_evaluation.specs.nts_trying.proofs.Adding.{grown_more}
+use Rattle.nts_evaluation.specs.nts_meaning.proofs.TraitsAsked.{IsAskedGoal-extended}
+use Rattle.nts_evaluation.specs.nts_meaning.proofs.Evaluating.{goes-back, IsPosed-later, IsCandidate-extended, candidate_at}
 use Rattle.nts_explaining.specs.Explaining.{ExplainsEach}
 use Rattle.nts_candidates.specs.HeldReasons.{HoldsReason}
 use Rattle.nts_explaining.specs.Explaining.ExplainsEach.{none}

@@ -1,9 +1,9 @@
 use Rattle.std.proofs.Common.{length, ap, ◌∙◌}
 use Rattle.nts_store.proofs.Growing.{Extends-trans}
 use Rattle.nts_table.specs.TableLaws.{IsTable-extended}
-use Rattle.nts_meaning.proofs.Evaluating.{Runs-trans, Runs-extends, IsPosed-later, AreValues-later, IsCandidate-extended}
-use Rattle.nts_trying.proofs.Trying.{some_meets}
-use Rattle.nts_trying.proofs.Stepping.{posed_later}
+use Rattle.nts_evaluation.specs.nts_meaning.proofs.Evaluating.{Runs-trans, Runs-extends, IsPosed-later, AreValues-later, IsCandidate-extended}
+use Rattle.nts_evaluation.specs.nts_trying.proofs.Trying.{some_meets}
+use Rattle.nts_evaluation.specs.nts_trying.proofs.Stepping.{posed_later}
 use Rattle.nts_explaining.proofs.Tried.{as_many, explained}
 use Rattle.nts_explaining.proofs.candidates.try_candidate.Goals as goal
 

@@ -1,9 +1,9 @@
 use Rattle.std.proofs.Common.{◌≡◌, [], ◌∷◌, rules, arith, sym, subst}
 use Rattle.std.proofs.lemmas.List.Elements.{All-nil, All-cons}
-use Rattle.nts_meaning.specs.Evaluation.{IsPosed}
-use Rattle.nts_meaning.proofs.Rounds.{search_begun}
-use Rattle.nts_meaning.proofs.Evaluating.{Runs-refl}
-use Rattle.nts_trying.specs.Stepping.{ArePosed}
+use Rattle.nts_evaluation.specs.nts_meaning.specs.Evaluation.{IsPosed}
+use Rattle.nts_evaluation.specs.nts_meaning.proofs.Rounds.{search_begun}
+use Rattle.nts_evaluation.specs.nts_meaning.proofs.Evaluating.{Runs-refl}
+use Rattle.nts_evaluation.specs.nts_trying.specs.Stepping.{ArePosed}
 use Rattle.nts_explaining.proofs.conditions.ask.Goals as goal
 
 pub returns-in_err-push : goal.returns-in_err-push

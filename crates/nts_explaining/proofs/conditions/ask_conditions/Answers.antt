@@ -1,5 +1,5 @@
-use Rattle.nts_meaning.proofs.Evaluating.{Runs-trans}
-use Rattle.nts_trying.proofs.Stepping.{posed_later}
+use Rattle.nts_evaluation.specs.nts_meaning.proofs.Evaluating.{Runs-trans}
+use Rattle.nts_evaluation.specs.nts_trying.proofs.Stepping.{posed_later}
 use Rattle.nts_explaining.proofs.conditions.ask_conditions.Goals as goal
 
 pub loop-init : goal.loop-init

@@ -1,7 +1,7 @@
 use Rattle.std.proofs.Common.{rules, arith}
-use Rattle.nts_meaning.proofs.Evaluating.{Runs-trans, Runs-refl}
-use Rattle.nts_trying.specs.Stepping.{ArePosed}
-use Rattle.nts_trying.proofs.Stepping.{posed_later}
+use Rattle.nts_evaluation.specs.nts_meaning.proofs.Evaluating.{Runs-trans, Runs-refl}
+use Rattle.nts_evaluation.specs.nts_trying.specs.Stepping.{ArePosed}
+use Rattle.nts_evaluation.specs.nts_trying.proofs.Stepping.{posed_later}
 use Rattle.nts_explaining.proofs.Numbered.{within_more}
 use Rattle.nts_explaining.proofs.conditions.ask_each.Goals as goal
 

@@ -1,5 +1,5 @@
 use Rattle.std.proofs.Common.{◌≤◌, length}
-use Rattle.nts_meaning.specs.Evaluation.{Runs}
+use Rattle.nts_evaluation.specs.nts_meaning.specs.Evaluation.{Runs}
 use Rattle.nts_explaining.specs.Asking.{IsWithin}
 use Rattle.nts_explaining.proofs.conditions.ask_each.Given as goal
 

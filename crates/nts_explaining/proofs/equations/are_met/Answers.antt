@@ -1,9 +1,9 @@
 use Rattle.std.proofs.Common.{◌≡◌, Err, refl, sym, ap, ◌∙◌, subst}
 use Rattle.nts_store.specs.declared.fault.EvalError.TheVariants as error
 use Rattle.nts_unify.specs.Reading.{content_of}
-use Rattle.nts_meaning.specs.Evaluation.{IsPosed}
-use Rattle.nts_meaning.proofs.Evaluating.{IsPosed-opened}
-use Rattle.nts_trying.proofs.Trying.{some_meets}
+use Rattle.nts_evaluation.specs.nts_meaning.specs.Evaluation.{IsPosed}
+use Rattle.nts_evaluation.specs.nts_meaning.proofs.Evaluating.{IsPosed-opened}
+use Rattle.nts_evaluation.specs.nts_trying.proofs.Trying.{some_meets}
 use Rattle.nts_explaining.proofs.FirstEquations.{part_fits, part_meets}
 use Rattle.nts_explaining.proofs.equations.are_met.Goals as goal
 

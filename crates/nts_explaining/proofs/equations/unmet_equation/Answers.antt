@@ -4,8 +4,8 @@ use Rattle.nts_unify.specs.Reading.{content_of}
 use Rattle.nts_store.proofs.Growing.{Extends-refl}
 use Rattle.nts_terms.proofs.Moved.{KeepsRest-refl}
 use Rattle.nts_candidates.specs.Offered.{candidate_of, equation_of}
-use Rattle.nts_trying.proofs.Adding.{grown_more}
-use Rattle.nts_meaning.proofs.Evaluating.{goes-back, IsPosed-later, IsCandidate-extended}
+use Rattle.nts_evaluation.specs.nts_trying.proofs.Adding.{grown_more}
+use Rattle.nts_evaluation.specs.nts_meaning.proofs.Evaluating.{goes-back, IsPosed-later, IsCandidate-extended}
 use Rattle.nts_explaining.specs.Explaining.{MeetsFirst}
 use Rattle.nts_explaining.proofs.FirstEquations.{first_same, stops_at, stops_last, last_before}
 use Rattle.nts_explaining.proofs.equations.unmet_equation.Goals as goal

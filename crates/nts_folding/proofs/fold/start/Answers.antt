@@ -1,4 +1,4 @@
-use Rattle.nts_store.specs.Growth.{tree_at}
+use Rattle.nts_terms.specs.nts_store.specs.Growth.{tree_at}
 use Rattle.nts_folding.proofs.Folded.{on_same_err, none_of, stops_term, stops_enter}
 use Rattle.nts_folding.proofs.fold.start.Goals as goal
 

@@ -1,9 +1,9 @@
 use Rattle.std.proofs.Common.{◌≡◌, ◌++◌, ◌∷◌, [], ◌-◌, length, take, drop, None, Some, sym, arith, rules}
 use Rattle.nts_replacing.specs.declared.replacement.Task.TheVariants as task
-use Rattle.nts_store.specs.Growth.{tree_at, IsIn}
+use Rattle.nts_terms.specs.nts_store.specs.Growth.{tree_at, IsIn}
 use Rattle.nts_folding.specs.Folding.{Starts, anywhere}
 use Rattle.nts_replacing.specs.Replacement.{TasksIn}
-use Rattle.nts_store.proofs.Growing.{Extends-trans}
+use Rattle.nts_terms.specs.nts_store.proofs.Growing.{Extends-trans}
 use Rattle.nts_terms.proofs.Moved.{KeepsRest-trans}
 use Rattle.nts_replacing.proofs.Replacing.{MayBuild, slice_to_end, TasksIn-front, TasksIn-extended}
 use Rattle.nts_folding.proofs.Folded.{ends_early, on_err, on_same_err, stops_within, stops_building, IsWalked, may_enter, may_build, ends_answer, ends_down, ends_build, ends_all, less_after, less_down}

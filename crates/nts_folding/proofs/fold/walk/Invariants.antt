@@ -1,4 +1,4 @@
-use Rattle.nts_store.specs.Growth.{tree_at, Extends}
+use Rattle.nts_terms.specs.nts_store.specs.Growth.{tree_at, Extends}
 use Rattle.nts_terms.specs.Rest.{KeepsRest}
 use Rattle.nts_replacing.specs.Replacement.{jobs}
 use Rattle.nts_folding.proofs.Folded.{EndsBy, work}

@@ -1,6 +1,6 @@
 use Rattle.std.proofs.Common.{◌≡◌, ◌∙◌, inl, inr, true, false, Err, rules, sym}
 use Rattle.nts_store.specs.declared.fault.EvalError.TheVariants as EvalError
-use Rattle.nts_meaning.proofs.Evaluating.{IsPosed-admitted, Since-now}
+use Rattle.nts_evaluation.specs.nts_meaning.proofs.Evaluating.{IsPosed-admitted, Since-now}
 use Rattle.nts_may_hold.proofs.may_hold.root_goal_may_hold_opaque_types_jank.Goals as goal
 
 pub evaluate_and_roll_back-requires-clause-posed : goal.evaluate_and_roll_back-requires-clause-posed

@@ -1,6 +1,6 @@
 use Rattle.std.proofs.Common.{◌≡◌, Err, rules, sym}
 use Rattle.nts_store.specs.declared.fault.EvalError.TheVariants as EvalError
-use Rattle.nts_meaning.proofs.Evaluating.{IsPosed-admitted, Since-now}
+use Rattle.nts_evaluation.specs.nts_meaning.proofs.Evaluating.{IsPosed-admitted, Since-now}
 use Rattle.nts_evaluation.proofs.Coherence.{no_solution_under}
 use Rattle.nts_evaluation.proofs.FactRoots.{fact_stands}
 use Rattle.nts_may_hold.proofs.may_hold.root_goal_may_hold_with_depth.Goals as goal

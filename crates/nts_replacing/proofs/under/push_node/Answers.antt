@@ -1,5 +1,5 @@
 use Rattle.std.proofs.Common.{◌≡◌, ◌≤◌, ◌+◌, ◌-◌, ◌++◌, ◌∷◌, [], length, length-append, ap, arith}
-use Rattle.nts_model.specs.Terms.Trees.{binders}
+use Rattle.nts_store.specs.nts_model.specs.Terms.Trees.{binders}
 use Rattle.nts_store.specs.Growth.{tree_at}
 use Rattle.nts_replacing.proofs.Replacing.{formed_node}
 use Rattle.nts_replacing.specs.Under.{AreTasksUnder}

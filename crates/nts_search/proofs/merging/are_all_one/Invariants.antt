@@ -1,5 +1,5 @@
 use Rattle.std.proofs.Common.{ℕ, ◌<◌, get_or}
-use Rattle.nts_canonical.specs.declared.types.Canonical.{Canonical}
+use Rattle.nts_response.specs.nts_canonical.specs.declared.types.Canonical.{Canonical}
 use Rattle.nts_response.specs.declared.types.Response.{Response}
 use Rattle.nts_response.specs.Same.{AreOneResponse}
 use Rattle.nts_search.proofs.merging.are_all_one.Given as goal

@@ -1,6 +1,6 @@
 use Rattle.std.proofs.Common.{ap, Some}
 use Rattle.nts_unify.specs.Lawful.{content_of-extended}
-use Rattle.nts_table.specs.TableLaws.{IsTable-extended}
+use Rattle.nts_canonical.specs.nts_table.specs.TableLaws.{IsTable-extended}
 use Rattle.nts_canonicalizer.proofs.folding.ResolverTermFolder.fold_term.Goals as goal
 
 pub returns-clause-answers : goal.returns-clause-answers

@@ -1,5 +1,5 @@
 use Rattle.std.proofs.Common.{rules, sym, ◌∙◌, refl}
-use Rattle.nts_meaning.proofs.Evaluating.{Runs-refl}
+use Rattle.nts_evaluation.specs.nts_meaning.proofs.Evaluating.{Runs-refl}
 use Rattle.nts_contexts.proofs.Begun.{root_begun}
 use Rattle.nts_contexts.proofs.Ended.{answered, ran_out, runs_at, left_at, ended_runs}
 use Rattle.nts_contexts.proofs.context.EvalCtxt.enter_root.Goals as goal

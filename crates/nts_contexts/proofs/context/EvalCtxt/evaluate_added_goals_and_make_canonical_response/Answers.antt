@@ -6,8 +6,8 @@ use Rattle.nts_store.specs.declared.fault.EvalError.TheVariants as error
 use Rattle.nts_store.proofs.Growing.{Extends-trans}
 use Rattle.nts_unify.specs.Reading.{content_of}
 use Rattle.nts_unify.specs.Lawful.{content_of-extended}
-use Rattle.nts_meaning.proofs.Evaluating.{Goes-extends, Runs-extends}
-use Rattle.nts_trying.proofs.Stepping.{settled_after, left_refl, posed_later}
+use Rattle.nts_evaluation.specs.nts_meaning.proofs.Evaluating.{Goes-extends, Runs-extends}
+use Rattle.nts_evaluation.specs.nts_trying.proofs.Stepping.{settled_after, left_refl, posed_later}
 use Rattle.nts_contexts.proofs.Frames.{keeps_refl, keeps_then, keeps_ended, none_after}
 use Rattle.nts_contexts.specs.Faults.{tainted_after}
 use Rattle.nts_theory.specs.Telling.Reaches.{asks_nothing}
@@ -18,7 +18,7 @@ use Rattle.nts_model.specs.Answers.Responses.{Response as Form}
 use Rattle.nts_certainty.specs.declared.certainty.Certainty.{Certainty}
 use Rattle.nts_response.specs.Forms.{response_at}
 use Rattle.nts_theory.specs.Telling.{IsResponseOf}
-use Rattle.nts_meaning.specs.Answering.{told_in}
+use Rattle.nts_evaluation.specs.nts_meaning.specs.Answering.{told_in}
 
 -- a taint stays
 stays_tainted : {R : Type 0} (b : Bool) (r : Result R EvalError) → b ≡ true → tainted_after b r ≡ true

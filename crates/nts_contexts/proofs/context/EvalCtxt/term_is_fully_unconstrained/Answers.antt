@@ -1,7 +1,7 @@
 use Rattle.std.proofs.Common.{refl}
-use Rattle.nts_meaning.proofs.Evaluating.{Runs-extends}
+use Rattle.nts_evaluation.specs.nts_meaning.proofs.Evaluating.{Runs-extends}
 use Rattle.nts_contexts.proofs.Frames.{keeps_refl, keeps_grown}
-use Rattle.nts_trying.proofs.Stepping.{posed_later}
+use Rattle.nts_evaluation.specs.nts_trying.proofs.Stepping.{posed_later}
 use Rattle.nts_contexts.proofs.context.EvalCtxt.term_is_fully_unconstrained.Goals as goal
 
 pub returns-in_err-check-clause-keeps : goal.returns-in_err-check-clause-keeps

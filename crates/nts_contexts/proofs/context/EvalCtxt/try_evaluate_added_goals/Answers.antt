@@ -4,14 +4,14 @@ use Rattle.nts_contexts.specs.declared.state.EvalState.{EvalState}
 use Rattle.nts_contexts.proofs.Frames.{keeps_refl}
 use Rattle.nts_model.specs.Derivations.Rules.{other_goal}
 use Rattle.nts_candidates.proofs.Results.{OnOk-map}
-use Rattle.nts_meaning.specs.Searching.{assumed_in}
-use Rattle.nts_meaning.proofs.Searching.{nothing_assumed}
+use Rattle.nts_evaluation.specs.nts_meaning.specs.Searching.{assumed_in}
+use Rattle.nts_evaluation.specs.nts_meaning.proofs.Searching.{nothing_assumed}
 use Rattle.nts_unify.specs.Reading.{content_of}
 use Rattle.nts_search.specs.declared.kinds.CurrentGoalKind.TheVariants as kinds
-use Rattle.nts_trying.specs.Stopping.{RefusesAmong}
-use Rattle.nts_trying.proofs.Stepping.{settled_rooted, left_refl, stopped_root}
+use Rattle.nts_evaluation.specs.nts_trying.specs.Stopping.{RefusesAmong}
+use Rattle.nts_evaluation.specs.nts_trying.proofs.Stepping.{settled_rooted, left_refl, stopped_root}
 use Rattle.nts_store.specs.declared.fault.EvalError.TheVariants as EvalError
-use Rattle.nts_meaning.proofs.Rounds.{search_begun, tell_begun}
+use Rattle.nts_evaluation.specs.nts_meaning.proofs.Rounds.{search_begun, tell_begun}
 use Rattle.nts_theory.specs.Telling.Reaches.{asks_nothing}
 use Rattle.nts_contexts.proofs.context.EvalCtxt.try_evaluate_added_goals.Goals as goal
 

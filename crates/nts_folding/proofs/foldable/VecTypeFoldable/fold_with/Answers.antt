@@ -1,6 +1,6 @@
 use Rattle.std.proofs.Common.{◌≡◌, ◌∷◌, length, ap, arith}
 use Rattle.std.specs.Vec.Iter.{into_iter_items}
-use Rattle.nts_store.proofs.Growing.{Extends-trans}
+use Rattle.nts_terms.specs.nts_store.proofs.Growing.{Extends-trans}
 use Rattle.nts_terms.proofs.Moved.{KeepsRest-refl, KeepsRest-trans}
 use Rattle.nts_folding.specs.Folding.{anywhere}
 use Rattle.nts_folding.proofs.Folded.{folds_in_vain, on_err, on_same_err}

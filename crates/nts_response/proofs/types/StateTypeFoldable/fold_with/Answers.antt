@@ -1,4 +1,4 @@
-use Rattle.nts_folding.proofs.Folded.{on_same_err, walk_pair, stops_first, stops_second}
+use Rattle.nts_canonical.specs.nts_folding.proofs.Folded.{on_same_err, walk_pair, stops_first, stops_second}
 use Rattle.nts_response.specs.StateTrees.{values_same}
 use Rattle.nts_response.proofs.types.StateTypeFoldable.fold_with.Goals as goal
 

@@ -1,8 +1,8 @@
 use Rattle.std.proofs.Common.{IsTrue, false, sym, subst, refl, ap, ◌∙◌, arith}
 use Rattle.std.specs.Prelude.{reverse}
 use Rattle.std.proofs.lemmas.List.{get_or_default}
-use Rattle.nts_canonical.specs.Alike.{AreOneInput}
-use Rattle.nts_canonical.specs.Forms.{HoldsQuery}
+use Rattle.nts_response.specs.nts_canonical.specs.Alike.{AreOneInput}
+use Rattle.nts_response.specs.nts_canonical.specs.Forms.{HoldsQuery}
 use Rattle.nts_search.proofs.LookedUp.{Ahead, Stands, stands, stands_nowhere, fewer_left}
 use Rattle.nts_search.proofs.stack.SearchGraph.find.Goals as goal
 use Rattle.nts_search.proofs.stack.SearchGraph.find.Goals.{In-Some}

@@ -1,7 +1,7 @@
 use Rattle.std.proofs.Common.{◌≡◌, ◌-◌, suc, map, take, arith, refl, ap, sym, ◌∙◌}
 use Rattle.std.specs.Prelude.{reverse}
 use Rattle.nts_model.specs.Searching.Stacks.{stronger, path_kind}
-use Rattle.nts_candidates.specs.Offered.{path_kind_of}
+use Rattle.nts_response.specs.nts_candidates.specs.Offered.{path_kind_of}
 use Rattle.nts_search.specs.Searching.{entry_at}
 use Rattle.nts_search.proofs.Passed.{path_onwards, path_here}
 use Rattle.nts_search.proofs.stack.SearchGraph.path_kind.Goals as goal

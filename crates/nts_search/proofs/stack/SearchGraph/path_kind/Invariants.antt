@@ -2,7 +2,7 @@ use Rattle.std.proofs.Common.{◌≡◌, ◌-◌, ◌<◌, ◌≤◌, suc, List,
 use Rattle.std.specs.Prelude.{reverse}
 use Rattle.nts_model.specs.Terms.Trees.{Tree}
 use Rattle.nts_model.specs.Searching.Stacks.{path_kind}
-use Rattle.nts_candidates.specs.Offered.{path_kind_of}
+use Rattle.nts_response.specs.nts_candidates.specs.Offered.{path_kind_of}
 use Rattle.nts_search.specs.Searching.{entry_at, entries_at}
 use Rattle.nts_search.proofs.stack.SearchGraph.path_kind.Given as goal
 

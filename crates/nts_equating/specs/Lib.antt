@@ -1,0 +1,1 @@
+pub use Rattle.nts_relating
