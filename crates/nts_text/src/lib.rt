@@ -6,6 +6,7 @@
 #![tactic(auto)]
 
 mod commands;
+mod known;
 mod lexer;
 mod names;
 mod parser;

@@ -1,12 +1,8 @@
 //! Predicates whose names have become numbers.
-
-ghost use Rattle.std.specs.Prelude.{◌≡◌, ◌≢◌, true, None, Some, Err, ◌++◌, ◌∷◌, [], length, vec_len, reverse, All, IfOk, IfErr, IsErr, OnOk, MatchResult};
-ghost use Rattle.nts_text.specs.Lines.{bytes_of};
-ghost use Rattle.nts_text.specs.NameTable.{IsNameTaken, NameStandsFor};
+ghost use Rattle.std.specs.Prelude.{◌≡◌, ◌≢◌, true, None, Some, Err, ◌++◌, ◌∷◌, [], length, reverse, All, IfOk, IfErr, IsErr, OnOk};
 ghost use Rattle.nts_text.specs.Binders.{BoundNames, bound_names, bound_behind, nothing_bound};
 ghost use Rattle.nts_text.specs.Faults.{IsUnknown, HasFreeName, IsBoundTwice, HasBoundTwice};
 ghost use Rattle.nts_text.specs.Spelled.{KeepsNames};
-ghost use Rattle.nts_text.specs.Names.{is_numbered};
 ghost use Rattle.nts_text.specs.Reasons.{is_name_reason};
 ghost use Rattle.nts_text.specs.Tokens.{IsInside};
 ghost use Rattle.nts_text.specs.Resolution.{argument_sorts, sort_of, role_of, IsDeclared, IsMeaningOf, IsNoVariable, AreMeanings, AreSorted};
@@ -14,8 +10,9 @@ ghost use Rattle.nts_text.specs.declared.names.Scope.{Scope};
 ghost use Rattle.nts_text.specs.declared.refusals.TextError.TheVariants.{Refused};
 ghost use Rattle.nts_text.specs.declared.refusals.Refusal.TheVariants.{NameDeclaredTwice, ParameterInAClause, UnknownName, VariableInAnEnvironment, WrongArguments};
 
+use crate::known::{allows_parameter, allows_variable, declared, named_type, predicate, refused};
 use crate::lexer::TokenKind;
-use crate::names::{Bounds, Declared, NameTable, Scope, Signature};
+use crate::names::{Bounds, NameTable, Scope};
 use crate::parser::text;
 use crate::predicates::{Node, Role};
 use crate::refusals::{Refusal, TextError};
@@ -52,109 +49,6 @@ pub enum Resolved {
     RegionVariable(usize),
     RegionParam(usize),
     Static,
-}
-
-fn refused<T>(refusal: Refusal) -> Result<T, TextError>
-    ensures { result ≡ Err (Refused refusal) }
-{
-    Err(TextError::Refused(refusal))
-}
-
-/// What the name of a node stands for.
-fn declared(names: &NameTable, line: &[u8], node: Node) -> Result<Declared, TextError>
-    requires { IsInside line.now node.token }
-    ensures unknown { IfErr result (λ e. (e ≡ Refused UnknownName) ×
-        (IsNameTaken names.now (bytes_of line.now node.token) → ⊥)) }
-    ensures numbered { IfOk result (λ d. is_numbered (vec_len names.now.types)
-        (vec_len names.now.traits) d ≡ true) }
-    ensures found { IfOk result (NameStandsFor names.now (bytes_of line.now node.token)) }
-{
-    match names.lookup(text(line, node.token)) {
-        Some(declared) => Ok(declared),
-        None => refused(Refusal::UnknownName),
-    }
-}
-
-/// A node that stands in a trait's place.
-fn predicate(names: &NameTable, line: &[u8], node: Node) -> Result<Resolved, TextError>
-    requires { IsInside line.now node.token }
-    ensures sort { IfOk result (λ r. sort_of r ≡ None) }
-    ensures role { IfOk result (λ r. role_of r ≡ Role.Trait) }
-    ensures declared { IfOk result (IsDeclared names.now) }
-    ensures means { (scope : Scope) (b : BoundNames) →
-        IfOk result (IsMeaningOf names.now scope line.now b node) }
-    ensures reasons { IfErr result (λ e. is_name_reason e ≡ true) }
-    ensures reason { result ≢ Err (Refused ParameterInAClause) }
-    ensures variable { result ≢ Err (Refused VariableInAnEnvironment) }
-    ensures unknown { result ≡ Err (Refused UnknownName) →
-        IsNameTaken names.now (bytes_of line.now node.token) → ⊥ }
-    ensures declares { result ≢ Err (Refused NameDeclaredTwice) }
-{
-    let Declared::Trait(number) = declared(names, line, node)? else {
-        return refused(Refusal::WrongArguments);
-    };
-    if names.traits[number].sorts.len() != node.arguments {
-        return refused(Refusal::WrongArguments);
-    }
-    Ok(Resolved::Trait {
-        number,
-        arguments: node.arguments,
-    })
-}
-
-/// A known or declared name that stands in a type's place.
-fn named_type(names: &NameTable, line: &[u8], node: Node) -> Result<Resolved, TextError>
-    requires { IsInside line.now node.token }
-    ensures sort { IfOk result (λ r. sort_of r ≡ Some Sort.Ty) }
-    ensures role { IfOk result (λ r. role_of r ≡ Role.Argument) }
-    ensures declared { IfOk result (IsDeclared names.now) }
-    ensures means { (scope : Scope) (b : BoundNames) →
-        IfOk result (IsMeaningOf names.now scope line.now b node) }
-    ensures reasons { IfErr result (λ e. is_name_reason e ≡ true) }
-    ensures reason { result ≢ Err (Refused ParameterInAClause) }
-    ensures variable { result ≢ Err (Refused VariableInAnEnvironment) }
-    ensures unknown { result ≡ Err (Refused UnknownName) →
-        IsNameTaken names.now (bytes_of line.now node.token) → ⊥ }
-    ensures declares { result ≢ Err (Refused NameDeclaredTwice) }
-{
-    let (found, wanted) = match declared(names, line, node)? {
-        Declared::Int(int) => (Resolved::Int(int), 0),
-        Declared::Uint(uint) => (Resolved::Uint(uint), 0),
-        Declared::Type(number) => (
-            Resolved::Ctor {
-                number,
-                arguments: node.arguments,
-            },
-            names.types[number].sorts.len(),
-        ),
-        Declared::Trait(_) => return refused(Refusal::WrongArguments),
-    };
-    if wanted != node.arguments {
-        return refused(Refusal::WrongArguments);
-    }
-    Ok(found)
-}
-
-/// A place for a parameter: none in a clause.
-fn allows_parameter(site: Site) -> Result<(), TextError>
-    ensures { MatchResult result (λ _. site ≢ Site.Clause) (λ e. (e ≡ Refused ParameterInAClause) ×
-        (site ≡ Site.Clause)) }
-{
-    match site {
-        Site::Clause => refused(Refusal::ParameterInAClause),
-        Site::Goal | Site::Environment => Ok(()),
-    }
-}
-
-/// A place for a variable: none in an environment.
-fn allows_variable(site: Site) -> Result<(), TextError>
-    ensures { MatchResult result (λ _. site ≢ Site.Environment) (λ e.
-        (e ≡ Refused VariableInAnEnvironment) × (site ≡ Site.Environment)) }
-{
-    match site {
-        Site::Environment => refused(Refusal::VariableInAnEnvironment),
-        Site::Clause | Site::Goal => Ok(()),
-    }
 }
 
 /// What reads nodes: the line, the place of the predicates in it, and the names.

@@ -1,28 +1,26 @@
 //! Two terms related by a variance, with goals alone left: the pairs that are to be made equal are taken by the heads of their sides.
 ghost use Rattle.std.specs.Prelude.{◌≡◌, ◌≢◌, ◌++◌, ℕ, List, ◌∷◌, [], true, false, OnOk, OnErr, IfOk, Err};
-ghost use Rattle.nts_model.specs.declared.labels.Variance.TheVariants as variances;
 ghost use Rattle.nts_model.specs.declared.labels.Variance.{Variance};
-ghost use Rattle.nts_model.specs.Derivations.Related.{IsAlias};
 ghost use Rattle.nts_model.specs.Tables.Contents.{Content};
 ghost use Rattle.nts_model.specs.Tables.Resolving.{IsInfer};
-ghost use Rattle.nts_store.specs.Growth.{tree_at, IsIn, Extends};
+ghost use Rattle.nts_store.specs.Growth.{tree_at, Extends};
 ghost use Rattle.nts_terms.specs.Signatures.{variances_in};
 ghost use Rattle.nts_unify.specs.Entries.{KeepsHidden};
 ghost use Rattle.nts_unify.specs.Reading.{content_of, IsLawful};
 ghost use Rattle.nts_relating.specs.Relating.{IsOpen};
 ghost use Rattle.nts_variance.specs.Terms.{pair_at};
-ghost use Rattle.nts_variance.specs.Varying.{pair_in};
 ghost use Rattle.nts_variance.specs.Pairs.{Refuses};
 ghost use Rattle.nts_variance.specs.Taking.{IsPairSide, IsPair, IsTaken, IsPaid, AreDueSince};
-ghost use Rattle.nts_variance.specs.Equating.{node_in, OwesAliases, AreToBeOne, AreHeads, ArePairHeads, AreInvariant, ArePairsReady, IsOn, IsEqualStep, IsEqualRun, AreRefused, GoalsRelate};
+ghost use Rattle.nts_variance.specs.Equating.{OwesAliases, AreToBeOne, AreHeads, AreInvariant, ArePairsReady, IsOn, IsEqualStep, IsEqualRun, AreRefused, GoalsRelate};
 
-use crate::along::{Relating, Side, bind_along};
-use crate::splitting::{Left, Taken, owe, push_pairs, relate_along, take_heads};
+use crate::along::{Relating, Side};
+use crate::heads_equal::{at_heads, bind_head, is_loose, join_variables};
+use crate::splitting::{Left, Taken, push_pairs, relate_along};
+use crate::taking::{owe, take_heads};
 use crate::variance::opposite;
-use crate::vary_walk::is_closed_alias;
 use indexmap::IndexSet;
 use nts_model::Variance;
-use nts_relating::{Head, head_of, relate_variables};
+use nts_relating::Head;
 use nts_store::{EvalError, NodeId, Nodes};
 use nts_terms::Declarations;
 use nts_unify::InferCtxtInner;
@@ -34,122 +32,6 @@ pub struct Heads {
     pub pair: Relating,
     pub left: Head,
     pub right: Head,
-}
-
-/// The node of a head; a variable without a value keeps its own.
-fn node_of(head: Head, t: NodeId) -> NodeId
-    ensures { result ≡ node_in head t }
-{
-    match head {
-        Head::Open(_) => t,
-        Head::Closed(value) => value,
-    }
-}
-
-/// The pair of the heads of both sides.
-fn at_heads(nodes: &Nodes, table: &InferCtxtInner, pair: Relating) -> Heads
-    requires lawful { IsLawful nodes.now table.now.entries }
-    requires pair { IsPair nodes.now (content_of nodes.now table.now.entries) pair }
-    ensures { ArePairHeads nodes.now table.now.entries pair result }
-{
-    let left = head_of(nodes, table, pair.left);
-    let right = head_of(nodes, table, pair.right);
-    let pair = Relating {
-        variance: pair.variance,
-        left: node_of(left, pair.left),
-        right: node_of(right, pair.right),
-    };
-    Heads { pair, left, right }
-}
-
-/// Takes a pair of two variables without values: they are made one, unless they are.
-fn join_variables(
-    alloc: Global,
-    nodes: &mut Nodes,
-    table: &mut InferCtxtInner,
-    pair: Relating,
-    x: usize,
-    y: usize,
-) -> Result<Taken, EvalError>
-    requires lawful { IsLawful nodes.old table.old.entries }
-    requires pair { IsPair nodes.old (content_of nodes.old table.old.entries) pair }
-    requires left { IsOpen nodes.old table.old.entries (tree_at nodes.old pair.left) x }
-    requires right { IsOpen nodes.old table.old.entries (tree_at nodes.old pair.right) y }
-    requires one { AreToBeOne (content_of nodes.old table.old.entries) pair.variance
-        (tree_at nodes.old pair.left) (tree_at nodes.old pair.right) }
-    ensures extends { Extends nodes.old nodes.new }
-    ensures changes { KeepsHidden table.old table.new }
-    ensures taken { (declared : ℕ → List Variance) →
-        IfOk result (IsTaken declared nodes.old nodes.new table.old.entries table.new.entries
-        pair) }
-    ensures paid { IfOk result (IsPaid (content_of nodes.old table.old.entries)
-        (content_of nodes.new table.new.entries) (pair_at nodes.old pair)) }
-    ensures due { IfOk result (OwesAliases nodes.new (pair_at nodes.old pair)) }
-    ensures full { result ≢ Err EvalError.Full }
-    ensures no { (declared : ℕ → List Variance) → result ≡ Err EvalError.NoSolution →
-        Refuses declared (content_of nodes.old table.old.entries) (pair_at nodes.old pair ∷ []) }
-{
-    match relate_variables(alloc, nodes, table, x, y) {
-        Err(error) => Err(error),
-        Ok(made) => {
-            if made {
-                return Ok(Taken::Bound(Vec::new(alloc)));
-            }
-            Ok(Taken::Done)
-        }
-    }
-}
-
-/// Takes a pair of a variable without a value and another node, which is no alias without escaping bound variables: the variable is
-/// made one with what stands for the node.
-fn bind_head(
-    alloc: Global,
-    nodes: &mut Nodes,
-    declarations: &Declarations,
-    table: &mut InferCtxtInner,
-    side: Side,
-    variance: Variance,
-    own: NodeId,
-    term: NodeId,
-) -> Result<Taken, EvalError>
-    requires lawful { IsLawful nodes.old table.old.entries }
-    requires own { IsPairSide nodes.old (content_of nodes.old table.old.entries) own }
-    requires term { IsPairSide nodes.old (content_of nodes.old table.old.entries) term }
-    requires open { IsOpen nodes.old table.old.entries (tree_at nodes.old own) side.variable }
-    requires node { IsInfer (tree_at nodes.old term) → ⊥ }
-    requires rigid { IsAlias (tree_at nodes.old term) → ⊥ }
-    ensures extends { Extends nodes.old nodes.new }
-    ensures changes { KeepsHidden table.old table.new }
-    ensures taken { IfOk result (IsTaken (variances_in declarations.now) nodes.old nodes.new
-        table.old.entries table.new.entries (pair_in side.is_turned variance own term)) }
-    ensures paid { IfOk result (IsPaid (content_of nodes.old table.old.entries)
-        (content_of nodes.new table.new.entries) (pair_at nodes.old
-        (pair_in side.is_turned variance own term))) }
-    ensures due { AreToBeOne (content_of nodes.old table.old.entries) variance (tree_at nodes.old
-        own) (tree_at nodes.old term) → IfOk result (OwesAliases nodes.new (pair_at nodes.old
-        (pair_in side.is_turned variance own term))) }
-    ensures full { result ≢ Err EvalError.Full }
-    ensures no { result ≡ Err EvalError.NoSolution →
-        Refuses (variances_in declarations.now) (content_of nodes.old table.old.entries)
-        (pair_at nodes.old (pair_in side.is_turned variance own term) ∷ []) }
-{
-    // The nodes of a store are formed.
-    nodes.terms_are_formed();
-    match bind_along(alloc, nodes, declarations, table, side, variance, term) {
-        Err(error) => Err(error),
-        Ok(goals) => Ok(Taken::Bound(goals)),
-    }
-}
-
-/// Whether a side is an alias without escaping bound variables.
-fn is_loose(nodes: &Nodes, t: NodeId) -> bool
-    requires within { IsIn nodes.now t }
-    ensures yes { result ≡ true → IsAlias (tree_at nodes.now t) }
-    ensures no { result ≡ false → IsAlias (tree_at nodes.now t) → ⊥ }
-{
-    // The nodes of a store are formed.
-    nodes.terms_are_formed();
-    is_closed_alias(nodes.label(t), nodes.flags(t))
 }
 
 /// Takes a pair of two nodes: what has a closed alias on a side is left as a goal.

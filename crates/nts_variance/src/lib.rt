@@ -5,10 +5,13 @@
 mod along;
 mod equating;
 mod goals;
+mod heads_equal;
 mod hiding;
+mod looking;
 mod parts;
 mod rows;
 mod splitting;
+mod taking;
 mod variance;
 mod vary_walk;
 

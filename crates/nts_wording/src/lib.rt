@@ -13,6 +13,7 @@ mod printer;
 mod sentences;
 mod status;
 mod variables;
+mod words;
 
 pub use answer::{Answer, Found, answer_of};
 pub use build::{MISFIT, Terms};

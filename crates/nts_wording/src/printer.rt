@@ -1,5 +1,5 @@
 //! The text of answers.
-ghost use Rattle.std.specs.Prelude.{◌≡◌, ◌∷◌, [], ◌++◌, false, reverse, option_copied, map, slice_get, IfErr, OnOk, codes};
+ghost use Rattle.std.specs.Prelude.{◌≡◌, ◌∷◌, [], ◌++◌, false, reverse, IfErr, OnOk, codes};
 ghost use Rattle.std.specs.Io.KnownBytes.{Appends};
 ghost use Rattle.nts_wording.specs.Growing.{Begins};
 ghost use Rattle.nts_wording.specs.Statuses.{is_refusal};
@@ -7,22 +7,23 @@ ghost use Rattle.nts_model.specs.Terms.Trees.{node, children, shape, Meets, in_o
 ghost use Rattle.nts_model.specs.declared.labels.Label.TheVariants as labels;
 ghost use Rattle.nts_model.specs.declared.labels.TyHead.TheVariants as heads;
 ghost use Rattle.nts_store.specs.Growth.{IsIn, tree_at};
-ghost use Rattle.nts_text.specs.Names.{word_of_int, word_of_uint};
 ghost use Rattle.nts_wording.specs.Printing.{leaf_name, type_name, is_region_leaf, IsLeafText, IsUnnamedType, IsUnnamedRegion, IsText, same_term};
 ghost use Rattle.nts_wording.specs.Pieces.{lexicon_of, names_in, seen_by, Writes, WritesText, PutsText, Completes, Opens};
 ghost use Rattle.nts_wording.specs.declared.printer.Piece.TheVariants as piece_kinds;
 ghost use Rattle.std.specs.Map.{lookup};
 ghost use Rattle.nts_store.specs.declared.nodes.NodeId.{NodeId};
-ghost use Rattle.nts_wording.specs.Answers.{relation_word, first_of, name_by, node_of, is_variable, AreNames, bound_types, bound_regions, IsValueLine, IsFactLine, AreLines, IsAnswerPut, nothing_seen};
+ghost use Rattle.nts_wording.specs.Answers.{relation_word, first_of, name_by, is_variable, AreNames, bound_types, bound_regions, IsValueLine, IsFactLine, AreLines, IsAnswerPut, nothing_seen};
 ghost use Rattle.nts_wording.specs.declared.answer.Answer.TheVariants as answers;
 
 use crate::answer::{Answer, Found};
 use crate::output::{put, put_answer};
 use crate::status::Stop;
+use crate::words::{
+    int_name, is_region_leaf, leaf_name, relation_word, spelling, type_name, uint_name, value_at,
+};
 use indexmap::{IndexMap, IndexSet};
-use nts_model::{Constant, FreeRegion, IntTy, Label, Leaf, Relation, TyHead, UintTy, VariableKind};
+use nts_model::{Label, Leaf, TyHead};
 use nts_store::{NodeId, Nodes};
-use nts_terms::GenericArg;
 use nts_text::{NameTable, Scope};
 use nts_unify::Constraint;
 use std::alloc::{AllocError, Global};
@@ -424,105 +425,5 @@ impl Printer<'_> {
         let (number, _) = self.regions.insert_full(term)?;
         let name = format!(in self.alloc; "'_{number}")?;
         self.write(name.as_bytes())
-    }
-}
-
-/// The name of a leaf, if it has one.
-fn leaf_name<'a>(
-    known: &'a IndexMap<NodeId, Vec<u8>>,
-    scope: &'a Scope,
-    term: NodeId,
-    leaf: Leaf,
-) -> Option<&'a [u8]>
-    ensures { option_copied result ≡ leaf_name scope.now.parameters
-        (names_in known.now.entries) term leaf }
-{
-    match leaf {
-        Leaf::Variable(_, _) => match known.get(&term) {
-            Some(name) => Some(name.as_slice()),
-            None => None,
-        },
-        Leaf::TyConstant(Constant::Param(number)) => {
-            spelling(&scope.parameters.types, number as usize)
-        }
-        Leaf::TyConstant(Constant::Placeholder(_, _)) => None,
-        Leaf::ConstConstant(_) => None,
-        Leaf::Region(FreeRegion::EarlyParam(number)) => {
-            spelling(&scope.parameters.regions, number as usize)
-        }
-        Leaf::Region(FreeRegion::Static) => Some(b"'static"),
-        Leaf::Region(_) => None,
-    }
-}
-
-/// The value at this place.
-fn value_at(values: &[GenericArg], place: usize) -> Option<NodeId>
-    ensures { result ≡ node_of (slice_get values.now place) }
-{
-    Some(values.get(place)?.node)
-}
-
-/// The name with this number.
-fn spelling(names: &IndexSet<Vec<u8>>, number: usize) -> Option<&[u8]>
-    ensures { option_copied result ≡ slice_get (map (λ v. v.items) names.now.keys) number }
-{
-    match names.get_index(number) {
-        Some(name) => Some(name.as_slice()),
-        None => None,
-    }
-}
-
-fn is_region_leaf(leaf: Leaf) -> bool
-    ensures { result ≡ is_region_leaf leaf }
-{
-    matches!(
-        leaf,
-        Leaf::Region(_) | Leaf::Variable(VariableKind::Region, _)
-    )
-}
-
-/// The name of a declared type.
-fn type_name(names: &NameTable, number: usize) -> &[u8]
-    ensures { result.now ≡ type_name names.now.types.items number }
-{
-    match names.types.get(number) {
-        Some(signature) => &signature.name,
-        None => b"",
-    }
-}
-
-/// How a relation of two terms is written.
-fn relation_word(relation: Relation) -> &'static [u8]
-    ensures { result.now ≡ relation_word relation }
-{
-    match relation {
-        Relation::Equal => b" == ",
-        Relation::RegionOutlives | Relation::TypeOutlives => b": ",
-    }
-}
-
-fn int_name(int: IntTy) -> &'static [u8]
-    ensures { result.now ≡ word_of_int int }
-{
-    match int {
-        IntTy::I8 => b"i8",
-        IntTy::I16 => b"i16",
-        IntTy::I32 => b"i32",
-        IntTy::I64 => b"i64",
-        IntTy::I128 => b"i128",
-        IntTy::Isize => b"isize",
-    }
-}
-
-fn uint_name(uint: UintTy) -> &'static [u8]
-    ensures { result.now ≡ word_of_uint uint }
-{
-    match uint {
-        UintTy::U8 => b"u8",
-        UintTy::U16 => b"u16",
-        UintTy::U32 => b"u32",
-        UintTy::U64 => b"u64",
-        UintTy::U128 => b"u128",
-        UintTy::Usize => b"usize",
     }
 }
