@@ -39,7 +39,7 @@ pub record IsUnbound (f : Leaf → Leaf) (g s : Tree) : Type 0 where
   pub is : g ≡ unbound says
   pub same : by_leaves f says ≡ s
 
-not_more : (f : Leaf → Leaf) (l : Label) (c a b : Tree) → put (λ x. leaf_tree (f x)) l c ≡ more a b → ⊥
+pub not_more : (f : Leaf → Leaf) (l : Label) (c a b : Tree) → put (λ x. leaf_tree (f x)) l c ≡ more a b → ⊥
 not_more f (label.Leaf x) c a b e = absurd (cc e)
 not_more f (label.Bound s i n) c a b e = absurd (cc e)
 not_more f (label.Ty x) c a b e = absurd (cc e)

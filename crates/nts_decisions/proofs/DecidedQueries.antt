@@ -1,5 +1,5 @@
 -- A decided goal in the table of its query: handlers are asked for it, and how what they offer fares; or it says something of a region.
-use Rattle.std.proofs.Common.{◌≡◌, inl, inr, ⊎_elim, ℕ, ◌+◌, ◌≤◌, Bool, true, false, map, refl, sym, ap, subst, ◌∙◌, arith}
+use Rattle.std.proofs.Common.{◌≡◌, inl, inr, ℕ, ◌+◌, ◌≤◌, Bool, true, false, map, refl, sym, ap, subst, ◌∙◌, arith}
 use Rattle.std.specs.Prelude.{◌⊎◌, ◌||◌}
 use Rattle.nts_model.specs.declared.labels.FreeRegion.TheVariants as region
 use Rattle.nts_model.specs.declared.labels.Constant.TheVariants as constant
@@ -21,21 +21,24 @@ use Rattle.nts_model.specs.Derivations.Handlers.{Handler, Candidate, certain, Is
 use Rattle.nts_model.specs.Refutation.Opening.{binds, placeholder_in, entered_table, opened_in}
 use Rattle.nts_model.proofs.Terms.Listed.{either as two_ways}
 use Rattle.nts_model.proofs.Terms.Unpositioned.{or_false, false_or}
-use Rattle.nts_decisions.specs.Deciding.{blurred, blurred_but_static, blurred_environment, blurred_candidate, SaysOfRegion, IsPlainGoal, IsRegionGoal, IsJudged, IsJudgedGoal, OneHolds, top_level, opened_next, IsGoalDecided}
+use Rattle.nts_decisions.specs.Deciding.{blurred, blurred_but_static, blurred_environment, blurred_candidate, SaysOfRegion, IsPlainGoal, IsRegionGoal, IsJudged, IsJudgedGoal, IsOwnWayGoal, CandidateIs, OneHolds, top_level, opened_next, IsGoalDecided}
 use Rattle.nts_decisions.proofs.BlurredWorlds.{merged_leaf}
-use Rattle.nts_decisions.proofs.Deciding.{DecidedBy, decided_by}
+use Rattle.nts_decisions.proofs.Deciding.{DecidedBy, DecidedByWay, DecidedAs, as_offered, as_of_region, as_judged, as_its_way, decided_by}
+use Rattle.nts_decisions.proofs.OwnWays.{way_sure}
+use Rattle.nts_decisions.proofs.OwnWaysHere.{way_constants}
+use Rattle.nts_theory.specs.Affirming.{IsOwnWay}
 use Rattle.nts_decisions.proofs.DecidingRenamed.{labels_renamed}
 use Rattle.nts_decisions.proofs.Reopening.{binding}
 use Rattle.nts_decisions.proofs.DecidedOpening.{as_leaves, opened_so}
 use Rattle.nts_model.proofs.Terms.Substituting.{replace-equal}
 use Rattle.nts_decisions.proofs.ConstantGoals.{no_variables, top_below, opened_constants, candidate_constants, candidate_names}
-use Rattle.nts_decisions.proofs.Faring.{among_by, IsConstantEnvironment, IsConstantCandidate, all_fare}
+use Rattle.nts_decisions.proofs.Faring.{among_by, IsConstantEnvironment, IsConstantCandidate, candidate_fares, all_fare}
 use Rattle.nts_decisions.proofs.RootedInputs.{static_leaf, static_is}
 use Rattle.nts_decisions.proofs.AskedGoals.{by_leaves, closed_raw, unbound_raw, statements_raw, asked_raw}
 use Rattle.nts_decisions.proofs.OpenedStatements.{region_blurred, says_outlives}
 use Rattle.nts_theory.specs.Outliving.{IsOutlives}
 use Rattle.nts_decisions.specs.Queries.{AreConstants, IsNamedConstant}
-use Rattle.nts_decisions.specs.Faring.{OneFares}
+use Rattle.nts_decisions.specs.Faring.{Fares, OneFares}
 
 as_static : (t : Tree) → blurred_environment t ≡ by_leaves static_leaf t
 as_static t = replace-equal blurred_but_static (λ l. leaf_tree (static_leaf l)) static_is t
@@ -146,6 +149,11 @@ pub record IsOfTermsOpened (e o : Tree) : Type 0 where
   pub no_positions : any_label is_canonical (pair e o) ≡ false
   pub well_bound : IsWellBound (pair e o)
 
+stated_constants : (u : ℕ) (e s : Tree) → AreConstants u (pair e (unbound s)) → AreConstants u (pair e s)
+stated_constants u e s h l (inl o) = h l (inl o)
+stated_constants u e s h l (inr (inl o)) = h l (inr (inl (inr (inr (inl o)))))
+stated_constants u e s h l (inr (inr o)) = absurd o
+
 -- a plain goal, with its regions, is one that handlers are asked
 module _ (e o : Tree) (t : IsOfTermsOpened e o) (p : IsPlainGoal (blurred_environment e) (blurred o)) where
   pub is_asked : IsAsked e o
@@ -217,9 +225,23 @@ judged_here h e o b t y =
       statements = statements_raw static_leaf e t.environment_formed (subst HasClosedStatements (as_static e) y.statements);
     }
 
--- what handlers are not asked: that is of a region, or as they judge
-abbrev pub IsUnofferedHere : Handler → Tree → Tree → Bool → Type 0
-IsUnofferedHere h e o b = IsRegionHere e o b ⊎ IsJudgedHere h e o b
+-- a goal that may hold in one way alone, with its regions, and how that way fares
+pub record IsWayHere (h : Handler) (mode : Mode) (n : ℕ) (c : Content) (e o : Tree) (b : Bool) : Type 0 where
+  pub statement : Tree
+  pub is : o ≡ unbound statement
+  pub way : Candidate
+  pub own : IsOwnWay h.judges e statement way
+  pub fares : Fares h mode n c way b
+  pub sure : way.certainty ≡ certain
+  pub formed : IsFormed statement
+  pub closed : IsClosed statement
+  pub environment : IsClosed e
+  pub statements : HasClosedStatements e
+  pub no_alias : any_label is_alias (pair e o) ≡ false
+
+-- what handlers are not asked: that is of a region, or as they judge, or has one way
+abbrev pub IsUnofferedHere : Handler → Mode → ℕ → Content → Tree → Tree → Bool → Type 0
+IsUnofferedHere h mode n c e o b = IsRegionHere e o b ⊎ (IsJudgedHere h e o b ⊎ IsWayHere h mode n c e o b)
 
 -- how what is offered fares
 pub record IsDecidedHere (h : Handler) (mode : Mode) (n : ℕ) (c : Content) (e o : Tree) (b : Bool) : Type 0 where
@@ -255,11 +277,48 @@ module _ (h : Handler) (law : IsLawfulHandler h) (mode : Mode) (n : ℕ) (c : Co
         sure = λ y i. v.sure (blurred_candidate y) (subst (λ z. Among z (blurred_candidate y)) offers (among_by blurred_candidate (h.offers mode e (opened_in c g)) y i));
       }
 
-  -- by candidates, or by what it says of a region, or as the handler judges
-  pub decided_here : IsDecidedHere h mode n (entered_table c g) e (opened_in c g) b ⊎ IsUnofferedHere h e (opened_in c g) b
-  decided_here =
-      ⊎_elim (λ x. inl (by_offers x))
-      (λ w. inr (⊎_elim
-      (λ y. inl (record { says = region_here e (opened_in c g) t (subst (IsRegionGoal (blurred_environment e)) (sym opened_same) y.region); yes = y.yes }))
-      (λ y. inr (judged_here h e (opened_in c g) b t (subst (λ z. IsJudgedGoal h (blurred_environment e) z b) (sym opened_same) y.judged))) w))
-      (decided_by h mode (blurred_environment e) (blurred g) n b d)
+  named : AreConstants (entered_table c g).universe (pair e (opened_in c g))
+  named = opened_named c e g constants
+
+  env : IsConstantEnvironment e
+  env = record { variables = no_variables (entered_table c g).universe e (first_of (entered_table c g).universe e (opened_in c g) named); positions = (or_false (any_label is_canonical e) (any_label is_canonical (opened_in c g) || false) t.no_positions).0 }
+
+  by_way : DecidedByWay h mode (blurred_environment e) n (blurred g) b → IsWayHere h mode n (entered_table c g) e (opened_in c g) b
+  by_way x =
+      let o : Tree = opened_in c g in
+      let y : IsOwnWayGoal h (blurred_environment e) (blurred o) x.candidate = subst (λ z. IsOwnWayGoal h (blurred_environment e) z x.candidate) (sym opened_same) x.has_way in
+      let u = unbound_raw merged_leaf o y.statement (sym (as_leaves o) ∙ y.binds_nothing) in
+      let one : IsFormed (unbound u.says) = subst IsFormed u.is t.formed in
+      let formed : IsFormed u.says = one.1.1.0 in
+      let k = y.closed in
+      let inner : IsClosed (by_leaves merged_leaf u.says) = subst IsClosed (sym u.same) k.1.0 in
+      let w = y.alike e u.says (t.environment_formed, (formed, tt)) refl (as_leaves u.says ∙ u.same) in
+      let said : AreConstants (entered_table c g).universe (pair e (unbound u.says)) = subst (λ z. AreConstants (entered_table c g).universe (pair e z)) u.is named in
+      let states : AreConstants (entered_table c g).universe (pair e u.says) = stated_constants (entered_table c g).universe e u.says said in
+      let q = or_false (any_label is_alias (blurred_environment e)) (any_label is_alias (blurred o) || false) y.no_alias in
+      let r = or_false (any_label is_alias (blurred o)) false q.1 in
+      record {
+        statement = u.says;
+        is = u.is;
+        way = w.way;
+        own = w.is_way;
+        fares = candidate_fares h mode e env (entered_table c g) sound solvable n w.way n b (way_constants h law.judges (entered_table c g) e u.says w.way states (t.environment_formed, (formed, tt)) w.is_way) (omega arith)
+            (subst (λ z. CandidateIs h mode (blurred_environment e) n z b) (sym w.same) x.holds);
+        sure = way_sure h.judges e u.says w.way w.is_way;
+        formed = formed;
+        closed = closed_raw merged_leaf 0 u.says formed inner;
+        environment = closed_raw static_leaf 0 e t.environment_formed (subst IsClosed (as_static e) k.0);
+        statements = statements_raw static_leaf e t.environment_formed (subst HasClosedStatements (as_static e) y.statements);
+        no_alias = false_or (any_label is_alias e) (any_label is_alias o || false) (sym (ap (any_label is_alias) (as_static e) ∙ alias_by static_leaf e t.environment_formed) ∙ q.0)
+            (false_or (any_label is_alias o) false (sym (ap (any_label is_alias) (as_leaves o) ∙ alias_by merged_leaf o t.formed) ∙ r.0) refl);
+      }
+
+  -- by candidates, or by what it says of a region, or as the handler judges, or by its one way
+  pub decided_here : IsDecidedHere h mode n (entered_table c g) e (opened_in c g) b ⊎ IsUnofferedHere h mode n (entered_table c g) e (opened_in c g) b
+  decided_here = go (decided_by h mode (blurred_environment e) (blurred g) n b d)
+    where
+      go : DecidedAs h mode (blurred_environment e) n (blurred g) b → IsDecidedHere h mode n (entered_table c g) e (opened_in c g) b ⊎ IsUnofferedHere h mode n (entered_table c g) e (opened_in c g) b
+      go (as_offered x) = inl (by_offers x)
+      go (as_of_region y) = inr (inl (record { says = region_here e (opened_in c g) t (subst (IsRegionGoal (blurred_environment e)) (sym opened_same) y.region); yes = y.yes }))
+      go (as_judged y) = inr (inr (inl (judged_here h e (opened_in c g) b t (subst (λ z. IsJudgedGoal h (blurred_environment e) z b) (sym opened_same) y.judged))))
+      go (as_its_way y) = inr (inr (inr (by_way y)))

@@ -24,8 +24,8 @@ use Rattle.nts_model.specs.Derivations.Sequents.{Premise}
 use Rattle.nts_model.specs.Derivations.Rules.{Mode, Equation, related, alike, IsHandlers}
 use Rattle.nts_model.specs.Derivations.Handlers.{Handler, Candidate, equation_by, premise_by, AreValuesOf, kind_of_sort, renamed_candidate, IsAsked, Judgements, JudgementsAreKept, IsLawfulHandler}
 use Rattle.nts_model.specs.Refutation.Choosing.{left_of, right_of}
-use Rattle.nts_decisions.specs.Deciding.{blurred_leaf, blurred_but_static, blurred, blurred_environment, blurred_premise, blurred_candidate, MeetsBlurred, FixesGoals, IsDecidable, SaysOfRegion, IsPlainGoal, IsRegionGoal, IsJudged, IsJudgedGoal, IsFormedCandidate, IsUniform, opened_next, IsDecided, by_candidates, by_region, by_judgement, OneHolds, none_left, then_fails, then_holds, CandidateIs, is_unmet, is_met, GoalsAre, all_yes, one_yes, one_no}
-use Rattle.nts_theory.specs.Affirming.{evaluatable, IsAffirmed, feature_allowed, has_objects, named_const, value_const, error_const, error_type, evaluated_const}
+use Rattle.nts_decisions.specs.Deciding.{blurred_leaf, blurred_but_static, blurred, blurred_environment, blurred_premise, blurred_candidate, MeetsBlurred, FixesGoals, IsDecidable, SaysOfRegion, IsPlainGoal, IsRegionGoal, IsJudged, IsJudgedGoal, IsFormedCandidate, IsUniform, opened_next, IsDecided, by_candidates, by_region, by_judgement, OneHolds, none_left, then_fails, then_holds, CandidateIs, is_unmet, is_met, GoalsAre, all_yes, one_yes, one_no, by_own_way, HasWayAs, IsOwnWayGoal}
+use Rattle.nts_theory.specs.Affirming.{evaluatable, IsAffirmed, feature_allowed, has_objects, named_const, value_const, error_const, error_type, evaluated_const, by_type, by_goals, plain_way, goals_there, is_well_formed, IsOwnWay}
 use Rattle.nts_model.proofs.Terms.Substituting.{replace-replace, replace-equal, replace-leaf, leaf_alone}
 use Rattle.nts_model.proofs.Terms.Composing.{IsFormed-instance, IsClosed-instance, Fits-instance, leaf_tree-inj as one_leaf}
 use Rattle.nts_theory.proofs.Derivations.ClosedStatements.{closed_statements_instance}
@@ -358,6 +358,52 @@ formed_renamed ρ p x f =
           subst (λ z. IsFormed z.predicate) (sym r.same) (IsFormed-instance (by_renaming ρ p) (let y = r.of in y.predicate) (f.goals r.of r.found)));
     }
 
+-- the one way of a goal
+goals_there_renamed : (ρ : Renaming) (e : Tree) (ps : List Tree) → map (premise_by (rename ρ)) (goals_there e ps) ≡ goals_there (rename ρ e) (map (rename ρ) ps)
+goals_there_renamed ρ e [] = refl
+goals_there_renamed ρ e (q ∷ qs) = rw (goals_there_renamed ρ e qs) refl
+
+way_renamed : (h : Handler) → JudgementsAreKept h → (ρ : Renaming) → IsPlain ρ → (e s : Tree) (y : Candidate) → IsFormed (pair e s) → IsOwnWay h.judges e s y → IsOwnWay h.judges (rename ρ e) (rename ρ s) (renamed_candidate ρ y)
+way_renamed h law ρ p e s y k by_type = by_type
+way_renamed h law ρ p e s y k (by_goals {t = t} {ps = ps} q) =
+    subst (λ z. IsOwnWay h.judges (rename ρ e) (is_well_formed (rename ρ t)) (plain_way [] z)) (sym (goals_there_renamed ρ e ps))
+    (by_goals (law.well_formed e t ps (by_renaming ρ p) (k.0, (k.1.0.1.0, tt)) q))
+
+way_as_renamed : (h : Handler) → JudgementsAreKept h → (ρ : Renaming) → IsPlain ρ → (e s : Tree) (x : Candidate) → IsFormed (pair e s) → HasWayAs h.judges e s x → HasWayAs h.judges (rename ρ e) (rename ρ s) (renamed_candidate ρ x)
+way_as_renamed h law ρ p e s x k w =
+    record {
+      way = renamed_candidate ρ w.way;
+      is_way = way_renamed h law ρ p e s w.way k w.is_way;
+      same = candidate_renamed ρ p w.way ∙ ap (renamed_candidate ρ) w.same;
+    }
+
+own_way_renamed : (h : Handler) → JudgementsAreKept h → (ρ : Renaming) → IsPlain ρ → (e g : Tree) (x : Candidate) → IsOwnWayGoal h e g x → IsOwnWayGoal h (rename ρ e) (rename ρ g) (renamed_candidate ρ x)
+own_way_renamed h law ρ p e g x y =
+    let whole : IsFormed (pair e (unbound y.statement)) = subst (λ z. IsFormed (pair e z)) y.binds_nothing y.formed in
+    let fs : IsFormed y.statement = whole.1.0.1.1.0 in
+    record {
+      statement = rename ρ y.statement;
+      binds_nothing = ap (rename ρ) y.binds_nothing;
+      alike = λ f s k ee es.
+          (let f1 : Tree = rename (inverse ρ) f in
+          let s1 : Tree = rename (inverse ρ) s in
+          let p1 : IsPlain (inverse ρ) = inverse_plain ρ p in
+          let k1 : IsFormed (pair f1 s1) = IsFormed-instance (by_renaming (inverse ρ) p1) (pair f s) k in
+          let ef : blurred_environment f1 ≡ e = environment_renamed (inverse ρ) p1 f ∙ ap (rename (inverse ρ)) ee ∙ rename_back ρ e whole.0 in
+          let eq : blurred s1 ≡ y.statement = blurred_renamed (inverse ρ) p1 s ∙ ap (rename (inverse ρ)) es ∙ rename_back ρ y.statement fs in
+          let bf : rename ρ f1 ≡ f = rename_forth ρ f k.0 in
+          let bs : rename ρ s1 ≡ s = rename_forth ρ s (k.1.0) in
+          subst (λ z. HasWayAs h.judges z s (renamed_candidate ρ x)) bf (subst (λ z. HasWayAs h.judges (rename ρ f1) z (renamed_candidate ρ x)) bs (way_as_renamed h law ρ p f1 s1 x k1 (y.alike f1 s1 k1 ef eq))));
+      way = formed_renamed ρ p x y.way;
+      formed = IsFormed-instance (by_renaming ρ p) (pair e g) y.formed;
+      closed = IsClosed-instance (by_renaming ρ p) (pair e y.statement) y.closed;
+      statements = closed_statements_instance (by_renaming ρ p) e whole.0 y.statements;
+      no_alias = labels_renamed is_alias ρ.to (λ l. refl) (pair e g) y.formed ∙ y.no_alias;
+      no_infer = labels_renamed is_infer ρ.to (infer_kept ρ) (pair e g) y.formed ∙ y.no_infer;
+      blurred_environment = environment_renamed ρ p e ∙ ap (rename ρ) y.blurred_environment;
+      blurred = blurred_renamed ρ p y.statement ∙ ap (rename ρ) y.blurred;
+    }
+
 pub uniform_renamed : (h : Handler) → IsLawfulHandler h → (mode : Mode) (ρ : Renaming) → IsPlain ρ → (e g : Tree) (xs : List Candidate) → IsFormed e → IsFormed g → IsUniform h mode e g xs
     → IsUniform h mode (rename ρ e) (rename ρ g) (map (renamed_candidate ρ) xs)
 uniform_renamed h law mode ρ p e g xs fe fg u =
@@ -477,6 +523,12 @@ module _ (h : Handler) (law : IsLawfulHandler h) (mode : Mode) (e : Tree) (reope
     decided_renamed ρ p n g b (by_judgement y) =
         let r = reopens ρ p g in
         by_judgement (subst (λ z. IsJudgedGoal h z (opened_next (rename ρ e) (rename ρ g)) b) r.environment (subst (λ z. IsJudgedGoal h (rename r.to e) z b) r.opened (judged_renamed h law.judges r.to r.plain e (opened_next e g) b y)))
+    decided_renamed ρ p n g b (by_own_way x y c) =
+        let r = reopens ρ p g in
+        let w : IsOwnWayGoal h (rename r.to e) (rename r.to (opened_next e g)) (renamed_candidate r.to x) = own_way_renamed h law.judges r.to r.plain e (opened_next e g) x y in
+        by_own_way (renamed_candidate r.to x)
+        (subst (λ z. IsOwnWayGoal h z (opened_next (rename ρ e) (rename ρ g)) (renamed_candidate r.to x)) r.environment (subst (λ z. IsOwnWayGoal h (rename r.to e) z (renamed_candidate r.to x)) r.opened w))
+        (subst (λ z. CandidateIs h mode z n (renamed_candidate r.to x) b) r.environment (candidate_is_renamed r.to r.plain n x b y.way c))
 
     holds_renamed : (ρ : Renaming) → IsPlain ρ → (n : ℕ) (xs : List Candidate) (b : Bool) → ((x : Candidate) → Among xs x → IsFormedCandidate x) → OneHolds h mode e n xs b → OneHolds h mode (rename ρ e) n (map (renamed_candidate ρ) xs) b
     holds_renamed ρ p n xs b f none_left = none_left

@@ -172,7 +172,7 @@ module _ (h : Handler) (mode : Mode) (e : Tree) (env : IsConstantEnvironment e) 
         formed = subst (λ z. IsFormed (deeply_resolved met z.predicate)) (sym r.same) (here.formed r.of r.found);
       }
 
-  candidate_fares : (x : Candidate) (m : ℕ) (b : Bool) → IsConstantCandidate c e x → m ≤ n → CandidateIs h mode (blurred_environment e) m (blurred_candidate x) b → Fares h mode n c x b
+  pub candidate_fares : (x : Candidate) (m : ℕ) (b : Bool) → IsConstantCandidate c e x → m ≤ n → CandidateIs h mode (blurred_environment e) m (blurred_candidate x) b → Fares h mode n c x b
   candidate_fares x m b k l (is_unmet u) = no_world (λ w. u w.values (meets_blurred x w.values (met_meets c x k.constants w)))
   candidate_fares x m b k l (is_met vs i f gs) =
       by_goals (meets_met c x vs sound solvable k.constants k.names (meets_raw x vs i)) (λ chosen met here. record { decided = goals_fare x k vs (meets_raw x vs i) (fixes_raw x f) chosen met here x.goals m b (λ p j. j) l gs; each = λ p j. of_table x k chosen met here p j })

@@ -30,6 +30,8 @@ pub mod OnlyFacts
 pub mod OpenedStatements
 pub mod OwnAnswers
 pub mod OwnResponses
+pub mod OwnWays
+pub mod OwnWaysHere
 pub mod RelatedRegions
 pub mod Reopening
 pub mod RootedInputs

@@ -6,8 +6,8 @@ use Rattle.nts_model.specs.Derivations.Sequents.{impl_where_bound, Premise}
 use Rattle.nts_model.specs.Derivations.Rules.{coherence}
 use Rattle.nts_model.specs.Terms.Substitutions.{filled}
 use Rattle.nts_model.specs.Derivations.Handlers.{Handler, never_leaks, never_at_once, no_judgements, Candidate, certain, never}
-use Rattle.nts_decisions.specs.Deciding.{blurred, blurred_candidate, blurred_premise, MeetsBlurred, IsPlainGoal, IsRegionGoal, IsUniform, opened_next, IsDecided, by_candidates, by_region, by_judgement, IsJudgedGoal, OneHolds, none_left, then_fails, then_holds, CandidateIs, is_unmet, is_met, GoalsAre, all_yes, one_yes, one_no}
-use Rattle.nts_decisions.proofs.Deciding.{plain_or_region, plain_or_judged}
+use Rattle.nts_decisions.specs.Deciding.{blurred, blurred_candidate, blurred_premise, MeetsBlurred, IsPlainGoal, IsRegionGoal, IsUniform, opened_next, IsDecided, by_candidates, by_region, by_judgement, by_own_way, IsJudgedGoal, IsOwnWayGoal, OneHolds, none_left, then_fails, then_holds, CandidateIs, is_unmet, is_met, GoalsAre, all_yes, one_yes, one_no}
+use Rattle.nts_decisions.proofs.Deciding.{plain_or_region, plain_or_judged, plain_or_way}
 use Rattle.nts_decisions.proofs.DecidingExamples.{list_goal, plain}
 use Rattle.nts_theory.proofs.Examples.InputExamples.{no_clauses as nowhere}
 
@@ -38,6 +38,7 @@ mutual
   undecided g n b q (by_candidates xs p u o) = none_holds xs n b (sym (only xs (plain 0) (subst (λ z. IsUniform one_circle coherence nowhere (opened_next nowhere z) xs) q u))) o
   undecided g n b q (by_region y) = plain_or_region nowhere (list_goal 0) (plain 0) (subst (λ z. IsRegionGoal nowhere (opened_next nowhere z)) q y)
   undecided g n b q (by_judgement y) = plain_or_judged one_circle nowhere (list_goal 0) b (plain 0) (subst (λ z. IsJudgedGoal one_circle nowhere (opened_next nowhere z) b) q y)
+  undecided g n b q (by_own_way x y c) = plain_or_way one_circle nowhere (list_goal 0) x (plain 0) (subst (λ z. IsOwnWayGoal one_circle nowhere (opened_next nowhere z) x) q y)
 
   none_holds : (xs : List Candidate) (n : ℕ) (b : Bool) → xs ≡ blurred_candidate by_itself ∷ [] → OneHolds one_circle coherence nowhere n xs b → ⊥
   none_holds xs n b q none_left = absurd (cc q)

@@ -16,7 +16,7 @@ use Rattle.nts_model.specs.Derivations.Handlers.{Handler, Candidate, Judgements,
 use Rattle.nts_model.specs.Refutation.Choosing.{left_of, right_of}
 use Rattle.nts_model.specs.Refutation.Opening.{binds, placeholder_in}
 use Rattle.nts_model.specs.Terms.Placeholders.{leaf_level}
-use Rattle.nts_theory.specs.Affirming.{IsAffirmed, IsDenied}
+use Rattle.nts_theory.specs.Affirming.{IsAffirmed, IsDenied, IsOwnWay}
 
 -- free regions and region variables made one; in an environment 'static is left
 abbrev pub blurred_leaf : Leaf → Tree
@@ -105,6 +105,27 @@ pub record IsFormedCandidate (x : Candidate) : Type 0 where
   pub equations : (q : Equation) → Among x.equations q → IsFormed (left_of q) × IsFormed (right_of q)
   pub goals : (p : Premise) → Among x.goals p → IsFormed p.predicate
 
+-- the one way in which a statement may hold by the engine is this candidate but for regions
+pub record HasWayAs (j : Judgements) (e s : Tree) (x : Candidate) : Type 0 where
+  pub way : Candidate
+  pub is_way : IsOwnWay j e s way
+  pub same : blurred_candidate way ≡ x
+
+-- a goal, of terms without aliases and without variables of types, numbers and consts, that may hold in one way alone, as may all
+-- statements that are its own but for regions
+pub record IsOwnWayGoal (h : Handler) (e g : Tree) (x : Candidate) : Type 0 where
+  pub statement : Tree
+  pub binds_nothing : g ≡ unbound statement
+  pub alike : (f s : Tree) → IsFormed (pair f s) → blurred_environment f ≡ e → blurred s ≡ statement → HasWayAs h.judges f s x
+  pub way : IsFormedCandidate x
+  pub formed : IsFormed (pair e g)
+  pub closed : IsClosed (pair e statement)
+  pub statements : HasClosedStatements e
+  pub no_alias : any_label is_alias (pair e g) ≡ false
+  pub no_infer : any_label is_infer (pair e g) ≡ false
+  pub blurred_environment : blurred_environment e ≡ e
+  pub blurred : blurred statement ≡ statement
+
 -- the handler answers all goals that are these but for regions with these candidates but for regions
 pub record IsUniform (h : Handler) (mode : Mode) (e g : Tree) (xs : List Candidate) : Type 0 where
   pub alike : (f p : Tree) → IsAsked f p → blurred_environment f ≡ e → blurred p ≡ g → map blurred_candidate (h.offers mode f p) ≡ xs
@@ -133,6 +154,7 @@ mutual
         → OneHolds h mode e n xs b → IsDecided h mode e n g b
     by_region : {g : Tree} → IsRegionGoal e (opened_next e g) → IsDecided h mode e 0 g true
     by_judgement : {g : Tree} {b : Bool} → IsJudgedGoal h e (opened_next e g) b → IsDecided h mode e 0 g b
+    by_own_way : {n : ℕ} {g : Tree} {b : Bool} (x : Candidate) → IsOwnWayGoal h e (opened_next e g) x → CandidateIs h mode e n x b → IsDecided h mode e n g b
 
   -- all candidates fail but one, which holds; or all fail
   pub data OneHolds (h : Handler) (mode : Mode) (e : Tree) : ℕ → List Candidate → Bool → Type 0 where

@@ -1,7 +1,8 @@
 -- A decided goal in the table of its query: it is opened, handlers are asked for it, and what they offer fares as it is decided; or
--- it says something of a region, or is as the handler judges.
+-- it says something of a region, or is as the handler judges, or its one way fares so.
 use Rattle.std.proofs.Common.{◌≡◌, ◌⊎◌, inl, inr, ⊎_elim, ℕ, Bool, true, false, List, [], ◌∷◌, ◌++◌, refl, sym, ap, subst, ◌∙◌, arith}
-use Rattle.nts_model.specs.Terms.Trees.{Tree, node, any_label, is_canonical, IsFormed}
+use Rattle.std.specs.Prelude.{◌||◌}
+use Rattle.nts_model.specs.Terms.Trees.{Tree, node, any_label, is_alias, is_canonical, IsFormed}
 use Rattle.nts_model.specs.Terms.Scoping.{IsWellBound}
 use Rattle.nts_model.specs.Tables.Resolving.{IsSound}
 use Rattle.nts_model.specs.Tables.Solvable.{IsSolvable}
@@ -11,16 +12,16 @@ use Rattle.nts_model.specs.Derivations.Related.{Constraint, pair, unbound}
 use Rattle.nts_model.specs.Derivations.Rules.{Mode, statement_of}
 use Rattle.nts_model.specs.Derivations.Handlers.{Handler, Judgements, Candidate, certain, IsLawfulHandler}
 use Rattle.nts_model.specs.Refutation.Opening.{opened_in}
-use Rattle.nts_model.proofs.Terms.Unpositioned.{known_no_positions, known_well_bound, pair_no_positions}
+use Rattle.nts_model.proofs.Terms.Unpositioned.{known_no_positions, known_well_bound, pair_no_positions, or_false}
 use Rattle.nts_decisions.specs.Deciding.{blurred, blurred_environment, top_level, IsGoalDecided}
 use Rattle.nts_decisions.specs.Queries.{AreConstants}
 use Rattle.nts_decisions.specs.Faring.{OneFares}
 use Rattle.nts_decisions.proofs.Faring.{LastFares, last_fails, last_holds, last_of, with_failed, with_held, never_held}
-use Rattle.nts_decisions.proofs.DecidedQueries.{IsOfTermsOpened, SaysOutlivesHere, IsDecidedHere, IsRegionHere, IsJudgedHere, IsUnofferedHere, decided_here, is_asked, no_alias, top_blurred}
+use Rattle.nts_decisions.proofs.DecidedQueries.{IsOfTermsOpened, SaysOutlivesHere, IsDecidedHere, IsRegionHere, IsJudgedHere, IsWayHere, IsUnofferedHere, decided_here, is_asked, no_alias, top_blurred}
 use Rattle.nts_decisions.proofs.OpenedStatements.{plain_statement, trait_is_plain, trait_outlives_nothing, trait_not_affirmed, trait_not_denied, region_of, decided_is_closed}
 use Rattle.nts_decisions.specs.Deciding.{SaysOfRegion, IsJudged}
 use Rattle.nts_theory.specs.Telling.{IsTraitStatement}
-use Rattle.nts_theory.specs.Affirming.{IsAffirmed, feature_allowed, has_objects, named_const, value_const, error_const, error_type, evaluated_const, IsDenied}
+use Rattle.nts_theory.specs.Affirming.{IsAffirmed, feature_allowed, has_objects, named_const, value_const, error_const, error_type, evaluated_const, by_type, by_goals, IsDenied, IsOwnWay, HasOwnWay}
 use Rattle.nts_theory.specs.Outliving.{IsOutlives}
 use Rattle.nts_model.specs.declared.labels.ClauseHead.TheVariants as clause
 use Rattle.nts_model.specs.declared.labels.Label.TheVariants as label
@@ -46,7 +47,8 @@ use Rattle.nts_terms.specs.declared.modes.TypingMode.{TypingMode}
 use Rattle.nts_terms.specs.Modes.{mode_of}
 use Rattle.nts_candidates.specs.declared.data.CandidateData.{CandidateData}
 use Rattle.nts_candidates.specs.Offered.{candidates_of}
-use Rattle.nts_evaluation.specs.Deciding.{SaysJudged, IsRootQuery, CandidatesSettled}
+use Rattle.nts_decisions.proofs.OwnWays.{says_way, way_says}
+use Rattle.nts_evaluation.specs.Deciding.{SaysJudged, IsOwnSettled, IsRootQuery, CandidatesSettled}
 use Rattle.nts_evaluation.proofs.DecidedTrials.{formed_before}
 
 -- what a handler left out is decided no, so the others fare as all do
@@ -109,7 +111,7 @@ module _ (h : Handler) (law : IsLawfulHandler h) (mode : Mode) (n : ℕ) (k : Bo
     entered : IsTable b u
     entered = there.table
 
-    pub opened_decided : IsDecidedHere h mode n (content_of b u.entries) (tree_at b o.param_env.node) (tree_at b o.predicate.node) k ⊎ IsUnofferedHere h (tree_at b o.param_env.node) (tree_at b o.predicate.node) k
+    pub opened_decided : IsDecidedHere h mode n (content_of b u.entries) (tree_at b o.param_env.node) (tree_at b o.predicate.node) k ⊎ IsUnofferedHere h mode n (content_of b u.entries) (tree_at b o.param_env.node) (tree_at b o.predicate.node) k
     opened_decided =
         let now = entered.now in
         let proper = now.proper in
@@ -126,7 +128,7 @@ module _ (h : Handler) (law : IsLawfulHandler h) (mode : Mode) (n : ℕ) (k : Bo
           plain = λ is_coinductive. trait_is_plain is_coinductive _ statement;
         }
 
-    pub is_asked_here : IsAskedGoal b o ⊎ IsUnofferedHere h (tree_at b o.param_env.node) (tree_at b o.predicate.node) k
+    pub is_asked_here : IsAskedGoal b o ⊎ IsUnofferedHere h mode n (content_of b u.entries) (tree_at b o.param_env.node) (tree_at b o.predicate.node) k
     is_asked_here = ⊎_elim (λ x. inl (asked_by x)) (λ y. inr y) opened_decided
 
 -- a goal that says something of a region is one of the store that does, and of no other kind
@@ -189,9 +191,47 @@ judged_not_region {h} {e} {o} {k} x is y =
     no_region_own y.statement (judged_own h.judges e y.statement k y.judged)
     (subst SaysOfRegion (one_statement is.statement y.statement (sym is.binds_nothing ∙ y.is)) (region_of is.statement x is.says))
 
+-- what has one way is of the engine's own kinds, and no other kind
+trait_no_way : (s : Tree) → IsTraitStatement s → says_way s → ⊥
+trait_no_way (node (label.Clause (clause.Trait i)) ts) t w = w
+trait_no_way (node (label.Clause (clause.HostEffect i)) ts) t w = w
+trait_no_way s t w = absurd t
+
+module _ {h : Handler} {mode : Mode} {n : ℕ} {c : Content} {e o : Tree} {k : Bool} (y : IsWayHere h mode n c e o k) where
+  way_own : (j : Judgements) (s : Tree) (x : Candidate) → IsOwnWay j e s x → IsOwnStatement s
+  way_own j s x by_type = tt
+  way_own j s x (by_goals q) = tt
+
+  own_statement : IsOwnStatement y.statement
+  own_statement = way_own h.judges y.statement y.way y.own
+
+  pub way_states_own : StatesOwn e o
+  way_states_own = record { statement = y.statement; binds_nothing = y.is; own = own_statement; closed = y.closed; environment = record { closed = y.environment; statements = y.statements } }
+
+  pub way_not_region : (x : Constraint) → IsOutlives o x → ⊥
+  way_not_region x is = no_region_own y.statement own_statement (subst SaysOfRegion (one_statement is.statement y.statement (sym is.binds_nothing ∙ y.is)) (region_of is.statement x is.says))
+
+  pub way_not_trait : IsTraitStatement (statement_of o) → ⊥
+  way_not_trait t = trait_no_way (statement_of o) t (subst (λ z. says_way (statement_of z)) (sym y.is) (way_says h.judges e y.statement y.way y.own))
+
+  pub way_here : HasOwnWay h.judges e o y.way
+  way_here = record { statement = y.statement; binds_nothing = y.is; way = y.own; formed = y.formed; closed = y.closed }
+
 -- what handlers are asked is decided by what they offer
-pub by_offers : {h : Handler} {ts : List Tree} {o : Goal} {k : Bool} {D : Type 0} → IsAskedGoal ts o → D ⊎ IsUnofferedHere h (tree_at ts o.param_env.node) (tree_at ts o.predicate.node) k → D
-by_offers asked w = ⊎_elim (λ x. x) (λ y. absurd (⊎_elim (λ z. region_not_asked asked z.says) (λ z. judged_not_asked asked z) y)) w
+pub by_offers : {h : Handler} {mode : Mode} {n : ℕ} {c : Content} {ts : List Tree} {o : Goal} {k : Bool} {D : Type 0} → IsAskedGoal ts o → D ⊎ IsUnofferedHere h mode n c (tree_at ts o.param_env.node) (tree_at ts o.predicate.node) k → D
+by_offers asked w = ⊎_elim (λ x. x) (λ y. absurd (⊎_elim (λ z. region_not_asked asked z.says) (λ v. ⊎_elim (λ z. judged_not_asked asked z) (λ z. way_not_trait z (let s = asked.trait_goal in s.statement)) v) y)) w
+
+-- what the engine answers by itself is settled
+pub own_settled : {h : Handler} {mode : TypingMode} {n : ℕ} {ts : List Tree} {t : Table} {o : Goal} {k : Bool} → IsJudgedHere h (tree_at ts o.param_env.node) (tree_at ts o.predicate.node) k ⊎ IsWayHere h (mode_of mode) n (content_of ts t.entries) (tree_at ts o.param_env.node) (tree_at ts o.predicate.node) k → IsOwnSettled h mode n ts t o k
+own_settled {h} {mode} {n} {ts} {t} {o} {k} (inl y) = inl (says_judged h (tree_at ts o.param_env.node) (tree_at ts o.predicate.node) k y)
+own_settled {h} {mode} {n} {ts} {t} {o} {k} (inr y) =
+    inr (record {
+      way = y.way;
+      has_way = way_here y;
+      no_alias = (or_false (any_label is_alias (tree_at ts o.predicate.node)) false (or_false (any_label is_alias (tree_at ts o.param_env.node)) (any_label is_alias (tree_at ts o.predicate.node) || false) y.no_alias).1).0;
+      fares = y.fares;
+      sure = y.sure;
+    })
 
 -- so the candidates that are kept are settled, in a store that has grown
 pub kept_settled : (h : Handler) (mode : TypingMode) (n : ℕ) (k : Bool) (b : List Tree) {r : List Tree} {u : Table} (o : Goal) (xs : List CandidateData) → content_of r u.entries ≡ content_of b u.entries → tree_at r o.param_env.node ≡ tree_at b o.param_env.node → tree_at r o.predicate.node ≡ tree_at b o.predicate.node

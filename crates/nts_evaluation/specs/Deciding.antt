@@ -1,12 +1,12 @@
 -- What the calls of an evaluation promise of goals that are decided: each is answered as it is decided.
-use Rattle.std.specs.Prelude.{◌≡◌, ℕ, ◌<◌, ◌≤◌, Bool, true, false, List, [], map, length, All, Option, Some, None, Result, Ok, Err}
-use Rattle.nts_model.specs.Terms.Trees.{Tree, empty, IsFormed}
+use Rattle.std.specs.Prelude.{◌≡◌, ◌⊎◌, ℕ, ◌<◌, ◌≤◌, Bool, true, false, List, [], map, length, All, Option, Some, None, Result, Ok, Err}
+use Rattle.nts_model.specs.Terms.Trees.{Tree, empty, any_label, is_alias, IsFormed}
 use Rattle.nts_model.specs.Lists.{Among}
 use Rattle.nts_model.specs.Derivations.Related.{pair}
 use Rattle.nts_model.specs.Derivations.Rules.{Mode, statement_of}
 use Rattle.nts_model.specs.Derivations.Handlers.{Handler, Judgements, Candidate, certain, IsCandidateFor, HasNoLeaks}
 use Rattle.nts_model.specs.Refutation.Choosing.{IsCandidateMet}
-use Rattle.nts_theory.specs.Affirming.{SaysAffirmed, IsDenied}
+use Rattle.nts_theory.specs.Affirming.{SaysAffirmed, IsDenied, HasOwnWay}
 use Rattle.nts_theory.specs.Telling.{AreTermsOfKinds}
 use Rattle.nts_model.specs.Tables.Resolving.{deeply_resolved}
 use Rattle.nts_model.specs.Canonical.Inputs.{Input, IsInput, canonical_of, CanonicalInput as Form, PositionKind}
@@ -55,6 +55,18 @@ pub record IsQueryDecided (h : Handler) (mode : Mode) (n : ℕ) (f : Form) (b : 
 abbrev pub SaysJudged : Judgements → Tree → Tree → Bool → Type 0
 SaysJudged j e g true = SaysAffirmed j e g
 SaysJudged j e g false = IsDenied j (statement_of g)
+
+-- the one way of a goal in which no alias stands fares so in the table, and is certain
+pub record IsWaySettled (h : Handler) (mode : TypingMode) (n : ℕ) (ts : List Tree) (t : Table) (g : Goal) (b : Bool) : Type 0 where
+  pub way : Candidate
+  pub has_way : HasOwnWay h.judges (tree_at ts g.param_env.node) (tree_at ts g.predicate.node) way
+  pub no_alias : any_label is_alias (tree_at ts g.predicate.node) ≡ false
+  pub fares : Fares h (mode_of mode) n (content_of ts t.entries) way b
+  pub sure : way.certainty ≡ certain
+
+-- what is known of a goal of the engine's own kinds decides it: it is judged, or its one way fares so
+abbrev pub IsOwnSettled : Handler → TypingMode → ℕ → List Tree → Table → Goal → Bool → Type 0
+IsOwnSettled h mode n ts t g b = SaysJudged h.judges (tree_at ts g.param_env.node) (tree_at ts g.predicate.node) b ⊎ IsWaySettled h mode n ts t g b
 
 -- no goal on the stack is decided lower than n
 abbrev pub IsAbove : Handler → List Tree → ℕ → SearchGraph → Type 0

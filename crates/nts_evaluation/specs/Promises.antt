@@ -45,7 +45,7 @@ use Rattle.nts_trying.specs.declared.steps.Step.{Step}
 use Rattle.nts_meaning.specs.declared.round.Round.{Round}
 use Rattle.nts_meaning.specs.declared.round.Ended.{Ended}
 use Rattle.nts_trying.specs.Found.{Found}
-use Rattle.nts_evaluation.specs.Deciding.{IsQueryDecided, SaysJudged, CanDecide, IsBelow, IsAsBefore, Decides, IsYes, IsYesUnchanged, IsOwnYes, IsRoundDecided, IsRootQuery, AreRootValues, CandidatesSettled, IsSettled, GoalsSettled, IsQueryAtFirst, IsFactHere, IsPlainCandidate, ArePlainCandidates, IsOverIfSilent, IsFactForm, IsRoundYes}
+use Rattle.nts_evaluation.specs.Deciding.{IsQueryDecided, IsOwnSettled, CanDecide, IsBelow, IsAsBefore, Decides, IsYes, IsYesUnchanged, IsOwnYes, IsRoundDecided, IsRootQuery, AreRootValues, CandidatesSettled, IsSettled, GoalsSettled, IsQueryAtFirst, IsFactHere, IsPlainCandidate, ArePlainCandidates, IsOverIfSilent, IsFactForm, IsRoundYes}
 use Rattle.nts_decisions.specs.Deciding.{IsGoalDecided}
 use Rattle.nts_trying.specs.Stopping.{StopsIn}
 use Rattle.nts_trying.specs.Stepping.{ArePosed, AreLeft, AreSettled, terms_of, bound_of}
@@ -183,8 +183,8 @@ pub record AnswersOwn (R : Rules) (a b : Cx) (g h : SearchGraph) (t : Table) (go
   pub found : IfAnswered r (Found (λ c v. Always R a (λ s. HoldsOwn (R.handler s.base) (meaning_since R.handler s) (mode_of t.mode) (assumed_in b.nodes h) a.nodes goal (content_of c v.entries))) a.nodes b.nodes t goal values)
   pub told : WhereTold R a g (λ m. IfAnswered r (OwnTold m t.mode a.nodes t goal values b.nodes))
   pub refuted : WhereTold R a g (λ m. r ≡ Err error.NoSolution → OwnRefuted m t.mode a.nodes t goal)
-  -- what the handler affirms or denies is answered so
-  pub decided : AnswersDecided R a g h depth (λ m n b. SaysJudged m.judges (tree_at a.nodes goal.param_env.node) (tree_at a.nodes goal.predicate.node) b) r (λ x. IsYes x.value.value.certainty)
+  -- what the handler affirms or denies is answered so, and where the one way of the goal is decided, the goal is answered as it is
+  pub decided : AnswersDecided R a g h depth (λ m n b. IsOwnSettled m t.mode n a.nodes t goal b) r (λ x. IsYes x.value.value.certainty)
 
 -- .. by candidates: what is proved where the answer is certain; what is told and refuted of them; how they fare where the goal is
 -- decided; and what is so where one of them decides it, which has no goals

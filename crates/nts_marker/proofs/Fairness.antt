@@ -1,5 +1,5 @@
 -- A trait that holds of everything is decided no of nothing: so what is answered yes at once of it is not decided no.
-use Rattle.std.proofs.Common.{◌≡◌, ⊎_elim, ℕ, suc, Bool, true, false, List, [], ◌∷◌, ◌++◌, map, refl, sym, ap, subst, ◌∙◌}
+use Rattle.std.proofs.Common.{◌≡◌, ℕ, suc, Bool, true, false, List, [], ◌∷◌, ◌++◌, map, refl, sym, ap, subst, ◌∙◌}
 use Rattle.std.specs.Prelude.{if◌then◌else◌}
 use Rattle.nts_model.specs.declared.labels.Sort.{Sort}
 use Rattle.nts_model.specs.declared.labels.ClauseHead.TheVariants as clause
@@ -12,7 +12,8 @@ use Rattle.nts_model.specs.Derivations.Handlers.{Handler, Judgements, Candidate,
 use Rattle.nts_model.specs.Refutation.Opening.{binds, placeholder_in}
 use Rattle.nts_decisions.specs.Deciding.{blurred, blurred_leaf, blurred_environment, blurred_candidate, MeetsBlurred, top_level, opened_next, OneHolds, then_fails, then_holds, CandidateIs, is_unmet, is_met, GoalsAre, all_yes, IsFairAtOnce}
 use Rattle.nts_theory.specs.Affirming.{IsDenied}
-use Rattle.nts_decisions.proofs.Deciding.{DecidedBy, DecidedByRegion, DecidedByJudgement, decided_by, judged_itself}
+use Rattle.nts_decisions.proofs.Deciding.{DecidedBy, DecidedByRegion, DecidedByJudgement, DecidedByWay, DecidedAs, as_offered, as_of_region, as_judged, as_its_way, decided_by, judged_itself, way_said}
+use Rattle.nts_decisions.proofs.OwnWays.{says_way}
 use Rattle.nts_marker.specs.Marking.{is_of, marks, fact}
 use Rattle.nts_marker.specs.MarkerLaws.{marks_kept}
 use Rattle.nts_marker.specs.Answering.{answering}
@@ -54,8 +55,14 @@ offered_first false cs q = absurd (let clash : ⊥ = cc q in clash)
 not_denied : (i : ℕ) (j : Judgements) (s : Tree) → IsDenied j s → is_of i s ≡ true → ⊥
 not_denied i j s d q = (let clash : false ≡ true = sym (ap (is_of i) d.is) ∙ q in cc clash)
 
+-- nor has one a way of the engine's own
+no_way : (i : ℕ) (s : Tree) → is_of i s ≡ true → says_way s → ⊥
+no_way i (node (label.Clause clause.ConstArgHasType) ts) q w = (let clash : ⊥ = cc q in clash)
+no_way i (node (label.Clause clause.WellFormed) ts) q w = (let clash : ⊥ = cc q in clash)
+no_way i s q w = absurd w
+
 pub IsFairAtOnce-answering : (i : ℕ) (h : Handler) → IsFairAtOnce (answering i h)
-IsFairAtOnce-answering i h mode n e g d x = ⊎_elim by_candidates (λ w. ⊎_elim by_region by_judgement w) (decided_by k mode env (blurred g) n false d)
+IsFairAtOnce-answering i h mode n e g d x = by_any (decided_by k mode env (blurred g) n false d)
   where
     k : Handler
     k = answering i h
@@ -84,3 +91,14 @@ IsFairAtOnce-answering i h mode n e g d x = ⊎_elim by_candidates (λ w. ⊎_el
     by_judgement y =
         let z = y.judged in
         not_denied i k.judges z.statement (judged_itself k env o false z) (ap (λ t. is_of i (statement_of t)) (sym z.binds_nothing) ∙ marked)
+
+    by_way : DecidedByWay k mode env n (blurred g) false → ⊥
+    by_way y =
+        let z = y.has_way in
+        no_way i z.statement (ap (λ t. is_of i (statement_of t)) (sym z.binds_nothing) ∙ marked) (way_said k env o y.candidate z)
+
+    by_any : DecidedAs k mode env n (blurred g) false → ⊥
+    by_any (as_offered y) = by_candidates y
+    by_any (as_of_region y) = by_region y
+    by_any (as_judged y) = by_judgement y
+    by_any (as_its_way y) = by_way y

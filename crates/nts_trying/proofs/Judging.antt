@@ -1,21 +1,23 @@
--- What a handler affirms or denies of a goal of the engine's own kinds, by what the goal states: so nothing else is affirmed or denied.
+-- What a handler affirms or denies of a goal of the engine's own kinds, and which have one way, by what the goal states.
 use Rattle.std.proofs.Common.{◌≡◌, ℕ, List, refl, sym, subst, ◌∙◌}
-use Rattle.std.specs.Prelude.{IsTrue, false}
+use Rattle.std.specs.Prelude.{◌≢◌, IsTrue, None, false}
 use Rattle.nts_model.specs.declared.labels.ClauseHead.TheVariants as clause_head
 use Rattle.nts_model.specs.declared.labels.ConstHead.TheVariants as const_head
 use Rattle.nts_model.specs.declared.labels.Leaf.TheVariants as leaf
 use Rattle.nts_model.specs.declared.labels.PredicateHead.TheVariants as predicate_head
 use Rattle.nts_model.specs.declared.labels.Label.TheVariants as label
-use Rattle.nts_model.specs.Terms.Trees.{Tree, more, node}
-use Rattle.nts_model.specs.Derivations.Related.{unbound}
+use Rattle.nts_model.specs.Terms.Trees.{Tree, empty, more, node}
+use Rattle.nts_model.specs.Derivations.Related.{alias_label, unbound}
 use Rattle.nts_model.specs.Derivations.Rules.{statement_of, const_error}
-use Rattle.nts_model.specs.Derivations.Handlers.{Judgements, IsEvaluated}
-use Rattle.nts_theory.specs.Affirming.{IsAffirmed, feature_allowed, has_objects, named_const, value_const, error_const, error_type, evaluated_const, SaysAffirmed, IsDenied}
+use Rattle.nts_model.specs.Derivations.Handlers.{Candidate, Judgements, IsEvaluated}
+use Rattle.nts_theory.specs.Affirming.{IsAffirmed, feature_allowed, has_objects, named_const, value_const, error_const, error_type, evaluated_const, by_type, by_goals, IsOwnWay, HasOwnWay, SaysAffirmed, IsDenied}
 use Rattle.nts_store.specs.Growth.{tree_at, Extends}
 use Rattle.nts_terms.specs.declared.handles.Goal.{Goal}
 use Rattle.nts_terms.specs.declared.kinds.ConstKind.{ConstKind}
 use Rattle.nts_terms.specs.declared.kinds.ConstKind.TheVariants as konst
-use Rattle.nts_terms.specs.Handles.{HoldsGoal}
+use Rattle.nts_terms.specs.declared.handles.AliasDefId.{AliasDefId}
+use Rattle.nts_terms.specs.declared.handles.AliasDefId.TheVariants as alias_def
+use Rattle.nts_terms.specs.Handles.{alias_head, HoldsGoal}
 use Rattle.nts_terms.specs.Kinds.{tree_of_const}
 use Rattle.nts_trying.specs.Owning.{tree_of_own, IsOwnGoal}
 use Rattle.nts_trying.specs.declared.own.OwnGoal.{OwnGoal}
@@ -41,6 +43,21 @@ abbrev pub DeniedBy : Judgements → Tree → Type 0
 DeniedBy j (node (label.Predicate (predicate_head.DynCompatible i)) ts) = j.is_dyn_compatible i ≡ false
 DeniedBy j s = ⊥
 
+-- a const that is a value
+abbrev pub IsValueConst : Tree → Type 0
+IsValueConst (node (label.Const (const_head.Value b)) ts) = Unit {0}
+IsValueConst t = ⊥
+
+-- what is so where a statement has one way
+abbrev pub HasWayBy : Judgements → Tree → Tree → Type 0
+HasWayBy j e (node (label.Clause clause_head.ConstArgHasType) (more c ts)) = IsValueConst c
+HasWayBy j e (node (label.Clause clause_head.WellFormed) (more t ts)) = j.well_formed e t ≢ None
+HasWayBy j e s = ⊥
+
+pub has_way : (j : Judgements) (e s : Tree) (y : Candidate) → IsOwnWay j e s y → HasWayBy j e s
+has_way j e s y by_type = tt
+has_way j e s y (by_goals q) = λ none. (let r = sym q ∙ none in cc r)
+
 affirmed_by : (j : Judgements) (e s : Tree) → IsAffirmed j e s → AffirmedBy j e s
 affirmed_by j e s (feature_allowed x) = x
 affirmed_by j e s (has_objects x) = x
@@ -65,6 +82,25 @@ module _ {a b : List Tree} {g : Goal} {o : OwnGoal} (j : Judgements) (up : Exten
       let states = states_in up holds says in
       let there : IsDenied j (tree_of_own b o) = subst (λ z. IsDenied j (statement_of z)) states.binds_nothing x in
       subst (DeniedBy j) (sym there.is) there.has_none
+
+  pub ways : (y : Candidate) → HasOwnWay j (tree_at b g.param_env.node) (tree_at b g.predicate.node) y → HasWayBy j (tree_at b g.param_env.node) (tree_of_own b o)
+  ways y x =
+      let states = states_in up holds says in
+      subst (HasWayBy j (tree_at b g.param_env.node)) (one_statement x.statement (tree_of_own b o) (sym x.binds_nothing ∙ states.binds_nothing)) (has_way j (tree_at b g.param_env.node) x.statement y x.way)
+
+-- no const but a value is one
+no_alias_value : (d : AliasDefId) (c : Tree) → IsValueConst (node (alias_label (alias_head d)) c) → ⊥
+no_alias_value (alias_def.Ty a) c i = i
+no_alias_value (alias_def.Const a) c i = i
+
+pub not_value : (ts : List Tree) (k : ConstKind) → ((t : _) (b : _) → k ≡ konst.Value t b → ⊥) → IsValueConst (tree_of_const ts k) → ⊥
+not_value ts (konst.Param n) v i = i
+not_value ts (konst.Placeholder n) v i = i
+not_value ts (konst.Value t b) v i = v t b refl
+not_value ts konst.Error v i = i
+not_value ts (konst.Unevaluated n) v i = no_alias_value n.def_id (more (tree_at ts (let a = n.args in a.node)) empty) i
+not_value ts (konst.Infer n) v i = i
+not_value ts (konst.Bound n m) v i = i
 
 -- no const that is a variable, or bound, is
 pub not_evaluable : (j : Judgements) (e : Tree) (ts : List Tree) (k : ConstKind) → ((n : _) → k ≡ konst.Param n → ⊥) → ((p : _) → k ≡ konst.Placeholder p → ⊥) → ((t : _) (b : _) → k ≡ konst.Value t b → ⊥) → (k ≡ konst.Error → ⊥) → ((u : _) → k ≡ konst.Unevaluated u → ⊥) → IsEvaluable j e (tree_of_const ts k) → ⊥

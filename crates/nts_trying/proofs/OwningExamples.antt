@@ -1,17 +1,19 @@
 -- Goals of the engine's own kinds in a small store, and what is known of them.
 use Rattle.std.proofs.Common.{◌≡◌, ℕ, true, false, List, [], ◌∷◌, refl, sym, subst}
-use Rattle.std.specs.Prelude.{◌==◌}
+use Rattle.std.specs.Prelude.{◌==◌, Some}
 use Rattle.nts_model.specs.declared.labels.ClauseHead.TheVariants as clause
 use Rattle.nts_model.specs.declared.labels.ListHead.TheVariants as list
 use Rattle.nts_model.specs.declared.labels.PredicateHead.TheVariants as predicate
+use Rattle.nts_model.specs.declared.labels.TyHead.TheVariants as ty
 use Rattle.nts_model.specs.declared.labels.Label.TheVariants as label
 use Rattle.nts_model.specs.Terms.Trees.{Tree, empty, node, IsInRow}
 use Rattle.nts_model.specs.Derivations.Related.{unbound}
 use Rattle.nts_model.specs.Derivations.Handlers.{Judgements, no_judgements}
-use Rattle.nts_theory.specs.Affirming.{IsAffirmed, feature_allowed}
+use Rattle.nts_theory.specs.Affirming.{IsAffirmed, HasOwnWay, by_goals, feature_allowed, is_well_formed, plain_way}
 use Rattle.nts_terms.specs.declared.handles.Goal.{Goal}
 use Rattle.nts_trying.specs.Outliving.{IsClosedEnv}
 use Rattle.nts_trying.specs.Owning.{IsOwnStatement, IsOwnGoal, StatesOwn, IsJudgedBy, IsAllJudged}
+use Rattle.nts_trying.proofs.Judging.{HasWayBy, has_way}
 use Rattle.nts_trying.specs.declared.own.OwnGoal.TheVariants as own
 use Rattle.nts_trying.specs.declared.own.Judged.TheVariants as judged
 
@@ -52,10 +54,26 @@ nothing_is_no d = (let e = d.is in cc e)
 
 -- so a body that says nothing of what the handler allows does not say all
 all_known : IsAllJudged allows_it store allowed judged.Yes
-all_known = record { affirmed = λ x. refl; denied = λ d. absurd (let e = d.is in cc e) }
+all_known = record { affirmed = λ x. refl; denied = λ d. absurd (let e = d.is in cc e); way = λ y w plain. (let e = w.binds_nothing in let q : feature 7 ≡ w.statement = cc e in subst (HasWayBy allows_it nowhere) (sym q) (has_way allows_it nowhere w.statement y w.way)) }
 
 doubt_is_less : IsAllJudged allows_it store allowed judged.Unknown → ⊥
 doubt_is_less a = (let e : judged.Unknown ≡ judged.Yes = a.affirmed affirmed_is_yes in cc e)
+
+-- a handler that names no goal for what is well formed leaves one way, and a doubt does not say so
+abbrev names_none : Judgements
+names_none = record no_judgements { well_formed = λ e t. Some [] }
+
+abbrev error : Tree
+error = node (label.Ty ty.Error) empty
+
+abbrev posed : List Tree
+posed = unbound (is_well_formed error) ∷ nowhere ∷ []
+
+has_one_way : HasOwnWay names_none nowhere (unbound (is_well_formed error)) (plain_way [] [])
+has_one_way = record { statement = is_well_formed error; binds_nothing = refl; way = by_goals refl; formed = (((λ e. cc e), tt), ((tt, tt), tt)); closed = (tt, ((tt, tt), tt)) }
+
+way_in_doubt_is_less : IsAllJudged names_none posed allowed judged.Unknown → ⊥
+way_in_doubt_is_less a = a.way (plain_way [] []) has_one_way refl
 
 -- the goal is of the engine's own kinds; one that is always ambiguous is not
 closed_there : IsClosedEnv nowhere

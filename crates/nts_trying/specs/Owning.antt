@@ -3,11 +3,11 @@ use Rattle.std.specs.Prelude.{◌≡◌, false, List, [], Option, Some, None}
 use Rattle.nts_model.specs.declared.labels.ClauseHead.TheVariants as clause_head
 use Rattle.nts_model.specs.declared.labels.PredicateHead.TheVariants as predicate_head
 use Rattle.nts_model.specs.declared.labels.Label.TheVariants as label
-use Rattle.nts_model.specs.Terms.Trees.{Tree, empty, node, any_label, is_canonical, IsClosed}
+use Rattle.nts_model.specs.Terms.Trees.{Tree, empty, node, any_label, is_alias, is_canonical, IsClosed}
 use Rattle.nts_model.specs.Terms.Scoping.{IsWellBound}
 use Rattle.nts_model.specs.Derivations.Related.{pair, unbound}
 use Rattle.nts_model.specs.Derivations.Rules.{statement_of}
-use Rattle.nts_model.specs.Derivations.Handlers.{Handler, Judgements}
+use Rattle.nts_model.specs.Derivations.Handlers.{Candidate, Handler, Judgements}
 use Rattle.nts_theory.specs.Affirming.{evaluatable, has_type, is_well_formed, SaysAffirmed, IsDenied, HasOwnWay}
 use Rattle.nts_certainty.specs.declared.certainty.Certainty.TheVariants as certainty
 use Rattle.nts_certainty.specs.declared.reruns.RerunCondition.TheVariants as rerun
@@ -98,10 +98,16 @@ IsJudgedBy j ts g judged.Unknown = Unit {0}
 abbrev pub IsJudgedSo : Handler → List Tree → Goal → Judged → Type 0
 IsJudgedSo h ts g x = IsJudgedBy h.judges ts g x
 
--- .. and where the handler affirms or denies the goal, that is known
+-- the goal is known to have one way
+abbrev pub IsWay : Judged → Type 0
+IsWay (judged.Way b) = Unit {0}
+IsWay x = ⊥
+
+-- .. and where the handler affirms or denies the goal, that is known; so is it that the goal has one way, where no alias stands in it
 pub record IsAllJudged (j : Judgements) (ts : List Tree) (g : Goal) (x : Judged) : Type 0 where
   pub affirmed : SaysAffirmed j (tree_at ts g.param_env.node) (tree_at ts g.predicate.node) → x ≡ judged.Yes
   pub denied : IsDenied j (statement_of (tree_at ts g.predicate.node)) → x ≡ judged.No
+  pub way : (y : Candidate) → HasOwnWay j (tree_at ts g.param_env.node) (tree_at ts g.predicate.node) y → any_label is_alias (tree_at ts g.predicate.node) ≡ false → IsWay x
 
 abbrev pub IsAllJudgedSo : Handler → List Tree → Goal → Judged → Type 0
 IsAllJudgedSo h ts g x = IsAllJudged h.judges ts g x

@@ -72,7 +72,7 @@ use Rattle.nts_meaning.proofs.Searching.{nothing_stands}
 use Rattle.nts_evaluation.proofs.FactQueries.{fact_query}
 use Rattle.nts_evaluation.proofs.FactTrials.{fact_asked}
 use Rattle.nts_evaluation.proofs.DecidedTrials.{refused_no}
-use Rattle.nts_evaluation.proofs.DecidedGoals.{is_opened, is_asked_here, outlives_in, states_own, judged_not_region, sure_yes}
+use Rattle.nts_evaluation.proofs.DecidedGoals.{is_opened, is_asked_here, outlives_in, states_own, judged_not_region, way_states_own, way_not_region, sure_yes}
 use Rattle.nts_evaluation.proofs.DecidedRounds.{stands_high, as_query, marked_again}
 use Rattle.nts_evaluation.proofs.DecidedSteps.{IsStepSoFar, next_goal, at_end, step_decided}
 use Rattle.nts_trying.specs.Stepping.{left_after}
@@ -153,7 +153,7 @@ compute_goal-returns-in-Unanswered g t c =
       decided = λ s n b d can.
           ⊎_elim
           (λ asked. absurd (c.in-Unanswered.ensures.1 asked))
-          (λ w. absurd (⊎_elim (λ y. c.in-Unanswered.ensures.2 _ (outlives_in y.says)) (λ y. c.in-Unanswered.ensures.3 (states_own y)) w))
+          (λ w. absurd (⊎_elim (λ y. c.in-Unanswered.ensures.2 _ (outlives_in y.says)) (λ v. c.in-Unanswered.ensures.3 (⊎_elim (λ y. states_own y) (λ y. way_states_own y) v)) w))
           (is_asked_here (g.H.GoalHandler.handler s.base c.args.handler.now) (g.met.H.GoalHandler.lawful s.base c.args.handler.now s.formed s.is_ready) (mode_of c.args.table.now.mode) n b c.args.goal c.args.values.now d.0 d.1 c.requires.posed c.terms_are_formed.ensures o.grows.extends _ (rw c.in-Unanswered.ensures.0 at o.opened) (rw c.in-Unanswered.ensures.0 at o.posed));
       facts = λ s tells f can.
           let settled = f.settled in
@@ -204,7 +204,7 @@ compute_goal-returns-in-Outlives g t c =
       decided = λ s n b d can.
           ⊎_elim
           (λ asked. absurd (trait_outlives_nothing _ _ (let z = asked.trait_goal in z.statement) (let z = says.is in z.says)))
-          (λ w. ⊎_elim (λ y. record { answer = (y.yes, sure_yes _ (let z = r.told in z.sure)); search = same_search _ }) (λ y. absurd (judged_not_region _ (let z = says.is in z.says) y)) w)
+          (λ w. ⊎_elim (λ y. record { answer = (y.yes, sure_yes _ (let z = r.told in z.sure)); search = same_search _ }) (λ v. absurd (⊎_elim (λ y. judged_not_region _ (let z = says.is in z.says) y) (λ y. way_not_region y _ (let z = says.is in z.says)) v)) w)
           (is_asked_here (g.H.GoalHandler.handler s.base c.args.handler.now) (g.met.H.GoalHandler.lawful s.base c.args.handler.now s.formed s.is_ready) (mode_of c.args.table.now.mode) n b c.args.goal c.args.values.now d.0 d.1 c.requires.posed c.terms_are_formed.ensures o.grows.extends _ opened posed);
       facts = λ s tells f can.
           let settled = f.settled in

@@ -28,11 +28,11 @@ use Rattle.nts_trying.proofs.Opened.{labels_through}
 use Rattle.nts_trying.proofs.Owning.{own_is_no_trait}
 use Rattle.nts_trying.proofs.Outcomes.{found_earlier}
 use Rattle.nts_trying.proofs.Probed.{found_in, doubtful}
-use Rattle.nts_evaluation.proofs.DecidedGoals.{is_asked_here, region_not_own, says_judged}
+use Rattle.nts_evaluation.proofs.DecidedGoals.{is_asked_here, region_not_own, own_settled}
 use Rattle.nts_evaluation.proofs.Deciding.{decides_grown, same_search}
 use Rattle.nts_evaluation.proofs.FactTrials.{fact_asked}
 use Rattle.nts_evaluation.proofs.Failing.{own_failed}
-use Rattle.nts_evaluation.proofs.OwnGoals.{own_normalizes_none, posed_plain, judged_before, judged_yes, judged_no, judged_unknown, judged_way, own_holds, own_says, own_none}
+use Rattle.nts_evaluation.proofs.OwnGoals.{own_normalizes_none, posed_plain, judged_before, settled_yes, settled_no, settled_unknown, settled_way, own_holds, own_says, own_none}
 use Rattle.nts_evaluation.proofs.evaluate.+evaluate.Goals as goal
 
 pub compute_goal-evaluate_own-response-requires : goal.compute_goal-evaluate_own-response-requires
@@ -95,7 +95,7 @@ compute_goal-returns-in-Own g t c =
           (λ asked. absurd (own_is_no_trait _ _ c.in-Own.own says (let z = asked.trait_goal in z.statement)))
           (λ w. ⊎_elim
           (λ y. absurd (region_not_own says y.says))
-          (λ y. r.decided (Since-later o.grows s) n b (says_judged _ _ _ b y) (decides_grown c.requires.search o.grows can)) w)
+          (λ y. r.decided (Since-later o.grows s) n b (rw o.goes.mode (own_settled {mode = c.args.table.now.mode} y)) (decides_grown c.requires.search o.grows can)) w)
           (is_asked_here (g.H.GoalHandler.handler s.base c.args.handler.now) (g.met.H.GoalHandler.lawful s.base c.args.handler.now s.formed s.is_ready) (mode_of c.args.table.now.mode) n b c.args.goal c.args.values.now d.0 d.1 c.requires.posed c.terms_are_formed.ensures o.grows.extends _ opened posed);
       facts = λ s tells f can.
           let settled = f.settled in
@@ -175,7 +175,7 @@ evaluate_own-returns-in-No g t c =
           inl (judged_before (λ z e p. IsDenied z (statement_of p)) same j.grows.extends c.requires.posed.holds known);
       decided = λ s n b d can.
           let same = g.met.H.GoalHandler.handler_kept s.base c.judge.new.cx.nodes c.args.handler.now s.is_ready (Extends-trans s.extends j.grows.extends) in
-          record { answer = judged_no same j.grows.extends c.requires.posed.holds _ j.exact b c.in-No.is d; search = same_search _ };
+          record { answer = settled_no same j.grows.extends c.requires.posed.holds _ j.exact b c.in-No.is d; search = same_search _ };
     }
 
 pub evaluate_own-returns-in_ok-response-in-Yes : goal.evaluate_own-returns-in_ok-response-in-Yes
@@ -202,7 +202,7 @@ evaluate_own-returns-in_ok-response-in-Yes g t c =
       refuted = search rules;
       decided = λ s n b d can.
           let same = g.met.H.GoalHandler.handler_kept s.base c.judge.new.cx.nodes c.args.handler.now s.is_ready (Extends-trans s.extends j.grows.extends) in
-          record { answer = (judged_yes same up holds _ j.exact b c.in-Yes.is d, r.certainty); search = same_search _ };
+          record { answer = (settled_yes same up holds _ j.exact b c.in-Yes.is d, r.certainty); search = same_search _ };
     }
 
 pub evaluate_own-returns-in_ok-response-in-Unknown : goal.evaluate_own-returns-in_ok-response-in-Unknown
@@ -222,7 +222,7 @@ evaluate_own-returns-in_ok-response-in-Unknown g t c =
       refuted = search rules;
       decided = λ s n b d can.
           let same = g.met.H.GoalHandler.handler_kept s.base c.judge.new.cx.nodes c.args.handler.now s.is_ready (Extends-trans s.extends j.grows.extends) in
-          absurd (judged_unknown same up c.requires.posed.holds _ j.exact b c.in-Unknown.is d);
+          absurd (settled_unknown same up c.requires.posed.holds _ j.exact b c.in-Unknown.is d);
     }
 
 pub evaluate_own-returns-in-Way : goal.evaluate_own-returns-in-Way
@@ -264,5 +264,5 @@ evaluate_own-returns-in-Way g t c =
           inr (x, judged_before (λ z e p. HasOwnWay z e p x) same up holds known.0, rw (here, c.deref.ensures) at (r.refuted (Since-later j.grows s) (tell_grown h c.args.depth c.requires.search j.grows tells) n));
       decided = λ s n b d can.
           let same = g.met.H.GoalHandler.handler_kept s.base c.judge.new.cx.nodes c.args.handler.now s.is_ready (Extends-trans s.extends j.grows.extends) in
-          absurd (judged_way same up holds _ j.exact b _ c.in-Way.is d);
+          r.decided (Since-later j.grows s) n b (rw c.deref.ensures (settled_way same up holds _ j.exact b c.in-Way.way c.in-Way.is known.0 here d)) (decides_grown c.requires.search j.grows can);
     }
