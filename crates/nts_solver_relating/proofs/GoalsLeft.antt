@@ -10,13 +10,14 @@ use Rattle.nts_model.specs.declared.labels.ListHead.TheVariants as list
 use Rattle.nts_model.specs.declared.labels.Label.TheVariants as label
 use Rattle.nts_model.specs.declared.labels.PredicateHead.{PredicateHead}
 use Rattle.nts_model.specs.Terms.Trees.{Tree, empty, more, node, children, kind_of, kind_of_label, of_sort, arguments, bound_predicate, IsClosed, IsFormed}
+use Rattle.nts_model.specs.Tables.Passing.{BringsLabelsOf}
 use Rattle.nts_model.specs.Tables.Contents.{Content}
 use Rattle.nts_model.specs.Tables.Resolving.{Knows, IsSound, AllUnset, resolved, deeply_resolved}
 use Rattle.nts_model.specs.Tables.Worlds.{World, Solves}
 use Rattle.nts_model.specs.Tables.Holding.{Continues}
 use Rattle.nts_model.specs.Tables.Equations.{AreRelated, AreUnrelated}
 use Rattle.nts_model.specs.Tables.Tying.{TiesNew}
-use Rattle.nts_variance_model.specs.Variances.Leaving.{Judge, judging_of}
+use Rattle.nts_variance_model.specs.Variances.Leaving.{Judge, judging_of, Refuses}
 use Rattle.nts_model.specs.Derivations.Related.{pair, unbound, directed}
 use Rattle.nts_variance_model.specs.Variances.Relations.{Relating as Pair, AllSettleIn}
 use Rattle.nts_model.proofs.Terms.Scoping.{closed_listed}
@@ -40,11 +41,11 @@ use Rattle.nts_variance.specs.Terms.{pair_at, pairs_at, IsGoal, AreGoals, ArePai
 use Rattle.nts_variance.specs.Due.{IsNoType, AreUnvaluedPairs}
 use Rattle.nts_variance.specs.Goals.{goal_head, goal_of}
 use Rattle.nts_variance.proofs.Dues.{aliases_due, list_fresh}
-use Rattle.nts_variance.specs.Pairs.{Refuses}
 use Rattle.nts_variance.specs.Taking.{Takes, IsPairSide}
 use Rattle.nts_variance.specs.Equating.{GoalsRelate}
 use Rattle.nts_variance.specs.Rows.{IsListOf, RowsRelate, RefusesRows}
 use Rattle.nts_variance.proofs.Growing.{grown_refl}
+use Rattle.nts_variance.proofs.Passes.{resolved_passes}
 use Rattle.nts_unify.specs.Changing.{IsLater}
 use Rattle.nts_relating.specs.Relating.{IsPlainIn, KeepsPlain}
 use Rattle.nts_variance.proofs.Plainly.{takes_plain, takes_plain_lists, refuses_plain, refuses_plain_lists}
@@ -86,7 +87,7 @@ type_varies (node l c) v e =
     let k : kind_of_label l ≡ of_sort sort.Ty = cc e in
     ap (λ z. variance_by (sort_of_kind z) v) k
 
-type_pairs : (v : Variance) (a b : Tree) → kind_of a ≡ Some (of_sort sort.Ty) → related_pairs v a b ≡ record { variance = v; left = a; right = b } ∷ []
+pub type_pairs : (v : Variance) (a b : Tree) → kind_of a ≡ Some (of_sort sort.Ty) → related_pairs v a b ≡ record { variance = v; left = a; right = b } ∷ []
 type_pairs v a b e = rw (no_list a e, type_varies a v e) refl
 
 -- what is related invariantly does not vary
@@ -309,6 +310,7 @@ module _ (declared : ℕ → List Variance) where
               let r = t.relates.related f s on ks g h in
               (rw (← under_resolved c f a sound ka first, ← under_resolved c f b sound kb first) r.0, tt));
         };
+        passes = λ P p h i. t.passes P p h (resolved_passes P p c a h i.0, resolved_passes P p c b h i.1, tt);
       }
 
   -- in a tree as resolved no variable has a value
@@ -366,11 +368,11 @@ module _ (declared : ℕ → List Variance) where
 
   -- two sides in which no alias stands, made equal
   plain_terms : (ts us : List Tree) (e f : Entries) (p q : NodeId) → IsLawful ts e → IsLawful us f → IsLater (content_of ts e) (content_of us f) → ((n : NodeId) → IsIn ts n → IsFormed (tree_at ts n)) → IsPairSide ts (content_of ts e) p → IsPairSide ts (content_of ts e) q → IsPlainIn (content_of ts e) (tree_at ts p) → IsPlainIn (content_of ts e) (tree_at ts q)
-      → KeepsPlain (content_of ts e) (content_of us f) → AreRelated (content_of ts e) (content_of us f) (tree_at ts p) (tree_at ts q) → TiesNew (content_of ts e) (content_of us f) → SidesRelate declared ts us e f variance.Invariant (tree_at ts p) (tree_at ts q) []
-  plain_terms ts us e f p q first lawful later formed left right pa pb kept made ties =
+      → KeepsPlain (content_of ts e) (content_of us f) → AreRelated (content_of ts e) (content_of us f) (tree_at ts p) (tree_at ts q) → TiesNew (content_of ts e) (content_of us f) → BringsLabelsOf (content_of ts e) (content_of us f) (tree_at ts p) (tree_at ts q) → SidesRelate declared ts us e f variance.Invariant (tree_at ts p) (tree_at ts q) []
+  plain_terms ts us e f p q first lawful later formed left right pa pb kept made ties brings =
       let a = tree_at ts p in
       let b = tree_at ts q in
-      let t = takes_plain declared (content_of ts e) (content_of us f) a b right.sort first.sound lawful.sound lawful.proper.solvable later left.knows right.knows (formed q right.within) right.kind pa pb kept made ties in
+      let t = takes_plain declared (content_of ts e) (content_of us f) a b right.sort first.sound lawful.sound lawful.proper.solvable later left.knows right.knows (formed q right.within) right.kind pa pb kept made ties brings in
       record {
         long = λ (h : is_list a ≡ true). (let n = no_term_list a left.sort left.kind in cc);
         known = tt;
@@ -379,17 +381,17 @@ module _ (declared : ℕ → List Variance) where
       }
 
   plain_lists : (ts us : List Tree) (e f : Entries) (p q : NodeId) → IsLawful ts e → IsLawful us f → IsLater (content_of ts e) (content_of us f) → ((n : NodeId) → IsIn ts n → IsFormed (tree_at ts n)) → IsListOf ts (content_of ts e) p → IsListOf ts (content_of ts e) q → IsPlainIn (content_of ts e) (tree_at ts p) → IsPlainIn (content_of ts e) (tree_at ts q)
-      → KeepsPlain (content_of ts e) (content_of us f) → AreRelated (content_of ts e) (content_of us f) (tree_at ts p) (tree_at ts q) → TiesNew (content_of ts e) (content_of us f) → SidesRelate declared ts us e f variance.Invariant (tree_at ts p) (tree_at ts q) []
-  plain_lists ts us e f p q first lawful later formed left right pa pb kept made ties =
+      → KeepsPlain (content_of ts e) (content_of us f) → AreRelated (content_of ts e) (content_of us f) (tree_at ts p) (tree_at ts q) → TiesNew (content_of ts e) (content_of us f) → BringsLabelsOf (content_of ts e) (content_of us f) (tree_at ts p) (tree_at ts q) → SidesRelate declared ts us e f variance.Invariant (tree_at ts p) (tree_at ts q) []
+  plain_lists ts us e f p q first lawful later formed left right pa pb kept made ties brings =
       let a = tree_at ts p in
       let b = tree_at ts q in
-      let t = takes_plain_lists declared (content_of ts e) (content_of us f) a b first.sound lawful.sound lawful.proper.solvable later left.knows right.knows (formed p left.within) (formed q right.within) left.kind right.kind pa pb kept made ties in
+      let t = takes_plain_lists declared (content_of ts e) (content_of us f) a b first.sound lawful.sound lawful.proper.solvable later left.knows right.knows (formed p left.within) (formed q right.within) left.kind right.kind pa pb kept made ties brings in
       record { long = λ h. t.long; known = tt; are_goals = tt; takes = rw (kind_list a left.kind) t.takes }
 
   pub plain_sides : (ts us : List Tree) (e f : Entries) (p q : NodeId) → CanRelate ts (content_of ts e) p q → IsLawful ts e → IsLawful us f → IsLater (content_of ts e) (content_of us f) → ((n : NodeId) → IsIn ts n → IsFormed (tree_at ts n)) → IsPlainIn (content_of ts e) (tree_at ts p) → IsPlainIn (content_of ts e) (tree_at ts q)
-      → KeepsPlain (content_of ts e) (content_of us f) → AreRelated (content_of ts e) (content_of us f) (tree_at ts p) (tree_at ts q) → TiesNew (content_of ts e) (content_of us f) → SidesRelate declared ts us e f variance.Invariant (tree_at ts p) (tree_at ts q) []
-  plain_sides ts us e f p q (inl h) first lawful later formed pa pb kept made ties = plain_terms ts us e f p q first lawful later formed h.0 h.1 pa pb kept made ties
-  plain_sides ts us e f p q (inr h) first lawful later formed pa pb kept made ties = plain_lists ts us e f p q first lawful later formed h.0 h.1 pa pb kept made ties
+      → KeepsPlain (content_of ts e) (content_of us f) → AreRelated (content_of ts e) (content_of us f) (tree_at ts p) (tree_at ts q) → TiesNew (content_of ts e) (content_of us f) → BringsLabelsOf (content_of ts e) (content_of us f) (tree_at ts p) (tree_at ts q) → SidesRelate declared ts us e f variance.Invariant (tree_at ts p) (tree_at ts q) []
+  plain_sides ts us e f p q (inl h) first lawful later formed pa pb kept made ties brings = plain_terms ts us e f p q first lawful later formed h.0 h.1 pa pb kept made ties brings
+  plain_sides ts us e f p q (inr h) first lawful later formed pa pb kept made ties brings = plain_lists ts us e f p q first lawful later formed h.0 h.1 pa pb kept made ties brings
 
   pub plain_related : (ts us : List Tree) (e f : Entries) (env : ParamEnv) (a b : Tree) (gs : List Goal) → gs ≡ [] → SidesRelate declared ts us e f variance.Invariant a b [] → IsRelatedBy declared ts us e f env variance.Invariant a b gs
   plain_related ts us e f env a b gs none h = record { pairs = []; related = h; goals = rw none tt; due = tt }

@@ -10,6 +10,7 @@ use Rattle.nts_model.specs.Terms.Trees.{Tree, node, children, row_length, kind_o
 use Rattle.nts_model.specs.Tables.Contents.{Content}
 use Rattle.nts_model.specs.Tables.Resolving.{Knows}
 use Rattle.nts_variance_model.specs.Variances.Relations.{Relating as Pair}
+use Rattle.nts_variance_model.specs.Variances.Leaving.{Refuses}
 use Rattle.nts_model.specs.Tables.Equations.{AreRelated, AreUnrelated}
 use Rattle.nts_model.specs.Tables.Passing.{BringsLabelsOf}
 use Rattle.nts_relating.specs.Relating.{IsPlainIn}
@@ -29,7 +30,6 @@ use Rattle.nts_variance.specs.declared.along.Relating.{Relating}
 use Rattle.nts_variance.specs.Terms.{pair_at, pairs_at, AreGoals, ArePairs}
 use Rattle.nts_variance.specs.Due.{AreUnvaluedPairs, AreGoalsDue}
 use Rattle.nts_variance.specs.Goals.{goal_of}
-use Rattle.nts_variance.specs.Pairs.{Refuses}
 use Rattle.nts_variance.specs.Taking.{Takes, IsPairSide}
 use Rattle.nts_variance.specs.Rows.{IsListOf, argument_pairs}
 

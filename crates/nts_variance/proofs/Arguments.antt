@@ -1,5 +1,6 @@
 -- The arguments of two lists, related one after another.
 use Rattle.std.proofs.Common.{◌≡◌, inl, ℕ, zero, suc, ◌+◌, ◌<◌, ◌≤◌, List, [], ◌∷◌, ◌++◌, Some, refl, ap, ◌∙◌, subst, arith}
+use Rattle.nts_variance.proofs.Passes.{pass_joined}
 use Rattle.nts_model.specs.declared.labels.Variance.{Variance}
 use Rattle.nts_model.specs.declared.labels.Variance.TheVariants as variance
 use Rattle.nts_model.specs.Terms.Trees.{Tree, empty, more, node, children, row_length, row_at, IsRow, AllFit, any_argument, kind_of, arguments}
@@ -7,6 +8,7 @@ use Rattle.nts_model.specs.Tables.Contents.{Content}
 use Rattle.nts_model.specs.Tables.Resolving.{IsSound, Knows}
 use Rattle.nts_model.specs.Derivations.Related.{rest_variances}
 use Rattle.nts_variance_model.specs.Variances.Forms.{a_constructor, pairs_over}
+use Rattle.nts_variance_model.specs.Variances.Leaving.{Refuses}
 use Rattle.nts_variance_model.specs.Variances.Relations.{Relating as Pair, ArePairsKnown}
 use Rattle.nts_model.proofs.Tables.Held.{Continues-refl, Continues-trans}
 use Rattle.nts_model.proofs.Tables.Resolved.{Knows-row_at}
@@ -20,7 +22,6 @@ use Rattle.nts_unify.specs.Knowing.{row_from}
 use Rattle.nts_unify.proofs.Looking.{row_from-end, row_from-step}
 use Rattle.nts_variance.specs.declared.along.Relating.{Relating}
 use Rattle.nts_variance.specs.Terms.{pair_at, pairs_at}
-use Rattle.nts_variance.specs.Pairs.{Refuses}
 use Rattle.nts_variance.specs.Taking.{Takes, IsPairSide}
 use Rattle.nts_variance.specs.Equating.{GoalsRelate}
 use Rattle.nts_variance.specs.Rows.{IsListOf, row_pairs, argument_pairs, RowsRelate, AreRelatedTo}
@@ -62,7 +63,7 @@ row_from_known c (suc i) (node l x) h = tt
 module _ (declared : ℕ → List Variance) where
   -- nothing taken, and the first pair of those left
   takes_none : (c : Content) (ps : List Pair) → IsSound c → Takes declared c c ps ps []
-  takes_none c ps sound = record { later = grown_refl c; continues = Continues-refl c sound; leaves = Leaves-none declared c ps; relates = record { related = λ f s on ks g h. h } }
+  takes_none c ps sound = record { later = grown_refl c; continues = Continues-refl c sound; leaves = Leaves-none declared c ps; relates = record { related = λ f s on ks g h. h }; passes = λ P p h i. (h, i, tt) }
 
   takes_then : (c d e : Content) (ps : List Pair) (q : Pair) (qs gs hs : List Pair) → IsSound c → IsSound d → ArePairsKnown d qs → ArePairsKnown d gs → Takes declared c d ps (q ∷ qs) gs → Takes declared d e (q ∷ []) [] hs → Takes declared c e ps qs (gs ++ hs)
   takes_then c d e ps q qs gs hs first sound kq kg a b =
@@ -76,6 +77,7 @@ module _ (declared : ℕ → List Variance) where
               let one = b.relates.related f s on ks parts.1 tt in
               a.relates.related f s (Continues-trans d e f sound b.continues on) ks parts.0 (one.0, h));
         };
+        passes = λ P p h i. (let x = a.passes P p h i in let left = x.1 in let y = b.passes P p x.0 (left.0, left.1, tt) in (y.0, left.2, pass_joined P gs hs x.2 y.2));
       }
 
   pub rows_start : (ts : List Tree) (e : Entries) (a b : Tree) (gs : List Relating) → IsLawful ts e → gs ≡ [] → AreRelatedTo declared ts ts e e a b 0 gs

@@ -16,7 +16,7 @@ use Rattle.nts_model.specs.Tables.Holding.{Continues}
 use Rattle.nts_model.specs.Derivations.Related.{IsAlias}
 use Rattle.nts_variance_model.specs.Variances.AnsweredGoals.{AllAnswered}
 use Rattle.nts_model.specs.Tables.Measuring.{closed_aliases}
-use Rattle.nts_variance_model.specs.Variances.Leaving.{judging_of}
+use Rattle.nts_variance_model.specs.Variances.Leaving.{judging_of, Refuses}
 use Rattle.nts_model.proofs.Tables.Held.{Continues-trans}
 use Rattle.nts_model.proofs.Tables.Slots.{Knows-kept, field_below}
 use Rattle.nts_model.proofs.Tables.Kept.{variable_label}
@@ -39,7 +39,7 @@ use Rattle.nts_variance.specs.Steps.{ended}
 use Rattle.nts_variance.specs.Walking.{StandsBy, OwedBy, RelatedSides, sides, IsTableGrown}
 use Rattle.nts_variance.specs.Terms.{pairs_at}
 use Rattle.nts_variance.specs.Varying.{IsVaried, IsKept}
-use Rattle.nts_variance.specs.Pairs.{Refuses, IsBound}
+use Rattle.nts_variance.specs.Pairs.{IsBound}
 use Rattle.nts_variance.proofs.Growing.{Knows-grown, grown_later, grown_trans}
 use Rattle.nts_variance.proofs.Runs.{unentered}
 use Rattle.nts_variance.proofs.Pairs.{ended_at, sides_settle, walk_leaves, walk_refuses}
@@ -133,6 +133,11 @@ bound_along declared z u x ts us ws e f g v k t r gs h ext before lawful univers
       due = λ d le q. rw goals (dues_later d (pairs_at us gs) (grown_later set.later) set.continues all (h.due d le q));
       fewer = λ q. (let few = h.few q in let less = set.fewer in omega (arith, few, less));
       aliases = λ q a k. set.aliases (h.none q) a (Knows-grown a walks.later k) ∙ ap closed_aliases (h.trees a k);
+      passes = λ P p q i.
+          (let y = walks.passes P p q (i, tt) tt tt in
+          let brings = set.brings in
+          let tree = y.2 in
+          (brings.labels P (p.variables) y.0 tree.0 tt, rw goals y.3));
     }
 
 -- no solution relates the two

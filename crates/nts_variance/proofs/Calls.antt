@@ -9,6 +9,7 @@ use Rattle.nts_model.specs.Tables.Resolving.{IsSound, Knows, deeply_resolved}
 use Rattle.nts_model.specs.Lists.{Among}
 use Rattle.nts_model.specs.Derivations.Related.{rest_variances}
 use Rattle.nts_variance_model.specs.Variances.Relations.{ArePairsKnown}
+use Rattle.nts_variance_model.specs.Variances.Leaving.{Refuses}
 use Rattle.nts_variance_model.specs.Variances.Relations.{Relating as Pair}
 use Rattle.nts_variance_model.specs.Variances.Forms.{Form, a_constructor, a_function, a_value, an_alias, over, variances_over, FitsForm, pairs_over}
 use Rattle.nts_variance_model.proofs.Variances.Forms.{deeply_resolved-over, variances_over_length}
@@ -24,7 +25,6 @@ use Rattle.nts_variance.specs.Walking.{IsTableGrown}
 use Rattle.nts_variance.specs.Parts.{form_of_tree, parts_of}
 use Rattle.nts_variance.specs.Terms.{pair_at, pairs_at, AreGoals, ArePairs}
 use Rattle.nts_variance.specs.Due.{LeavesDue}
-use Rattle.nts_variance.specs.Pairs.{Refuses}
 use Rattle.nts_variance.specs.Taking.{IsExact, Waits, AllWait, Takes, IsLeft, IsPairSide, IsPair, ArePairsLeft, AreOfOneForm, ArePartsPaired, left_sizes, Sense, HoldsIn, size_in, IsUnderway, IsCall}
 use Rattle.nts_variance.proofs.Debts.{goals_to, AreGoals-append}
 use Rattle.nts_variance.proofs.Growing.{Knows-grown}

@@ -21,6 +21,7 @@ use Rattle.nts_model.specs.Terms.Fitting.{Fits, is_integer, is_float}
 use Rattle.nts_model.specs.Terms.Regions.{name_of_label}
 use Rattle.nts_model.specs.Derivations.Related.{arguments}
 use Rattle.nts_variance_model.specs.Variances.Forms.{Form, a_constructor, a_function, a_value, an_alias, over}
+use Rattle.nts_variance_model.specs.Variances.Leaving.{IsErased}
 use Rattle.nts_model.specs.Derivations.Proving.{HoldsTerms}
 use Rattle.nts_model.specs.Tables.Solvable.{IsSolvable}
 use Rattle.nts_model.specs.Terms.Substitutions.{leaf_tree}
@@ -30,7 +31,6 @@ use Rattle.nts_model.proofs.Terms.Variables.{infer_of_none}
 use Rattle.nts_model.proofs.Tables.Resolved.{resolved-empty, resolved-more, resolved-node, resolved-variable_unset}
 use Rattle.nts_model.proofs.Tables.ResolvedTerms.{IsFormed-deeply_resolved, Fits-deeply_resolved}
 use Rattle.nts_variance.specs.Steps.{HasSorts}
-use Rattle.nts_variance.specs.Walking.{IsErased}
 use Rattle.nts_variance_model.proofs.Variances.Forms.{no_places, sort_label}
 
 -- leaves that are no regions, and the erased and the error region

@@ -18,13 +18,13 @@ use Rattle.nts_model.specs.Tables.Worlds.{World, inst, placed}
 use Rattle.nts_model.specs.Tables.Holding.{Continues}
 use Rattle.nts_model.specs.Derivations.Related.{region_constraint, one_tree}
 use Rattle.nts_variance_model.specs.Variances.Judging.{Judging, IsSettled, Settles}
-use Rattle.nts_variance_model.specs.Variances.Leaving.{Judge, judging_of}
+use Rattle.nts_variance_model.specs.Variances.Leaving.{Judge, judging_of, IsErased, Judges}
 use Rattle.nts_variance_model.proofs.Variances.Alongside.{RegionsAlone}
 use Rattle.nts_variance_model.proofs.Variances.SettleRows.{settled_alone}
 use Rattle.nts_store.specs.TypeFlags.{varies, varies_region}
 use Rattle.nts_relating.specs.Relating.{Generalized}
 use Rattle.nts_relating.proofs.GenLemmas.{resolved-no_infer}
-use Rattle.nts_variance.specs.Walking.{IsErased, Judges, RelatedSides}
+use Rattle.nts_variance.specs.Walking.{RelatedSides}
 use Rattle.nts_variance.specs.Parts.{IsFixedTree}
 
 fixed_region : (r : FreeRegion) → varies_region r ≡ false → IsErased r

@@ -11,7 +11,7 @@ use Rattle.nts_model.specs.Lists.{Among}
 use Rattle.nts_model.specs.Derivations.Proving.{recorded_as}
 use Rattle.nts_variance_model.specs.Variances.Judging.{IsSettled, Settles}
 use Rattle.nts_variance_model.specs.Variances.Relations.{IsSettledWorld}
-use Rattle.nts_variance_model.specs.Variances.Leaving.{Judge, judging_of}
+use Rattle.nts_variance_model.specs.Variances.Leaving.{Judge, judging_of, Leaves, Refuses}
 use Rattle.nts_model.proofs.Tables.Held.{AreOne-continues}
 use Rattle.nts_model.proofs.Tables.Slots.{Knows-kept, field_below}
 use Rattle.nts_variance_model.proofs.Variances.Tied.{settled_tied}
@@ -19,7 +19,6 @@ use Rattle.nts_unify.specs.Entries.{Entries}
 use Rattle.nts_unify.specs.Reading.{content_of, IsLawful}
 use Rattle.nts_unify.proofs.Changes.{some_inj}
 use Rattle.nts_relating.specs.Relating.{IsOpen, AreMadeOne, KeepsApart}
-use Rattle.nts_variance.specs.Pairs.{Leaves, Refuses}
 use Rattle.nts_variance.specs.Taking.{Takes}
 use Rattle.nts_variance.proofs.Bound.{bindable_kind}
 use Rattle.nts_variance.specs.Equating.{AreToBeOne}
@@ -87,6 +86,7 @@ module _ (declared : ℕ → List Variance) where
               (let there : deeply_resolved g a ≡ deeply_resolved g b = AreOne-later c d g a b m.continues on ka kb one in
               (subst (Related declared (λ t. Unit {0}) (λ z. HoldsConstraint g (recorded_as z)) (Among ks) v (deeply_resolved g a)) there (one_tree tt), tt));
         };
+        passes = λ P p h i. ((let y = m.brings in y.labels P (p.variables) h), tt, tt);
       }
     where
       AreOne-later : (c d g : Content) (a b : Tree) → Continues c d → Continues d g → Knows c a → Knows c b → AreOne d a b → deeply_resolved g a ≡ deeply_resolved g b

@@ -3,6 +3,10 @@ use Rattle.std.proofs.Common.{◌≡◌, ◌⊎◌, inl, inr, ⊎_elim, ℕ, Boo
 use Rattle.std.specs.Prelude.{◌||◌, Contains}
 use Rattle.std.proofs.lemmas.List.Elements.{Contains-push}
 use Rattle.std.proofs.lemmas.Bool.{or_parts}
+use Rattle.nts_model.proofs.Tables.Bringing.{brings-with_slot, brings-with_constraint}
+use Rattle.nts_model.specs.Tables.Passing.{TreePasses, TablePasses}
+use Rattle.nts_variance.specs.Passing.{PassesRows}
+use Rattle.nts_variance.proofs.Passes.{sides_pass, owed_passes}
 use Rattle.nts_model.specs.declared.labels.Sort.{Sort}
 use Rattle.nts_model.specs.declared.labels.Sort.TheVariants as sort
 use Rattle.nts_model.specs.declared.labels.Variance.{Variance}
@@ -32,7 +36,7 @@ use Rattle.nts_model.specs.Derivations.Related.{region_constraint, IsAlias, one_
 use Rattle.nts_variance_model.specs.Variances.Judging.{Judging, IsSettled, Settles, IsLawfulJudging, opposite}
 use Rattle.nts_model.specs.Derivations.Proving.{recorded_as}
 use Rattle.nts_variance_model.specs.Variances.Relations.{Relating, ArePairsKnown, IsJudgedBy, IsSettledWorld}
-use Rattle.nts_variance_model.specs.Variances.Leaving.{Judge, judging_of}
+use Rattle.nts_variance_model.specs.Variances.Leaving.{Judge, judging_of, IsErased, Judges}
 use Rattle.nts_model.specs.Tables.Solvable.{IsSolvable}
 use Rattle.nts_model.specs.Terms.Substitutions.{leaf_tree}
 use Rattle.nts_model.specs.Tables.Measuring.{closed_aliases}
@@ -56,7 +60,7 @@ use Rattle.nts_variance.proofs.CountedPieces.{counted_itself, number_none, leaf_
 use Rattle.nts_variance.proofs.Growing.{grown_refl, grown_trans, grown_later, grown_slot}
 use Rattle.nts_variance.specs.Counting.{IsCountedFor}
 use Rattle.nts_variance.specs.Parts.{has_parts, IsAlone}
-use Rattle.nts_variance.specs.Walking.{IsErased, Judges, IsMadeFor, RelatedTrees, RelatedSides, sides, IsMade}
+use Rattle.nts_variance.specs.Walking.{IsMadeFor, RelatedTrees, RelatedSides, sides, IsMade}
 use Rattle.nts_variance.proofs.Nodes.{answered_sides, settles_sides}
 use Rattle.nts_variance.proofs.Exact.{or_right as either_float}
 use Rattle.nts_variance_model.proofs.Variances.Forms.{no_places as no_children}
@@ -199,6 +203,7 @@ module _ (declared : ℕ → List Variance) (z : Bool) (u : ℕ) where
           is = sym (same j w h judged settled s t' x);
           goals = tt;
         };
+        passes = λ P q h k. (h, k, tt);
       }
 
   -- a leaf that is no variable, no free region and no alias, by each variance
@@ -315,6 +320,10 @@ owed_settled J law w judged v a b i j x = owed_met J law w judged v a b (regions
 abbrev pub owed_by : Bool → Variance → Tree → Tree → Recorded
 owed_by side v r t = (let p = sides side v r t in owed p.variance p.left p.right)
 
+owed_by_passes : (P : Label → Bool) (side : Bool) (v : Variance) (r t : Tree) → TreePasses P r → TreePasses P t → TreePasses P (owed_by side v r t).left × TreePasses P (owed_by side v r t).right
+owed_by_passes P false v r t h k = owed_passes P v r t h k
+owed_by_passes P true v r t h k = owed_passes P (opposite v) t r k h
+
 side_seen : (side : Bool) (v : Variance) (r t : Tree) → IsClosed r → IsClosed t → IsSeen (owed_by side v r t)
 side_seen false v r t p q = owed_seen v r t p q
 side_seen true v r t p q = owed_seen (opposite v) t r q p
@@ -355,6 +364,12 @@ module _ (declared : ℕ → List Variance) (z : Bool) (c : Content) (s : Slot) 
           (λ (e : Some (of_sort sort.Region) ≡ Some (of_sort sort.Const)). cc)
           (λ y. ⊎_elim (λ (e : false ≡ true). cc) (λ (e : false ≡ true). cc) y)
           (subst (λ j. IsAlone (variable_tree j (length c.slots))) r x)
+
+  fresh_table : (P : Label → Bool) → PassesRows P → TablePasses P c → TablePasses P (with_slot c s)
+  fresh_table P q h = (let b = brings-with_slot c s free in b.labels P (q.variables) h)
+
+  fresh_tree : (P : Label → Bool) → PassesRows P → TreePasses P (variable_tree s.kind (length c.slots))
+  fresh_tree P q = (q.variables s.kind (length c.slots), tt)
 
   fresh_clean : (u : ℕ) → NamesAll region_level u (resolved (with_slot c s) (variable_tree s.kind (length c.slots)))
   fresh_clean u = clean_unset (with_slot c s) u s.kind (length c.slots) (IsSound-with_slot c s sound free) (field-with_slot_new (λ x. x.state) c s ∙ ap Some free)
@@ -399,6 +414,7 @@ module _ (declared : ℕ → List Variance) (z : Bool) (c : Content) (s : Slot) 
             let old : inst g.world t ≡ inst w t = inst-agrees c w g.world t g.agrees knows in
             let there : Settles J v (inst g.world r) (inst g.world t) = subst (λ a. Settles J v a (inst g.world t)) (sym e.is) (subst (Settles J v x) (sym old) y) in
             record { extension = g; is = e.is; goals = (settles_sides z J j.lawful g.world v r t there, tt) });
+        passes = λ P q h k. (fresh_table P q h, fresh_tree P q, sides_pass P z v r t (fresh_tree P q) k);
       }
     where
       sides_known : (side : Bool) (v : Variance) (r t : Tree) → Knows (with_slot c s) r → Knows (with_slot c s) t → ArePairsKnown (with_slot c s) (sides side v r t ∷ [])
@@ -423,6 +439,7 @@ module _ (declared : ℕ → List Variance) (z : Bool) (c : Content) (s : Slot) 
             (let J = judging_of declared j in
             let e = chosen_for J j.lawful w v t x h settled sort knows fits x' names formed y in
             record { extension = e.extension; is = e.is; goals = tt });
+        passes = λ P q h k. (fresh_table P q h, fresh_tree P q, tt);
       }
 
   -- for a region: the variable owes a constraint, which is recorded
@@ -459,6 +476,11 @@ module _ (declared : ℕ → List Variance) (z : Bool) (c : Content) (s : Slot) 
               is = m.is;
               goals = tt;
             });
+        passes = λ P q h k. (
+          (let sides = owed_by_passes P z v r t (fresh_tree P q) k in let b = brings-with_constraint d x in b.labels P (q.variables) (fresh_table P q h) sides.0 sides.1),
+          fresh_tree P q,
+          tt,
+        );
       }
     where
       region_variable : (k : VariableKind) (n : ℕ) → k ≡ kind.Region → IsRegion (variable_tree k n)
@@ -485,6 +507,7 @@ module _ (declared : ℕ → List Variance) (z : Bool) (c : Content) (s : Slot) 
             let right : IsRegion (inst w t) = Fits-inst c w kind.Region t h.fitting knows region in
             let m = chosen_region J j.lawful w v t x h settled e right x' names formed y in
             record { extension = m.extension; is = m.is; goals = tt });
+        passes = λ P q h k. (fresh_table P q h, fresh_tree P q, tt);
       }
 
   module _ (u : ℕ) (of_u : s.universe ≡ u) where

@@ -5,6 +5,7 @@ mod Fixed
 mod Nodes
 mod Pairs
 mod Runs
+pub mod Passes
 mod Turns
 mod Leaves
 mod PartLemmas

@@ -26,6 +26,7 @@ use Rattle.nts_model.specs.Tables.SubUnifying.{linked, turned}
 use Rattle.nts_model.specs.Terms.Regions.{IsRegion}
 use Rattle.nts_model.specs.Derivations.Related.{IsAlias}
 use Rattle.nts_variance_model.specs.Variances.Relations.{ArePairsKnown}
+use Rattle.nts_variance_model.specs.Variances.Leaving.{IsErased}
 use Rattle.nts_variance_model.specs.Variances.Forms.{FitsForm}
 use Rattle.nts_model.proofs.Terms.Variables.{infer_label}
 use Rattle.nts_model.proofs.Tables.Slots.{field_below, field-with_slot_old, field-with_slot_new}
@@ -52,7 +53,7 @@ use Rattle.nts_relating.proofs.ValueTasks.{value_of}
 use Rattle.nts_relating.proofs.Naming.{lawful_sides}
 use Rattle.nts_variance.specs.declared.along.Relating.{Relating}
 use Rattle.nts_variance.specs.declared.vary_walk.Spot.{Spot}
-use Rattle.nts_variance.specs.Walking.{IsErased, IsMade}
+use Rattle.nts_variance.specs.Walking.{IsMade}
 use Rattle.nts_variance.specs.Counting.{IsCountedFor}
 use Rattle.nts_variance.specs.Parts.{has_parts, form_of_tree, parts_of, none_escapes, closed_alias, const_variable, number_of_type, StandsAlone}
 use Rattle.nts_variance.specs.Terms.{pairs_at, AreGoals, ArePairs, IsPart}

@@ -1,5 +1,7 @@
 -- Nodes that a walk enters by their parts, and builds again over what was made for these.
 use Rattle.std.proofs.Common.{◌≡◌, ℕ, zero, suc, ◌+◌, ◌*◌, ◌≤◌, ◌<◌, Bool, true, false, List, [], ◌∷◌, ◌++◌, map, length, Option, Some, refl, sym, ap, ◌∙◌, arith, subst, add-one}
+use Rattle.nts_model.specs.Tables.Passing.{TreePasses, TablePasses}
+use Rattle.nts_variance.proofs.Passes.{pass_joined, over_passes, over_parted, entering_passes, popped_passes, sides_pass}
 use Rattle.nts_model.specs.declared.labels.Variance.{Variance}
 use Rattle.nts_model.specs.declared.labels.Variance.TheVariants as variance
 use Rattle.nts_model.specs.declared.labels.AliasHead.{AliasHead}
@@ -530,6 +532,7 @@ module _ (declared : ℕ → List Variance) (z : Bool) (u : ℕ) where
               runs = subst (λ ys. StepsLead P Q ys (map g ss) whole) (sym (steps_node g (inst_rows w) F v ws q ts xs row)) all;
               goals = goals;
             });
+        passes = λ P p h a b k. (let x = over_parted P F ts a.0 in (h, entering_passes P v ws q ts (build F (row_length ts) ∷ xs) x.1 (x.0, a.1), b, k));
       }
 
   -- a node is built
@@ -561,12 +564,13 @@ module _ (declared : ℕ → List Variance) (z : Bool) (u : ℕ) where
               runs = subst (λ t. StepsLead P Q (steps_of g xs) (t ∷ map g ss) whole) (sym (inst_built w F rs sorts)) two;
               goals = goals;
             });
+        passes = λ P p h a b k. (let x = popped_passes P rs ss row b in (h, a.1, (over_passes P F rs a.0 x.0, x.1), k));
       }
 
   -- a variable gives way to its value, and is owed what was made for that
-  pub walk_value : (c : Content) (v : Variance) (t value : Tree) (xs : List WalkStep) (ss : List Tree) (gs : List Relating) → IsSound c → IsInfer t → IsClosed value → kind_of value ≡ kind_of t → ((w : World) → Solves c w → inst w t ≡ inst w value)
+  pub walk_value : (c : Content) (v : Variance) (t value : Tree) (xs : List WalkStep) (ss : List Tree) (gs : List Relating) → IsSound c → IsInfer t → IsClosed value → kind_of value ≡ kind_of t → ((w : World) → Solves c w → inst w t ≡ inst w value) → ((P : Label → Bool) → TablePasses P c → TreePasses P value)
       → Walks declared z u c c (enter v false t ∷ xs) (enter v true value ∷ owe v t ∷ xs) ss ss gs gs
-  walk_value c v t value xs ss gs sound infer closed kinds is =
+  walk_value c v t value xs ss gs sound infer closed kinds is labels =
       record {
         later = grown_refl c;
         continues = Continues-refl c sound;
@@ -593,12 +597,13 @@ module _ (declared : ℕ → List Variance) (z : Bool) (u : ℕ) where
               runs = entered (choice_value J u whole v false true (g t) (g value) x.made (is w h) x.fits) (owed f.settles x.runs);
               goals = goals;
             });
+        passes = λ P p h a b k. (h, (labels P h, (a.0, a.1)), b, k);
       }
 
   -- .. or gives way to its value alone, of which the same is said
   pub walk_value_on : (c : Content) (v : Variance) (q : Bool) (t value : Tree) (xs : List WalkStep) (ss : List Tree) (gs : List Relating) → IsSound c → Knows c t → Knows c value → IsInfer t → IsClosed value → kind_of value ≡ kind_of t → resolved c t ≡ resolved c value
-      → ((w : World) → Solves c w → inst w t ≡ inst w value) → Walks declared z u c c (enter v q t ∷ xs) (enter v q value ∷ xs) ss ss gs gs
-  walk_value_on c v q t value xs ss gs sound known known_value infer closed kinds same is =
+      → ((w : World) → Solves c w → inst w t ≡ inst w value) → ((P : Label → Bool) → TablePasses P c → TreePasses P value) → Walks declared z u c c (enter v q t ∷ xs) (enter v q value ∷ xs) ss ss gs gs
+  walk_value_on c v q t value xs ss gs sound known known_value infer closed kinds same is labels =
       record {
         later = grown_refl c;
         continues = Continues-refl c sound;
@@ -621,6 +626,7 @@ module _ (declared : ℕ → List Variance) (z : Bool) (u : ℕ) where
               runs = entered (choice_value J u whole v q q (g t) (g value) x.made (is w h) x.fits) x.runs;
               goals = goals;
             });
+        passes = λ P p h a b k. (h, (labels P h, a.1), b, k);
       }
 
   -- what is owed is left as a goal
@@ -643,4 +649,5 @@ module _ (declared : ℕ → List Variance) (z : Bool) (u : ℕ) where
               runs = x.runs;
               goals = settle_joined J j.lawful w gs (sides z v r t ∷ []) goals (settles_sides z J j.lawful w v r t x.fits, tt);
             });
+        passes = λ P p h a b k. (h, a.1, b, pass_joined P gs (sides z v r t ∷ []) k (sides_pass P z v r t b.0 a.0));
       }

@@ -6,8 +6,8 @@ use Rattle.nts_model.specs.Terms.Trees.{Tree}
 use Rattle.nts_unify.specs.Entries.{Entries}
 use Rattle.nts_unify.specs.Reading.{content_of}
 use Rattle.nts_variance.specs.declared.along.Relating.{Relating}
+use Rattle.nts_variance_model.specs.Variances.Leaving.{Refuses}
 use Rattle.nts_variance.specs.Terms.{pair_at}
-use Rattle.nts_variance.specs.Pairs.{Refuses}
 use Rattle.nts_variance.specs.Equating.{AreInvariant, ArePairsReady, IsOn, AreRefused, IsEqualStep, AreEquating, IsEqualRun}
 use Rattle.nts_variance.proofs.Calls.{call_refuses}
 

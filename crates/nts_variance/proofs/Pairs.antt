@@ -16,7 +16,7 @@ use Rattle.nts_model.specs.Derivations.Related.{region_constraint}
 use Rattle.nts_variance_model.specs.Variances.RelatingBy.{IsTrueIn}
 use Rattle.nts_variance_model.specs.Variances.Judging.{Judging, IsSettled, Settles, IsLawfulJudging, opposite}
 use Rattle.nts_variance_model.specs.Variances.Relations.{Relating, SettlesIn, AllSettleIn, ArePairsKnown, IsSettledWorld, SettledExtension, RefusesBy}
-use Rattle.nts_variance_model.specs.Variances.Leaving.{Judge, judging_of, LeavesBy}
+use Rattle.nts_variance_model.specs.Variances.Leaving.{Judge, judging_of, LeavesBy, Judges, Leaves, Refuses}
 use Rattle.nts_model.proofs.Tables.Slots.{field_below}
 use Rattle.nts_model.proofs.Tables.Instances.{Agrees-refl, Agrees-trans}
 use Rattle.nts_variance_model.proofs.Variances.Alongside.{opposite_twice}
@@ -24,8 +24,7 @@ use Rattle.nts_variance_model.proofs.Variances.SettleRows.{settles_turned}
 use Rattle.nts_variance_model.proofs.Variances.Generalizing.{settle_agrees, settle_joined, settle_parted}
 use Rattle.nts_variance_model.proofs.Variances.Tied.{settled_tied}
 use Rattle.nts_variance.specs.Steps.{WalkStep, enter, StepsLead, ended, entered, built, owed}
-use Rattle.nts_variance.specs.Walking.{Judges, IsChoice, sides, Walks}
-use Rattle.nts_variance.specs.Pairs.{Leaves, Refuses}
+use Rattle.nts_variance.specs.Walking.{IsChoice, sides, Walks}
 use Rattle.nts_variance.proofs.Turns.{judges_agree}
 
 trivially : (w : World) (v : Variance) (a : Tree) → IsTrueIn w (region_constraint v a a)

@@ -14,7 +14,7 @@ use Rattle.nts_model.specs.Tables.Worlds.{World, inst, Solves}
 use Rattle.nts_model.specs.Tables.Solvable.{IsSolvable}
 use Rattle.nts_variance_model.specs.Variances.Judging.{IsSettled, Settles}
 use Rattle.nts_variance_model.specs.Variances.Relations.{IsSettledWorld}
-use Rattle.nts_variance_model.specs.Variances.Leaving.{Judge, judging_of}
+use Rattle.nts_variance_model.specs.Variances.Leaving.{Judge, judging_of, Judges}
 use Rattle.nts_model.proofs.Tables.Slots.{Knows-kept}
 use Rattle.nts_model.proofs.Terms.Scoping.{listed_patched}
 use Rattle.nts_model.proofs.Tables.Resolved.{no_rank, rank_none, no_flag, flag_le}
@@ -37,7 +37,7 @@ use Rattle.nts_variance.specs.declared.vary_walk.Task.{Task}
 use Rattle.nts_variance.specs.declared.vary_walk.Task.TheVariants as task
 use Rattle.nts_variance.specs.declared.vary_walk.Spot.{Spot}
 use Rattle.nts_variance.specs.Steps.{enter, steps_of, stacked, builds, StepsLead, ended}
-use Rattle.nts_variance.specs.Walking.{Judges, IsMadeFor, MadeIn, NothingOwed, IsChoice, SettlesOwed, IsMade}
+use Rattle.nts_variance.specs.Walking.{IsMadeFor, MadeIn, NothingOwed, IsChoice, SettlesOwed, IsMade}
 use Rattle.nts_variance.specs.Parts.{StandsAlone}
 use Rattle.nts_variance.specs.Terms.{pairs_at, step_at}
 use Rattle.nts_variance.specs.Varying.{IsWalk, LookRefuses, WalkRefuses, IsVaried}
@@ -109,6 +109,7 @@ module _ (declared : ℕ → List Variance) (z : Bool) (u : ℕ) where
               is = (gen.sound e.world e.solves).1 ∙ inst-agrees c w e.world t e.agrees knows ∙ sym same;
               goals = tt;
             });
+        passes = λ P p h k. (let x = gen.labels P (p.variables) h k in (x.0, x.1, tt));
       }
 
 -- a part without variables has no values, and neither has a variable that leads to one without a value

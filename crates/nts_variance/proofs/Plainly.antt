@@ -1,5 +1,7 @@
 -- Two terms, or two lists of arguments, that were made equal, and in which no alias stands: what relating them invariantly leaves.
 use Rattle.std.proofs.Common.{◌≡◌, ◌⊎◌, inl, inr, ⊎_elim, ℕ, ◌+◌, false, List, [], ◌∷◌, Some, refl, sym, ap, ◌∙◌, subst, arith}
+use Rattle.nts_model.specs.Tables.Passing.{BringsLabelsOf}
+use Rattle.nts_variance.proofs.Passes.{rows_pass}
 use Rattle.nts_model.specs.declared.labels.Sort.{Sort}
 use Rattle.nts_model.specs.declared.labels.Variance.{Variance}
 use Rattle.nts_model.specs.declared.labels.Variance.TheVariants as variance
@@ -19,7 +21,7 @@ use Rattle.nts_model.specs.Tables.Alike.{Alike, one_tree, two_regions, one_label
 use Rattle.nts_variance_model.specs.Variances.Judging.{IsSettled, Settles}
 use Rattle.nts_variance_model.specs.Variances.Relations.{Relating, AllSettleIn, IsSettledWorld}
 use Rattle.nts_variance_model.specs.Variances.AnsweredGoals.{AllRelatedUnder}
-use Rattle.nts_variance_model.specs.Variances.Leaving.{Judge, judging_of}
+use Rattle.nts_variance_model.specs.Variances.Leaving.{Judge, judging_of, Leaves, Refuses}
 use Rattle.nts_variance_model.specs.Variances.Forms.{pairs_over}
 use Rattle.nts_model.proofs.Tables.Alike.{row_length-deeply_resolved}
 use Rattle.nts_model.proofs.Tables.Fitting.{region_label}
@@ -34,7 +36,6 @@ use Rattle.nts_terms.proofs.Standing.{args_tree}
 use Rattle.nts_unify.specs.Changing.{IsLater}
 use Rattle.nts_relating.specs.Relating.{IsPlainIn, KeepsPlain}
 use Rattle.nts_relating.proofs.Plain.{neither}
-use Rattle.nts_variance.specs.Pairs.{Leaves, Refuses}
 use Rattle.nts_variance.specs.Taking.{Takes}
 use Rattle.nts_variance.specs.Rows.{argument_pairs}
 use Rattle.nts_variance.proofs.Growing.{grown_later}
@@ -158,9 +159,9 @@ module _ (declared : ℕ → List Variance) where
             ));
       }
 
-  pub takes_plain : (c d : Content) (a b : Tree) (k : Sort) → IsSound c → IsSound d → IsSolvable d → IsLater c d → Knows c a → Knows c b → IsFormed b → kind_of b ≡ Some (of_sort k) → IsPlainIn c a → IsPlainIn c b → KeepsPlain c d → AreRelated c d a b → TiesNew c d
+  pub takes_plain : (c d : Content) (a b : Tree) (k : Sort) → IsSound c → IsSound d → IsSolvable d → IsLater c d → Knows c a → Knows c b → IsFormed b → kind_of b ≡ Some (of_sort k) → IsPlainIn c a → IsPlainIn c b → KeepsPlain c d → AreRelated c d a b → TiesNew c d → BringsLabelsOf c d a b
       → Takes declared c d (pair_of variance.Invariant a b ∷ []) [] []
-  takes_plain c d a b k first sound solvable later ka kb formed sorted pa pb kept made ties =
+  takes_plain c d a b k first sound solvable later ka kb formed sorted pa pb kept made ties brings =
       let la = Knows-kept c d a (kept_kinds c d made.continues) ka in
       let lb = Knows-kept c d b (kept_kinds c d made.continues) kb in
       record {
@@ -170,6 +171,7 @@ module _ (declared : ℕ → List Variance) where
         relates = record {
           related = λ f s on ks g h. (sides_related declared d f ks sound s on solvable false variance.Invariant a b la lb made.alike (kept.plain b kb pb) formed k sorted (inl refl), tt);
         };
+        passes = λ P p h i. (brings.labels P (p.variables) h i.0 i.1, tt, tt);
       }
 
   pub refuses_plain : (c : Content) (a b : Tree) → IsSound c → Knows c a → Knows c b → IsPlainIn c a → IsPlainIn c b → AreUnrelated c a b → Refuses declared c (pair_of variance.Invariant a b ∷ [])
@@ -197,8 +199,8 @@ module _ (declared : ℕ → List Variance) where
     takes : Takes declared c d (pairs_over variance.Invariant [] x y) [] []
 
   takes_list : (c d : Content) (x y : Tree) → IsSound c → IsSound d → IsSolvable d → IsLater c d → Knows c (node a_list x) → Knows c (node a_list y) → IsFormed (node a_list x) → IsFormed (node a_list y) → IsPlainIn c (node a_list x) → IsPlainIn c (node a_list y) → KeepsPlain c d
-      → AreRelated c d (node a_list x) (node a_list y) → TiesNew c d → TakesList c d x y
-  takes_list c d x y first sound solvable later ka kb fa fb pa pb kept made ties =
+      → AreRelated c d (node a_list x) (node a_list y) → TiesNew c d → BringsLabelsOf c d (node a_list x) (node a_list y) → TakesList c d x y
+  takes_list c d x y first sound solvable later ka kb fa fb pa pb kept made ties brings =
       let la = Knows-kept c d (node a_list x) (kept_kinds c d made.continues) ka in
       let lb = Knows-kept c d (node a_list y) (kept_kinds c d made.continues) kb in
       let ra = fitting_row x fa.0 in
@@ -213,6 +215,7 @@ module _ (declared : ℕ → List Variance) where
           leaves = made_leaves c d (node a_list x) (node a_list y) (pairs_over variance.Invariant [] x y) sound made ties
               (λ j w s settled h. ap (node a_list) (one_rows j c w x y first s settled ka.1 kb.1 (plain_row c x pa) (plain_row c y pb) ra rb long h));
           relates = record { related = λ f s on ks g h. rows_related d f ks x y sound s on solvable la.1 lb.1 al (plain_row d y (kept.plain (node a_list y) kb pb)) fb.1 fb.0 ra };
+          passes = λ P p h i. (let z = rows_pass P variance.Invariant [] x y ra rb long i in let list_passes = p.lists in (brings.labels P (p.variables) h (list_passes, z.0) (list_passes, z.1), tt, tt));
         };
       }
 
@@ -221,13 +224,13 @@ module _ (declared : ℕ → List Variance) where
     pub long : row_length (children a) ≡ row_length (children b)
     pub takes : Takes declared c d (argument_pairs a b) [] []
 
-  pub takes_plain_lists : (c d : Content) (a b : Tree) → IsSound c → IsSound d → IsSolvable d → IsLater c d → Knows c a → Knows c b → IsFormed a → IsFormed b → kind_of a ≡ Some arguments → kind_of b ≡ Some arguments → IsPlainIn c a → IsPlainIn c b → KeepsPlain c d → AreRelated c d a b → TiesNew c d
+  pub takes_plain_lists : (c d : Content) (a b : Tree) → IsSound c → IsSound d → IsSolvable d → IsLater c d → Knows c a → Knows c b → IsFormed a → IsFormed b → kind_of a ≡ Some arguments → kind_of b ≡ Some arguments → IsPlainIn c a → IsPlainIn c b → KeepsPlain c d → AreRelated c d a b → TiesNew c d → BringsLabelsOf c d a b
       → TakesArguments c d a b
-  takes_plain_lists c d a b first sound solvable later ka kb fa fb sa sb pa pb kept made ties =
+  takes_plain_lists c d a b first sound solvable later ka kb fa fb sa sb pa pb kept made ties brings =
       let ea = args_tree a sa in
       let eb = args_tree b sb in
       let both : AreRelated c d (node a_list (children a)) (node a_list (children b)) = subst (λ z. AreRelated c d z (node a_list (children b))) ea (subst (AreRelated c d a) eb made) in
-      let t = takes_list c d (children a) (children b) first sound solvable later (subst (Knows c) ea ka) (subst (Knows c) eb kb) (subst IsFormed ea fa) (subst IsFormed eb fb) (subst (IsPlainIn c) ea pa) (subst (IsPlainIn c) eb pb) kept both ties in
+      let t = takes_list c d (children a) (children b) first sound solvable later (subst (Knows c) ea ka) (subst (Knows c) eb kb) (subst IsFormed ea fa) (subst IsFormed eb fb) (subst (IsPlainIn c) ea pa) (subst (IsPlainIn c) eb pb) kept both ties (subst (λ z. BringsLabelsOf c d z (node a_list (children b))) ea (subst (BringsLabelsOf c d a) eb brings)) in
       record { long = t.long; takes = t.takes }
 
   refuses_list : (c : Content) (x y : Tree) → IsSound c → Knows c (node a_list x) → Knows c (node a_list y) → IsFormed (node a_list x) → IsFormed (node a_list y) → IsPlainIn c (node a_list x) → IsPlainIn c (node a_list y) → row_length x ≡ row_length y → AreUnrelated c (node a_list x) (node a_list y)

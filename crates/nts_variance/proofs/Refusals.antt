@@ -18,7 +18,7 @@ use Rattle.nts_model.specs.Terms.Regions.{RegionName, name_of_label, IsRegion}
 use Rattle.nts_model.specs.Tables.Worlds.{World, inst, Solves}
 use Rattle.nts_model.specs.Derivations.Related.{IsAlias}
 use Rattle.nts_variance_model.specs.Variances.Judging.{Judging, Settles, IsLawfulJudging, opposite}
-use Rattle.nts_variance_model.specs.Variances.Leaving.{judging_of}
+use Rattle.nts_variance_model.specs.Variances.Leaving.{judging_of, Refuses}
 use Rattle.nts_variance_model.specs.Variances.Forms.{Form, a_constructor, a_function, a_value, an_alias, over, FitsForm}
 use Rattle.nts_model.proofs.Tables.AliasLabels.{region_closed, region_kind}
 use Rattle.nts_model.proofs.Tables.Fitting.{region_label, Fits-inst, IsClosed-inst}
@@ -28,7 +28,6 @@ use Rattle.nts_unify.specs.Changing.{is_free_region}
 use Rattle.nts_relating.proofs.Naming.{alone_label}
 use Rattle.nts_relating.proofs.PairLemmas.{not_infer}
 use Rattle.nts_unify.proofs.NodeLemmas.{free_region}
-use Rattle.nts_variance.specs.Pairs.{Refuses}
 use Rattle.nts_store.specs.declared.nodes.NodeId.{NodeId}
 use Rattle.nts_store.specs.Growth.{tree_at}
 use Rattle.nts_variance.specs.declared.along.Relating.{Relating as Goal}

@@ -7,12 +7,11 @@ use Rattle.nts_model.specs.Terms.Trees.{Tree, variable_tree}
 use Rattle.nts_model.specs.Tables.Contents.{Content, universe_of, kind_at}
 use Rattle.nts_model.specs.Tables.Levels.{NamesAll, IfNamesAll, term_level}
 use Rattle.nts_model.specs.Tables.Worlds.{inst, IsNameable}
-use Rattle.nts_variance_model.specs.Variances.Leaving.{judging_of}
+use Rattle.nts_variance_model.specs.Variances.Leaving.{judging_of, Refuses}
 use Rattle.nts_model.proofs.Tables.Slots.{field_below}
 use Rattle.nts_variance.specs.Steps.{enter, entered, ended}
 use Rattle.nts_variance.specs.Walking.{IsChoice, sides}
 use Rattle.nts_variance.specs.Varying.{WalkRefuses}
-use Rattle.nts_variance.specs.Pairs.{Refuses}
 use Rattle.nts_variance.proofs.Pairs.{sides_settle}
 
 pub walk_refuses_pair : (declared : ℕ → List Variance) (z : Bool) (u x : ℕ) (c : Content) (k : VariableKind) (v : Variance) (t : Tree) → WalkRefuses declared u x c (enter v false t ∷ []) [] [] → universe_of c x ≡ Some u → kind_at c x ≡ Some k

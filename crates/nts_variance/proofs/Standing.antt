@@ -11,7 +11,7 @@ use Rattle.nts_model.specs.Lists.{Among}
 use Rattle.nts_model.specs.Derivations.Proving.{recorded_as}
 use Rattle.nts_variance_model.specs.Variances.Judging.{Judging, Settles}
 use Rattle.nts_variance_model.specs.Variances.Relations.{Relating as Pair}
-use Rattle.nts_variance_model.specs.Variances.Leaving.{judging_of}
+use Rattle.nts_variance_model.specs.Variances.Leaving.{judging_of, Refuses}
 use Rattle.nts_model.proofs.Tables.Held.{AreOne-continues}
 use Rattle.nts_model.proofs.Tables.Kept.{kind_of-resolved}
 use Rattle.nts_store.specs.declared.nodes.NodeId.{NodeId}
@@ -24,7 +24,6 @@ use Rattle.nts_relating.specs.Relating.{IsHeadOfTree}
 use Rattle.nts_variance.specs.declared.along.Relating.{Relating}
 use Rattle.nts_variance.specs.Steps.{stacked}
 use Rattle.nts_variance.specs.Terms.{pair_at, pairs_at}
-use Rattle.nts_variance.specs.Pairs.{Refuses}
 use Rattle.nts_variance.specs.Taking.{IsPairSide, IsPair, Sense, HoldsIn, size_in, Counts, IsUnderway, IsCall}
 use Rattle.nts_variance.specs.Equating.{StandsFor, node_in, IsAt, ArePairHeads}
 use Rattle.nts_variance.proofs.Calls.{pairs_front}
@@ -42,14 +41,14 @@ pub record IsHeadOf (ts : List Tree) (e : Entries) (t v : NodeId) (h : Head) : T
   pub here : IsAt ts e v h
 
 head_of_side : (ts : List Tree) (e : Entries) (t : NodeId) (h : Head) → IsLawful ts e → IsPairSide ts (content_of ts e) t → IsHeadOfTree ts e (tree_at ts t) h → IsHeadOf ts e t (node_in h t) h
-head_of_side ts e t (Open n) lawful side o = record { side = side; stands = record { same = refl; worlds = λ w s. refl }; here = o }
+head_of_side ts e t (Open n) lawful side o = record { side = side; stands = record { same = refl; labels = λ P h k. k; worlds = λ w s. refl }; here = o }
 head_of_side ts e t (Closed v) lawful side o =
     let c = content_of ts e in
     let sound = lawful.sound in
     let kinds : kind_of (tree_at ts v) ≡ kind_of (tree_at ts t) = sym (kind_of-resolved c (tree_at ts v) sound o.1.knows) ∙ ap kind_of (sym o.1.same) ∙ kind_of-resolved c (tree_at ts t) sound side.knows in
     record {
       side = record { within = o.0; knows = o.1.knows; sort = side.sort; kind = kinds ∙ side.kind };
-      stands = record { same = o.1.same; worlds = o.1.worlds };
+      stands = record { same = o.1.same; labels = o.1.labels; worlds = o.1.worlds };
       here = o.1.no_variable;
     }
 
@@ -92,6 +91,7 @@ module _ (declared : ℕ → List Variance) where
         };
         sound = λ w n h. u.sound w n (back w n h.0, h.1);
         meets = λ w n q i h. u.meets w n q i ((λ l. back w n (h.0 (subst (λ t. size t < size_in declared w q) (left_one w n) l))), h.1);
+        passes = λ P o h k. (let q = u.passes P o h k in let first = q.1 in (q.0, (sa.labels P q.0 first.0, sb.labels P q.0 first.1, first.2), q.2, q.3));
       }
     where
       left_one : (w : Sense) → Counts declared d es gs w → deeply_resolved w.table a ≡ deeply_resolved w.table x

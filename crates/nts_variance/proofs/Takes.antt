@@ -1,6 +1,11 @@
 -- Rows of taking pairs: what each leaves.
 use Rattle.std.proofs.Common.{◌≡◌, ◌⊎◌, inl, ⊎_elim, ℕ, Bool, true, false, List, [], ◌∷◌, Some, refl, sym, subst}
 use Rattle.std.proofs.lemmas.List.Elements.{Contains-push}
+use Rattle.nts_variance.specs.Passing.{PairsPass}
+use Rattle.nts_model.proofs.Tables.Bringing.{brings-with_constraint}
+use Rattle.nts_model.specs.Tables.Passing.{TreePasses, BringsLabelsOf}
+use Rattle.nts_model.specs.declared.labels.Label.{Label}
+use Rattle.nts_variance.proofs.Passes.{owed_passes, over_parted, pairs_pass}
 use Rattle.nts_model.specs.declared.labels.Sort.{Sort}
 use Rattle.nts_model.specs.declared.labels.Variance.{Variance}
 use Rattle.nts_model.specs.declared.labels.Variance.TheVariants as variance
@@ -21,7 +26,7 @@ use Rattle.nts_model.specs.Derivations.Proving.{recorded_as}
 use Rattle.nts_variance_model.specs.Variances.Judging.{IsSettled, Settles, opposite}
 use Rattle.nts_variance_model.specs.Variances.Relations.{Relating, AllSettleIn, IsSettledWorld}
 use Rattle.nts_variance_model.specs.Variances.AnsweredGoals.{AllRelatedUnder}
-use Rattle.nts_variance_model.specs.Variances.Leaving.{Judge, judging_of}
+use Rattle.nts_variance_model.specs.Variances.Leaving.{Judge, judging_of, Leaves, Refuses}
 use Rattle.nts_variance_model.specs.Variances.Forms.{Form, over, variances_over, FitsForm, pairs_over}
 use Rattle.nts_model.proofs.Tables.Alike.{AreAlike-turned}
 use Rattle.nts_model.proofs.Tables.AliasLabels.{region_closed}
@@ -41,7 +46,7 @@ use Rattle.nts_unify.proofs.Keeping.{KeepsKnowing-with_constraint}
 use Rattle.nts_variance.specs.Walking.{RelatedSides, sides}
 use Rattle.nts_variance.specs.declared.along.Relating.{Relating as Goal}
 use Rattle.nts_variance.specs.Terms.{pairs_at}
-use Rattle.nts_variance.specs.Pairs.{Leaves, Refuses, IsBound}
+use Rattle.nts_variance.specs.Pairs.{IsBound}
 use Rattle.nts_variance.specs.Taking.{Takes}
 use Rattle.nts_variance.proofs.Growing.{grown_refl, grown_later}
 use Rattle.nts_variance.proofs.Leaves.{inst_settled, kept_kinds, owed_seen, owed_related}
@@ -70,6 +75,7 @@ module _ (declared : ℕ → List Variance) where
         relates = record {
           related = λ f s on ks g h. (subst (Related declared (λ t. Unit {0}) (λ x. HoldsConstraint f (recorded_as x)) (Among ks) v (deeply_resolved f a)) (one f on) (one_tree tt), tt);
         };
+        passes = λ P p h k. (h, tt, tt);
       }
 
   pub takes_class : (c : Content) (v : Variance) (a b : Tree) → IsSound c → Knows c a → Knows c b → AreOne c a b → Takes declared c c (pair_of v a b ∷ []) [] []
@@ -86,6 +92,7 @@ module _ (declared : ℕ → List Variance) where
         leaves = leaves_by declared c (with_constraint c x) (pair_of v a b ∷ []) [] []
             (λ q. leaves_regions (judging_of declared q) q.lawful c v a b (λ w s. Fits-inst c w kind.Region a s.fitting ka i) (λ w s. Fits-inst c w kind.Region b s.fitting kb j));
         relates = record { related = λ f s on ks g h. (owed_related declared f ks v a b s i j (on.constraints x (Contains-push c.constraints x)), tt) };
+        passes = λ P p h k. ((let sides = owed_passes P v a b k.0 k.1 in let y = brings-with_constraint c x in y.labels P (p.variables) h sides.0 sides.1), tt, tt);
       }
 
   -- two nodes of one form
@@ -98,6 +105,7 @@ module _ (declared : ℕ → List Variance) where
         leaves = leaves_by declared c c (pair_of v (over F ts) (over F us) ∷ []) (pairs_over v (variances_over declared F us) ts us) []
             (λ j. leaves_over (judging_of declared j) j.lawful c v F ts us r q e f g k l m n);
         relates = relates_over declared c v F ts us r q e f g k l m n;
+        passes = λ P p h i. (let x = over_parted P F ts i.0 in let y = over_parted P F us i.1 in (h, pairs_pass P v (variances_over declared F us) ts us x.1 y.1, tt));
       }
 
   -- two trees that were made equal: no alias is in them, nor in the values of one of them
@@ -117,8 +125,8 @@ module _ (declared : ℕ → List Variance) where
       }
 
   pub takes_equal : (c d : Content) (a b : Tree) (i k : Sort) → IsSound d → IsSolvable d → IsLater c d → Knows c a → Knows c b → IsFormed a → IsFormed b → kind_of a ≡ Some (of_sort i) → kind_of b ≡ Some (of_sort k) → any_label is_alias a ≡ false → any_label is_alias b ≡ false
-      → (any_label is_infer a ≡ false) ⊎ (any_label is_infer b ≡ false) → AreRelated c d a b → TiesNew c d → Takes declared c d (pair_of variance.Invariant a b ∷ []) [] []
-  takes_equal c d a b i k sound solvable later ka kb fa fb sa sb pa pb values made ties =
+      → (any_label is_infer a ≡ false) ⊎ (any_label is_infer b ≡ false) → AreRelated c d a b → TiesNew c d → BringsLabelsOf c d a b → Takes declared c d (pair_of variance.Invariant a b ∷ []) [] []
+  takes_equal c d a b i k sound solvable later ka kb fa fb sa sb pa pb values made ties brings =
       let la = Knows-kept c d a (kept_kinds c d made.continues) ka in
       let lb = Knows-kept c d b (kept_kinds c d made.continues) kb in
       record {
@@ -133,6 +141,7 @@ module _ (declared : ℕ → List Variance) where
             tt,
           );
         };
+        passes = λ P p h i. (brings.labels P (p.variables) h i.0 i.1, tt, tt);
       }
 
   pub refuses_equal : (c : Content) (a b : Tree) → Knows c a → Knows c b → any_label is_alias a ≡ false → any_label is_alias b ≡ false → AreUnrelated c a b → Refuses declared c (pair_of variance.Invariant a b ∷ [])
@@ -157,6 +166,10 @@ module _ (declared : ℕ → List Variance) where
   sides_under false f ks v x t h = (h, tt)
   sides_under true f ks v x t h = (h, tt)
 
+  side_term : (z : Bool) (v : Variance) (r t : Tree) (P : Label → Bool) → PairsPass P (sides z v r t ∷ []) → TreePasses P t
+  side_term false v r t P h = h.1
+  side_term true v r t P h = h.0
+
   pub takes_bound : (z : Bool) (ts us : List Tree) (e f : Entries) (v : Variance) (k : VariableKind) (x : ℕ) (o : Tree) (t : NodeId) (gs : List Goal) → IsBound declared z ts us e f v k x t gs → IsSound (content_of ts e) → Knows (content_of ts e) o → kind_at (content_of ts e) x ≡ Some k
       → AreOne (content_of ts e) o (variable_tree k x) → ((w : World) → Solves (content_of ts e) w → inst w o ≡ inst w (variable_tree k x)) → Takes declared (content_of ts e) (content_of us f) (sides z v o (tree_at ts t) ∷ []) [] (pairs_at us gs)
   takes_bound z ts us e f v k x o t gs b sound knows has one same =
@@ -173,4 +186,5 @@ module _ (declared : ℕ → List Variance) where
               (let there = AreOne-continues c g o own (Continues-trans c d g sound b.continues on) knows ((has, tt, refl), tt, tt) one in
               sides_under z g ks v o term (subst (λ y. RelatedSides z declared g ks v y (deeply_resolved g term)) (sym there) (b.related g s on ks answered)));
         };
+        passes = λ P p h i. (let y = b.passes P p h (side_term z v o term P i) in (y.0, tt, y.1));
       }

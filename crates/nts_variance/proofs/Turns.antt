@@ -1,5 +1,6 @@
 -- Steps of the walk, one after another.
 use Rattle.std.proofs.Common.{◌≡◌, ℕ, ◌≤◌, Bool, List, [], ◌∷◌, ◌++◌, map, length, Option, refl, sym, ap, ◌∙◌, subst}
+use Rattle.nts_variance.proofs.Passes.{pass_joined}
 use Rattle.nts_model.specs.declared.labels.Variance.{Variance}
 use Rattle.nts_model.specs.declared.labels.Label.{Label}
 use Rattle.nts_model.specs.declared.labels.Leaf.TheVariants as leaf
@@ -13,13 +14,13 @@ use Rattle.nts_model.specs.Tables.Worlds.{World, inst, Agrees}
 use Rattle.nts_variance_model.specs.Variances.Judging.{Judging}
 use Rattle.nts_variance_model.specs.Variances.Relations.{Relating, ArePairsKnown, SettledExtension}
 use Rattle.nts_variance_model.specs.Variances.AnsweredGoals.{AllAnswered}
-use Rattle.nts_variance_model.specs.Variances.Leaving.{Judge, judging_of}
+use Rattle.nts_variance_model.specs.Variances.Leaving.{Judge, judging_of, Judges}
 use Rattle.nts_model.proofs.Tables.Instances.{Agrees-refl, Agrees-trans, inst-agrees}
 use Rattle.nts_model.proofs.Tables.Held.{Continues-refl, Continues-trans}
 use Rattle.nts_variance_model.proofs.Variances.Generalizing.{judged_agrees, settle_agrees, settle_joined}
 use Rattle.nts_variance.proofs.Growing.{grown_refl, grown_trans}
 use Rattle.nts_variance.specs.Steps.{WalkStep, enter, build, owe, step_of, steps_of, entered}
-use Rattle.nts_variance.specs.Walking.{Judges, IsChoice, SettlesOwed, KnowsStep, KnowsSteps, KnowsTrees, Walks, IsMade}
+use Rattle.nts_variance.specs.Walking.{IsChoice, SettlesOwed, KnowsStep, KnowsSteps, KnowsTrees, Walks, IsMade}
 use Rattle.nts_variance.proofs.Runs.{unentered}
 
 -- worlds that agree on a table's variables see its trees alike
@@ -74,6 +75,7 @@ module _ (declared : ℕ → List Variance) (z : Bool) (u : ℕ) where
           runs = runs;
           goals = goals;
         };
+        passes = λ P q h a b k. (h, a, b, k);
       }
 
   pub walks_then : (c d e : Content) (xs ys zs : List WalkStep) (ss rs qs : List Tree) (gs hs is : List Relating) → IsSound c → IsSound d
@@ -104,6 +106,7 @@ module _ (declared : ℕ → List Variance) (z : Bool) (u : ℕ) where
               runs = y.runs;
               goals = y.goals;
             });
+        passes = λ P q h i j k. (let x = a.passes P q h i j k in b.passes P q x.0 x.1 x.2 x.3);
       }
 
   -- a part for which a tree was made at once
@@ -131,4 +134,5 @@ module _ (declared : ℕ → List Variance) (z : Bool) (u : ℕ) where
               runs = rw (one, two, three) x.runs;
               goals = settle_joined J j.lawful e.world gs new (settle_agrees J j.lawful c w e.world gs e.agrees kg goals) y.goals;
             });
+        passes = λ P p h a b k. (let x = m.passes P p h a.0 in (x.0, a.1, (x.1, b), pass_joined P gs new k x.2));
       }

@@ -1,5 +1,6 @@
 -- A call of relating under way: pairs that are taken, and those that were met before and are passed over.
 use Rattle.std.proofs.Common.{ℕ, false, List, [], ◌∷◌, ◌++◌}
+use Rattle.nts_variance.proofs.Passes.{pass_joined, pass_parted}
 use Rattle.nts_model.specs.declared.labels.Variance.{Variance}
 use Rattle.nts_model.specs.Tables.Contents.{Content}
 use Rattle.nts_model.specs.Terms.Trees.{Tree}
@@ -9,12 +10,11 @@ use Rattle.nts_model.specs.Tables.Holding.{Continues}
 use Rattle.nts_model.specs.Lists.{Among}
 use Rattle.nts_variance_model.specs.Variances.Relations.{Relating, AllSettleIn, ArePairsKnown}
 use Rattle.nts_variance_model.specs.Variances.AnsweredGoals.{AllRelatedUnder}
-use Rattle.nts_variance_model.specs.Variances.Leaving.{Judge, judging_of}
+use Rattle.nts_variance_model.specs.Variances.Leaving.{Judge, judging_of, Leaves, Refuses}
 use Rattle.nts_variance_model.proofs.Variances.Generalizing.{settle_joined, settle_parted}
 use Rattle.nts_model.proofs.Tables.Held.{Continues-refl, Continues-trans}
 use Rattle.nts_variance_model.proofs.Variances.Leaving.{leaves_goal}
 use Rattle.nts_variance_model.proofs.Variances.Meeting.{All, AllBelow, AreSmaller, AreMet, met_taken, met_again, met_passed}
-use Rattle.nts_variance.specs.Pairs.{Leaves, Refuses}
 use Rattle.nts_variance.specs.Taking.{Takes, Sense, HoldsIn, AllHoldIn, size_in, HoldBelow, Counts, IsUnderway}
 use Rattle.nts_variance.proofs.Growing.{grown_refl, grown_trans}
 use Rattle.nts_variance.proofs.Nodes.{answered_sides}
@@ -90,6 +90,7 @@ module _ (declared : ℕ → List Variance) where
         leaves = Leaves-none declared c (p ∷ []);
         sound = λ w v h. h.0;
         meets = λ w v q i h. absurd i;
+        passes = λ P q h k. (h, k, tt, tt);
       }
 
   pub underway_end : (c d : Content) (p : Relating) (es gs met : List Relating) → IsUnderway declared c d p [] es gs met → Takes declared c d (p ∷ []) es gs
@@ -99,6 +100,7 @@ module _ (declared : ℕ → List Variance) where
         continues = u.continues;
         leaves = u.leaves;
         relates = record { related = λ f s on ks g h. (u.sound (record { table = f; answers = ks }) (record { sound = s; continues = on; answered = g; equal = h }) tt, tt) };
+        passes = λ P q h k. (let x = u.passes P q h k in (x.0, x.2, x.3));
       }
 
   -- a pair that is taken: what it leaves is smaller, and it is met from now on
@@ -115,6 +117,12 @@ module _ (declared : ℕ → List Variance) where
         meets = λ w v x i h.
             (let all = met_taken Size Holds (Counts declared d es gs) (Counts declared e (es ++ os) (gs ++ hs)) met ns left q older (λ w v. smaller w v.sound v.continues) holds (are_met c d p (q ∷ left) es gs met u) in
             all.each w v x i (to_below w (Size w x) (ns ++ left) h));
+        passes = λ P o h k.
+            (let x = u.passes P o h k in
+            let first = x.1 in
+            let y = t.passes P o x.0 (first.0, first.1, tt) in
+            let new = pass_parted P ns os y.1 in
+            (y.0, pass_joined P ns left new.0 first.2, pass_joined P es os x.2 new.1, pass_joined P gs hs x.3 y.2));
       }
     where
       older : (w : Sense) → Counts declared e (es ++ os) (gs ++ hs) w → Counts declared d es gs w
@@ -136,7 +144,7 @@ module _ (declared : ℕ → List Variance) where
   -- pairs that were met may be forgotten
   pub underway_fewer : (c d : Content) (p : Relating) (left es gs met rest : List Relating) → ((q : Relating) → Among rest q → Among met q) → IsUnderway declared c d p left es gs met → IsUnderway declared c d p left es gs rest
   underway_fewer c d p left es gs met rest fewer u =
-      record { later = u.later; continues = u.continues; leaves = u.leaves; sound = u.sound; meets = λ w v q i h. u.meets w v q (fewer q i) h }
+      record { later = u.later; continues = u.continues; leaves = u.leaves; sound = u.sound; meets = λ w v q i h. u.meets w v q (fewer q i) h; passes = u.passes }
 
   -- a pair that was met before is passed over
   pub underway_passed : (c d : Content) (p q : Relating) (left es gs met : List Relating) → Among met q → IsUnderway declared c d p (q ∷ left) es gs met → IsUnderway declared c d p left es gs met
@@ -148,6 +156,7 @@ module _ (declared : ℕ → List Variance) where
         leaves = Leaves-to c d (p ∷ []) (q ∷ (left ++ es)) (left ++ es) gs (λ j w h. h.1) u.leaves;
         sound = λ w v h. u.sound w v (met_again Size Holds (Counts declared d es gs) met left q i are w v (to_all w left h), h);
         meets = λ w v x k h. (let passed = met_passed Size Holds (Counts declared d es gs) met left q i are in passed.each w v x k (to_below w (Size w x) left h));
+        passes = λ P o h k. (let x = u.passes P o h k in let first = x.1 in (x.0, first.2, x.2, x.3));
       }
 
   -- no solution relates one that is left
@@ -156,7 +165,7 @@ module _ (declared : ℕ → List Variance) where
 
   -- a pair that is left, and one that becomes a goal
   pub takes_left : (c : Content) (q : Relating) → IsSound c → Takes declared c c (q ∷ []) (q ∷ []) []
-  takes_left c q sound = record { later = grown_refl c; continues = Continues-refl c sound; leaves = Leaves-none declared c (q ∷ []); relates = record { related = λ f s on ks g h. h } }
+  takes_left c q sound = record { later = grown_refl c; continues = Continues-refl c sound; leaves = Leaves-none declared c (q ∷ []); relates = record { related = λ f s on ks g h. h }; passes = λ P p h i. (h, i, tt) }
 
   pub takes_owed : (c : Content) (q : Relating) → IsSound c → Takes declared c c (q ∷ []) [] (q ∷ [])
   takes_owed c q sound =
@@ -165,6 +174,7 @@ module _ (declared : ℕ → List Variance) where
         continues = Continues-refl c sound;
         leaves = leaves_by declared c c (q ∷ []) [] (q ∷ []) (λ j. leaves_goal (judging_of declared j) j.lawful c q);
         relates = record { related = λ f s on ks g h. (answered_sides declared false f ks q.variance q.left q.right g.0, tt) };
+        passes = λ P p h i. (h, tt, i);
       }
 
   -- what was left for later is taken after all, where no pair was met
@@ -184,6 +194,7 @@ module _ (declared : ℕ → List Variance) where
         leaves = Leaves-to c d (p ∷ []) (left ++ (es ++ q ∷ [])) ((q ∷ left) ++ es) gs (sorted_back q left es) u.leaves;
         sound = λ w v h. u.sound w (record { sound = v.sound; continues = v.continues; answered = v.answered; equal = related_joined w.table w.answers es (q ∷ []) v.equal (h.0, tt) }) h.1;
         meets = λ w v x i h. absurd i;
+        passes = λ P o h k. (let x = u.passes P o h k in let parts = pass_parted P es (q ∷ []) x.2 in let last = parts.1 in (x.0, (last.0, last.1, x.1), parts.0, x.3));
       }
 
   -- all that a call left is for later
@@ -195,4 +206,5 @@ module _ (declared : ℕ → List Variance) where
         leaves = t.leaves;
         sound = λ w v h. (t.relates.related w.table v.sound v.continues w.answers v.answered v.equal).0;
         meets = λ w v x i h. absurd i;
+        passes = λ P o h k. (let x = t.passes P o h k in (x.0, tt, x.1, x.2));
       }

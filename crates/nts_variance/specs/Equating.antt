@@ -1,5 +1,7 @@
 -- Pairs that are made equal: their heads under the table, and what taking them leaves.
 use Rattle.std.specs.Prelude.{◌≡◌, ◌⊎◌, ℕ, ◌+◌, ◌<◌, ◌≤◌, Bool, true, false, List, [], ◌∷◌, ◌++◌}
+use Rattle.nts_model.specs.declared.labels.Label.{Label}
+use Rattle.nts_model.specs.Tables.Passing.{TreePasses, TablePasses}
 use Rattle.nts_model.specs.declared.labels.Variance.{Variance}
 use Rattle.nts_model.specs.declared.labels.Variance.TheVariants as variance
 use Rattle.nts_model.specs.Terms.Trees.{Tree, size}
@@ -7,6 +9,7 @@ use Rattle.nts_model.specs.Tables.Contents.{Content}
 use Rattle.nts_model.specs.Tables.Resolving.{IsInfer, resolved, deeply_resolved}
 use Rattle.nts_model.specs.Tables.Worlds.{World, inst, Solves}
 use Rattle.nts_variance_model.specs.Variances.Relations.{Relating as Pair}
+use Rattle.nts_variance_model.specs.Variances.Leaving.{Refuses}
 use Rattle.nts_model.specs.Tables.Measuring.{closed_aliases}
 use Rattle.nts_model.specs.Derivations.Related.{IsAlias}
 use Rattle.nts_store.specs.declared.nodes.NodeId.{NodeId}
@@ -25,12 +28,12 @@ use Rattle.nts_variance.specs.Steps.{stacked}
 use Rattle.nts_variance.specs.Parts.{IsAlone}
 use Rattle.nts_variance.specs.Terms.{pair_at, pairs_at, AreGoals, ArePairs}
 use Rattle.nts_variance.specs.Due.{AreGoalsOfAliases, LeavesDue}
-use Rattle.nts_variance.specs.Pairs.{Refuses}
 use Rattle.nts_variance.specs.Taking.{Takes, IsPair, ArePairsLeft, IsCall}
 
 -- under the table, and in each world that solves it, one tree stands for the other
 pub record StandsFor (c : Content) (a b : Tree) : Type 0 where
   pub same : resolved c a ≡ resolved c b
+  pub labels : (P : Label → Bool) → TablePasses P c → TreePasses P a → TreePasses P b
   pub worlds : (w : World) → Solves c w → inst w a ≡ inst w b
 
 -- the node of a head

@@ -1,5 +1,6 @@
 pub mod Pairs
 pub mod Steps
+pub mod Passing
 pub mod Walking
 pub mod Parts
 pub mod Terms

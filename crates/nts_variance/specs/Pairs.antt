@@ -5,9 +5,9 @@ use Rattle.nts_model.specs.declared.labels.VariableKind.{VariableKind}
 use Rattle.nts_model.specs.declared.labels.Variance.{Variance}
 use Rattle.nts_model.specs.declared.labels.Variance.TheVariants as variance
 use Rattle.nts_model.specs.Tables.Contents.{Content}
-use Rattle.nts_model.specs.Tables.Worlds.{World, Solves}
-use Rattle.nts_variance_model.specs.Variances.Relations.{Relating, AllSettleIn, IsSettledWorld, SettledExtension}
-use Rattle.nts_variance_model.specs.Variances.Leaving.{Judge, judging_of}
+use Rattle.nts_model.specs.declared.labels.Label.{Label}
+use Rattle.nts_model.specs.Tables.Passing.{TreePasses, TablePasses}
+use Rattle.nts_variance_model.specs.Variances.Leaving.{Leaves}
 use Rattle.nts_model.specs.Tables.Resolving.{resolved, deeply_resolved, Knows, IsSound}
 use Rattle.nts_model.specs.Tables.Measuring.{closed_aliases}
 use Rattle.nts_model.specs.Tables.Holding.{Continues}
@@ -18,21 +18,10 @@ use Rattle.nts_unify.specs.Entries.{Entries}
 use Rattle.nts_unify.specs.Reading.{content_of, IsLawful}
 use Rattle.nts_unify.specs.Changing.{unset_count}
 use Rattle.nts_variance.specs.declared.along.Relating.{Relating as Goal}
-use Rattle.nts_variance.specs.Walking.{Judges, IsTableGrown, IsMadeFor, RelatedSides, sides}
+use Rattle.nts_variance.specs.Walking.{IsTableGrown, IsMadeFor, RelatedSides, sides}
 use Rattle.nts_variance.specs.Terms.{pairs_at, AreGoals, ArePairs}
 use Rattle.nts_variance.specs.Due.{IsUnvalued, AreGoalsDue}
-
--- relating the pairs ps in the first table leaves the pairs qs and the goals gs in the second: each of its solutions solves the
--- first, and each settled solution of the first in which the pairs settle extends to one of the second in which what is left settles
-pub record Leaves (declared : ℕ → List Variance) (c d : Content) (ps qs gs : List Relating) : Type 0 where
-  pub more : length c.slots ≤ length d.slots
-  pub back : (w : World) → Solves d w → Solves c w
-  pub complete : (j : Judge declared) (w : World) → Solves c w → Judges declared j w → IsSettledWorld (judging_of declared j) c w → AllSettleIn (judging_of declared j) w ps
-      → (e : SettledExtension (judging_of declared j) c d w (λ f. Unit {0})) × AllSettleIn (judging_of declared j) e.world qs × AllSettleIn (judging_of declared j) e.world gs
-
--- no settled solution of the table relates the pairs
-pub record Refuses (declared : ℕ → List Variance) (c : Content) (ps : List Relating) : Type 0 where
-  pub none : (j : Judge declared) (w : World) → Solves c w → Judges declared j w → IsSettledWorld (judging_of declared j) c w → AllSettleIn (judging_of declared j) w ps → ⊥
+use Rattle.nts_variance.specs.Passing.{PassesRows, PairsPass}
 
 -- the variable x was made one with a tree that may be made for the term, which is no variable where the term is neither a variable
 -- nor a closed alias, and the goals are left: under each later table in which these are answered the two are related. Invariantly
@@ -52,3 +41,4 @@ pub record IsBound (declared : ℕ → List Variance) (z : Bool) (ts us : List T
   pub fewer : v ≡ variance.Invariant → unset_count (content_of us f).slots < unset_count (content_of ts e).slots + closed_aliases (resolved (content_of ts e) (tree_at ts t))
   pub aliases : v ≡ variance.Invariant → (a : Tree) → Knows (content_of ts e) a → closed_aliases (resolved (content_of us f) a) ≡ closed_aliases (resolved (content_of ts e) a)
   pub due : (b : Content) → length b.slots ≤ length (content_of ts e).slots → IsUnvalued b v (tree_at ts t) → AreGoalsDue b (content_of us f) (pairs_at us gs)
+  pub passes : (P : Label → Bool) → PassesRows P → TablePasses P (content_of ts e) → TreePasses P (tree_at ts t) → TablePasses P (content_of us f) × PairsPass P (pairs_at us gs)

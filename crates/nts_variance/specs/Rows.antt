@@ -6,6 +6,7 @@ use Rattle.nts_model.specs.Terms.Trees.{Tree, children, row_length, kind_of, arg
 use Rattle.nts_model.specs.Tables.Contents.{Content}
 use Rattle.nts_model.specs.Tables.Resolving.{Knows}
 use Rattle.nts_variance_model.specs.Variances.Forms.{pairs_over}
+use Rattle.nts_variance_model.specs.Variances.Leaving.{Refuses}
 use Rattle.nts_variance_model.specs.Variances.Relations.{Relating as Pair}
 use Rattle.nts_store.specs.declared.nodes.NodeId.{NodeId}
 use Rattle.nts_store.specs.Growth.{tree_at, IsIn}
@@ -15,7 +16,6 @@ use Rattle.nts_unify.specs.Knowing.{row_from}
 use Rattle.nts_variance.specs.declared.along.Relating.{Relating}
 use Rattle.nts_variance.specs.Terms.{pairs_at, AreGoals, ArePairs}
 use Rattle.nts_variance.specs.Due.{AreGoalsOfAliases}
-use Rattle.nts_variance.specs.Pairs.{Refuses}
 use Rattle.nts_variance.specs.Taking.{Takes}
 
 -- a list of arguments of the store and the table

@@ -1,5 +1,5 @@
 -- Pairs that are taken one by one: what each leaves in the table, and what a call of relating leaves in the end.
-use Rattle.std.specs.Prelude.{◌≡◌, ℕ, ◌+◌, ◌<◌, ◌≤◌, length, List, [], ◌∷◌, ◌++◌, Option, Some, None, ◌⊎◌}
+use Rattle.std.specs.Prelude.{Bool, ◌≡◌, ℕ, ◌+◌, ◌<◌, ◌≤◌, length, List, [], ◌∷◌, ◌++◌, Option, Some, None, ◌⊎◌}
 use Rattle.nts_model.specs.declared.labels.Sort.{Sort}
 use Rattle.nts_model.specs.declared.labels.Variance.{Variance}
 use Rattle.nts_model.specs.declared.labels.Variance.TheVariants as variance
@@ -11,7 +11,10 @@ use Rattle.nts_model.specs.Tables.Resolving.{Knows, IsSound, resolved, deeply_re
 use Rattle.nts_model.specs.Derivations.Related.{IsAlias}
 use Rattle.nts_model.specs.Tables.Measuring.{closed_aliases}
 use Rattle.nts_model.specs.Tables.Holding.{Continues}
+use Rattle.nts_model.specs.declared.labels.Label.{Label}
+use Rattle.nts_model.specs.Tables.Passing.{TreePasses, TablePasses}
 use Rattle.nts_variance_model.specs.Variances.Relations.{Relating as Pair}
+use Rattle.nts_variance_model.specs.Variances.Leaving.{Leaves}
 use Rattle.nts_variance_model.specs.Variances.AnsweredGoals.{AllAnswered, RelatedUnder, AllRelatedUnder, RelatesBy}
 use Rattle.nts_model.specs.Lists.{Among}
 use Rattle.nts_variance_model.specs.Variances.Forms.{variances_over, pairs_over}
@@ -31,16 +34,17 @@ use Rattle.nts_variance.specs.Parts.{form_of_tree, parts_of}
 use Rattle.nts_variance.specs.Terms.{pair_at, pairs_at, IsGoal, AreGoals, ArePairs}
 use Rattle.nts_variance.specs.Due.{IsTypeVariable, AreUnvaluedPairs, AreGoalsDue, LeavesDue}
 use Rattle.nts_variance.specs.Varying.{IsMadeAgain}
-use Rattle.nts_variance.specs.Pairs.{Leaves}
+use Rattle.nts_variance.specs.Passing.{PassesRows, PairsPass}
 
 -- the pairs ps were taken in the table c: in the table d, which has all that c has, they leave the pairs qs and the goals gs. Under
 -- each later table in which the goals are answered they are related if what is left is; and each settled solution in which they
--- settle goes on to one of the table d in which what is left settles
+-- settle goes on to one of the table d in which what is left settles. It brings no labels but those of the pairs and of variables
 pub record Takes (declared : ℕ → List Variance) (c d : Content) (ps qs gs : List Pair) : Type 0 where
   pub later : IsTableGrown c d
   pub continues : Continues c d
   pub leaves : Leaves declared c d ps qs gs
   pub relates : RelatesBy declared d ps qs gs
+  pub passes : (P : Label → Bool) → PassesRows P → TablePasses P c → PairsPass P ps → TablePasses P d × PairsPass P qs × PairsPass P gs
 
 -- a variable of a const or a number
 abbrev pub IsExactKind : VariableKind → Type 0
@@ -177,6 +181,7 @@ module _ (declared : ℕ → List Variance) where
     pub leaves : Leaves declared c d (p ∷ []) (left ++ es) gs
     pub sound : (w : Sense) → Counts d es gs w → AllHoldIn w left → HoldsIn w p
     pub meets : (w : Sense) → Counts d es gs w → (q : Pair) → Among met q → HoldBelow w (size_in w q) left → HoldsIn w q
+    pub passes : (P : Label → Bool) → PassesRows P → TablePasses P c → PairsPass P (p ∷ []) → TablePasses P d × PairsPass P left × PairsPass P es × PairsPass P gs
 
   -- .. by terms of the store
   pub record IsCall (ts us : List Tree) (e f : Entries) (p : Relating) (ps ms es gs : List Relating) : Type 0 where

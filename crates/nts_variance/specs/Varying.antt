@@ -18,7 +18,7 @@ use Rattle.nts_variance_model.specs.Variances.Forms.{FitsForm, over, variances_o
 use Rattle.nts_variance_model.specs.Variances.Relations.{AllSettleIn, IsSettledWorld}
 use Rattle.nts_variance_model.specs.Variances.Relations.{Relating as Pair}
 use Rattle.nts_variance_model.specs.Variances.Judging.{opposite}
-use Rattle.nts_variance_model.specs.Variances.Leaving.{Judge, judging_of}
+use Rattle.nts_variance_model.specs.Variances.Leaving.{Judge, judging_of, Judges}
 use Rattle.nts_model.specs.Tables.Measuring.{closed_aliases}
 use Rattle.nts_store.specs.declared.nodes.NodeId.{NodeId}
 use Rattle.nts_store.specs.Growth.{tree_at, IsIn}
@@ -36,7 +36,7 @@ use Rattle.nts_variance.specs.declared.vary_walk.Spot.{Spot}
 use Rattle.nts_variance.specs.declared.vary_walk.Look.{Look}
 use Rattle.nts_variance.specs.declared.vary_walk.Look.TheVariants as look
 use Rattle.nts_variance.specs.Steps.{WalkStep, enter, build, owe, steps_of, stacked, popped, unpopped, entering, EndsAlone, builds, StepsLead}
-use Rattle.nts_variance.specs.Walking.{Judges, IsTableGrown, IsMadeFor, IsChoice, SettlesOwed, Walks, IsMade, step_weights}
+use Rattle.nts_variance.specs.Walking.{IsTableGrown, IsMadeFor, IsChoice, SettlesOwed, Walks, IsMade, step_weights}
 use Rattle.nts_variance.specs.Counting.{IsCounted, IsCountedFor}
 use Rattle.nts_variance.specs.Parts.{form_of_tree, parts_of, IsNodeWithParts, StandsAlone}
 use Rattle.nts_variance.specs.Debts.{IsClosedLike, OweGoals, AreUnvaluedSteps}

@@ -2,9 +2,6 @@
 use Rattle.std.specs.Prelude.{◌≡◌, ℕ, ◌+◌, ◌*◌, ◌≤◌, length, Some, Bool, true, false, List, [], ◌∷◌, map, Option}
 use Rattle.nts_model.specs.declared.labels.Variance.{Variance}
 use Rattle.nts_model.specs.declared.labels.VariableKind.{VariableKind}
-use Rattle.nts_model.specs.declared.labels.FreeRegion.{FreeRegion}
-use Rattle.nts_model.specs.declared.labels.FreeRegion.TheVariants as region
-use Rattle.nts_model.specs.declared.labels.Leaf.TheVariants as leaf
 use Rattle.nts_model.specs.declared.labels.Label.{Label}
 use Rattle.nts_model.specs.Terms.Trees.{Tree, kind_of, IsFormed}
 use Rattle.nts_model.specs.Terms.Scoping.{KeepsListed}
@@ -13,18 +10,19 @@ use Rattle.nts_model.specs.Tables.Resolving.{Knows, IsSound, IsInfer, resolved, 
 use Rattle.nts_model.specs.Tables.Levels.{NamesAll, term_level, region_level}
 use Rattle.nts_model.specs.Tables.Worlds.{World, inst, Solves}
 use Rattle.nts_model.specs.Tables.Holding.{Continues, HoldsConstraint}
-use Rattle.nts_model.specs.Derivations.Related.{Related, IsAlias, region_constraint}
+use Rattle.nts_model.specs.Derivations.Related.{Related, IsAlias}
 use Rattle.nts_model.specs.Lists.{Among}
 use Rattle.nts_model.specs.Derivations.Proving.{recorded_as}
+use Rattle.nts_model.specs.Tables.Passing.{TreePasses, TablePasses}
 use Rattle.nts_variance_model.specs.Variances.Judging.{Judging, IsSettled, Settles, opposite}
-use Rattle.nts_model.specs.Terms.Substitutions.{leaf_tree}
-use Rattle.nts_variance_model.specs.Variances.Relations.{Relating, AllSettleIn, ArePairsKnown, IsJudgedBy, IsSettledWorld, SettledExtension, StandsIn}
+use Rattle.nts_variance_model.specs.Variances.Relations.{Relating, AllSettleIn, ArePairsKnown, IsSettledWorld, SettledExtension, StandsIn}
 use Rattle.nts_variance_model.specs.Variances.AnsweredGoals.{AllAnswered}
-use Rattle.nts_variance_model.specs.Variances.Leaving.{Judge, judging_of}
+use Rattle.nts_variance_model.specs.Variances.Leaving.{Judge, judging_of, Judges}
 use Rattle.nts_unify.specs.Changing.{AddsVisible}
 use Rattle.nts_variance.specs.Parts.{IsAlone}
 use Rattle.nts_variance.specs.SubRoots.{GrowsSubRoots}
 use Rattle.nts_variance.specs.Steps.{WalkStep, enter, build, owe, steps_of, StepsLead}
+use Rattle.nts_variance.specs.Passing.{PassesRows, PairsPass, TreesPass, StepsPass}
 
 -- the table has its variables and its universes, and may have more; its classes of sub-unification are those that it had, but for
 -- variables that became one, and new ones, each of which was made in a class; what was recorded since is visible for the leak check,
@@ -35,17 +33,6 @@ pub record IsTableGrown (c d : Content) : Type 0 where
   pub kinds : (n : ℕ) (k : VariableKind) → kind_at c n ≡ Some k → kind_at d n ≡ Some k
   pub subs : GrowsSubRoots c d
   pub visible : AddsVisible c.constraints d.constraints
-
--- the erased and the error region
-abbrev pub IsErased : FreeRegion → Type 0
-IsErased region.Erased = Unit {0}
-IsErased region.Error = Unit {0}
-IsErased r = ⊥
-
--- the judging calls true what is true in the world, in which erased and error regions are related with themselves alone
-pub record Judges (declared : ℕ → List Variance) (j : Judge declared) (w : World) : Type 0 where
-  pub judged : IsJudgedBy (judging_of declared j) w
-  pub alone : (v : Variance) (a : Tree) (r : FreeRegion) → IsErased r → (judging_of declared j).holds (region_constraint v a (leaf_tree (leaf.Region (w.region r)))) → a ≡ leaf_tree (leaf.Region (w.region r))
 
 -- a tree that may be made for a part, under a table: a variable stands for a variable or a closed alias alone, and but for those a
 -- const stands for a const, and a number for a number
@@ -136,6 +123,7 @@ module _ (declared : ℕ → List Variance) (z : Bool) (u : ℕ) where
     pub complete : (j : Judge declared) (w : World) → Solves c w → Judges declared j w → IsSettledWorld (judging_of declared j) c w → AllSettleIn (judging_of declared j) w gs
         → (whole : Tree) → NamesAll term_level u whole → StepsLead (IsChoice (judging_of declared j) u whole) (SettlesOwed (judging_of declared j)) (steps_of (inst w) xs) (map (inst w) ss) whole
         → GoesOn (judging_of declared j) c d w whole ys rs hs
+    pub passes : (P : Label → Bool) → PassesRows P → TablePasses P c → StepsPass P xs → TreesPass P ss → PairsPass P gs → TablePasses P d × StepsPass P ys × TreesPass P rs × PairsPass P hs
 
   -- a tree made at once for a part, in which no region is that the universe u cannot name, with the goals that it leaves
   pub record IsMade (c d : Content) (v : Variance) (q : Bool) (t r : Tree) (new : List Relating) : Type 0 where
@@ -150,3 +138,4 @@ module _ (declared : ℕ → List Variance) (z : Bool) (u : ℕ) where
     pub complete : (j : Judge declared) (w : World) → Solves c w → Judges declared j w → IsSettledWorld (judging_of declared j) c w
         → (s : Tree) → IsSettled (judging_of declared j) s → NamesAll term_level u s → IsFormed s → Settles (judging_of declared j) v s (inst w t)
         → StandsIn (judging_of declared j) c d w u r s new
+    pub passes : (P : Label → Bool) → PassesRows P → TablePasses P c → TreePasses P t → TablePasses P d × TreePasses P r × PairsPass P new

@@ -1,5 +1,6 @@
 //! A variable related with a term by a variance.
 ghost use Rattle.std.specs.Prelude.{◌≡◌, ◌≢◌, ◌∷◌, [], IfOk, Some, Err};
+ghost use Rattle.nts_variance_model.specs.Variances.Leaving.{Refuses};
 ghost use Rattle.nts_model.specs.declared.labels.Sort.{Sort};
 ghost use Rattle.nts_model.specs.declared.labels.VariableKind.{VariableKind};
 ghost use Rattle.nts_model.specs.Terms.Trees.{kind_of, of_sort, variable_tree};
@@ -12,7 +13,7 @@ ghost use Rattle.nts_unify.specs.Entries.{KeepsHidden};
 ghost use Rattle.nts_unify.specs.Reading.{content_of, IsLawful};
 ghost use Rattle.nts_unify.specs.Joining.{IsBindable};
 ghost use Rattle.nts_variance.specs.Walking.{sides};
-ghost use Rattle.nts_variance.specs.Pairs.{IsBound, Refuses};
+ghost use Rattle.nts_variance.specs.Pairs.{IsBound};
 
 use crate::vary_walk::{Target, Varied, vary};
 use nts_model::Variance;

@@ -1,5 +1,6 @@
 //! Two terms related by a variance, with goals alone left: the pairs that are to be made equal are taken by the heads of their sides.
 ghost use Rattle.std.specs.Prelude.{◌≡◌, ◌≢◌, ◌++◌, ℕ, List, ◌∷◌, [], true, false, OnOk, OnErr, IfOk, Err};
+ghost use Rattle.nts_variance_model.specs.Variances.Leaving.{Refuses};
 ghost use Rattle.nts_model.specs.declared.labels.Variance.{Variance};
 ghost use Rattle.nts_model.specs.Tables.Contents.{Content};
 ghost use Rattle.nts_model.specs.Tables.Resolving.{IsInfer};
@@ -9,7 +10,6 @@ ghost use Rattle.nts_unify.specs.Entries.{KeepsHidden};
 ghost use Rattle.nts_unify.specs.Reading.{content_of, IsLawful};
 ghost use Rattle.nts_relating.specs.Relating.{IsOpen};
 ghost use Rattle.nts_variance.specs.Terms.{pair_at};
-ghost use Rattle.nts_variance.specs.Pairs.{Refuses};
 ghost use Rattle.nts_variance.specs.Taking.{IsPairSide, IsPair, IsTaken, IsPaid, AreDueSince};
 ghost use Rattle.nts_variance.specs.Equating.{OwesAliases, AreToBeOne, AreHeads, AreInvariant, ArePairsReady, IsOn, IsEqualStep, IsEqualRun, AreRefused, GoalsRelate};
 

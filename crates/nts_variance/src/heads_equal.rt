@@ -1,5 +1,6 @@
 //! The heads of a pair that is to be equal: variables made one, and a variable that gets a value.
 ghost use Rattle.std.specs.Prelude.{◌≡◌, ◌≢◌, ℕ, List, ◌∷◌, [], true, false, IfOk, Err};
+ghost use Rattle.nts_variance_model.specs.Variances.Leaving.{Refuses};
 ghost use Rattle.nts_model.specs.declared.labels.Variance.{Variance};
 ghost use Rattle.nts_model.specs.Derivations.Related.{IsAlias};
 ghost use Rattle.nts_model.specs.Tables.Resolving.{IsInfer};
@@ -10,7 +11,6 @@ ghost use Rattle.nts_unify.specs.Reading.{content_of, IsLawful};
 ghost use Rattle.nts_relating.specs.Relating.{IsOpen};
 ghost use Rattle.nts_variance.specs.Terms.{pair_at};
 ghost use Rattle.nts_variance.specs.Varying.{pair_in};
-ghost use Rattle.nts_variance.specs.Pairs.{Refuses};
 ghost use Rattle.nts_variance.specs.Taking.{IsPairSide, IsPair, IsTaken, IsPaid};
 ghost use Rattle.nts_variance.specs.Equating.{node_in, OwesAliases, AreToBeOne, ArePairHeads};
 

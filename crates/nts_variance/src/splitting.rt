@@ -1,5 +1,6 @@
 //! Two terms related by a variance, pair by pair: what rests on aliases, or on type variables that may vary, is left.
 ghost use Rattle.std.specs.Prelude.{◌≡◌, ◌≢◌, ◌<◌, ◌++◌, List, ◌∷◌, [], true, false, OnOk, OnErr, IfOk, Some, Err};
+ghost use Rattle.nts_variance_model.specs.Variances.Leaving.{Refuses};
 ghost use Rattle.nts_model.specs.declared.labels.Variance.TheVariants as variances;
 ghost use Rattle.nts_model.specs.declared.labels.Variance.{Variance};
 ghost use Rattle.nts_model.specs.Terms.Trees.{Tree, any_label, is_alias};
@@ -10,7 +11,6 @@ ghost use Rattle.nts_unify.specs.Entries.{Entries, KeepsHidden};
 ghost use Rattle.nts_unify.specs.Reading.{content_of, IsLawful};
 ghost use Rattle.nts_variance.specs.Steps.{stacked};
 ghost use Rattle.nts_variance.specs.Terms.{pair_at};
-ghost use Rattle.nts_variance.specs.Pairs.{Refuses};
 ghost use Rattle.nts_variance.specs.Taking.{left_sizes, IsPairSide, IsPair, IsTaken, AreOfOneForm, ArePairsLeft, AreDueSince, ArePartsPaired, IsLeft, IsCall};
 
 use crate::along::{Relating, Side};

@@ -1,5 +1,6 @@
 //! What a pair of terms by their heads comes to, one kind of pair a function.
 ghost use Rattle.std.specs.Prelude.{◌≡◌, ◌≢◌, ◌⊎◌, ◌<◌, ℕ, List, ◌∷◌, [], true, false, OnOk, IfOk, Some, Err};
+ghost use Rattle.nts_variance_model.specs.Variances.Leaving.{Refuses};
 ghost use Rattle.nts_model.specs.declared.labels.Variance.TheVariants as variances;
 ghost use Rattle.nts_model.specs.declared.labels.Variance.{Variance};
 ghost use Rattle.nts_model.specs.Terms.Trees.{any_label, children, is_alias, is_infer, kind_of, node, of_sort, IsClosed};
@@ -15,7 +16,6 @@ ghost use Rattle.nts_relating.specs.Relating.{IsRegionOf};
 ghost use Rattle.nts_variance.specs.Parts.{has_parts as label_has_parts, form_of_tree};
 ghost use Rattle.nts_variance.specs.Terms.{pair_at};
 ghost use Rattle.nts_variance.specs.Varying.{pair_in, IsMadeAgain};
-ghost use Rattle.nts_variance.specs.Pairs.{Refuses};
 ghost use Rattle.nts_variance.specs.Equating.{OwesAliases};
 ghost use Rattle.nts_variance.specs.Taking.{number_at, IsPairSide, IsPair, IsTaken, IsPaid, SaysAllOwed, AreNoSides};
 

@@ -12,7 +12,7 @@ returns-in-Ok-clause-related c =
     let e = c.args.table.now.entries in
     let f = c.relate_nodes.new.table.entries in
     let made = c.in-Ok.ensures in
-    let sides = plain_sides (variances_in c.args.declarations.now) ts us e f c.args.left c.args.right c.requires.sides c.requires.lawful made.lawful made.later c.terms_are_formed.ensures.formed c.requires.left c.requires.right (made.plain c.requires.left c.requires.right) made.related made.ties in
+    let sides = plain_sides (variances_in c.args.declarations.now) ts us e f c.args.left c.args.right c.requires.sides c.requires.lawful made.lawful made.later c.terms_are_formed.ensures.formed c.requires.left c.requires.right (made.plain c.requires.left c.requires.right) made.related made.ties made.labels in
     plain_related (variances_in c.args.declarations.now) ts us e f c.args.env (tree_at ts c.args.left) (tree_at ts c.args.right) _ c.new.ensures.items sides
 
 pub returns-in-Err-clause-no : goal.returns-in-Err-clause-no
