@@ -4,7 +4,7 @@ use Rattle.std.specs.Prelude.{◌≡◌, ◌≢◌, List, None, All, Result, Err
 use Rattle.nts_model.specs.declared.labels.Variance.{Variance}
 use Rattle.nts_model.specs.declared.labels.Variance.TheVariants as variance
 use Rattle.nts_model.specs.Terms.Trees.{Tree}
-use Rattle.nts_model.specs.Derivations.Handlers.{Handler}
+use Rattle.nts_evaluation.specs.nts_meaning.specs.Telling.{Ruling}
 use Rattle.nts_store.specs.declared.nodes.NodeId.{NodeId}
 use Rattle.nts_store.specs.declared.fault.EvalError.{EvalError}
 use Rattle.nts_store.specs.declared.fault.EvalError.TheVariants as error
@@ -23,10 +23,10 @@ use Rattle.nts_contexts.specs.Faults.{fault_after}
 use Rattle.nts_contexts.specs.Related.{AddsTo, AddsRelated, AreEquatedIn}
 
 -- the goals that were added to a context were asked, in any order and more than once; and one of them is refused after that
-abbrev pub ReachesAdded : {H : Type 0} → Handler → EvalCtxt H → EvalCtxt H → Type 0
+abbrev pub ReachesAdded : {H : Type 0} → Ruling → EvalCtxt H → EvalCtxt H → Type 0
 ReachesAdded h a b = ReachesBy h a.table.now.mode a.cx.now.nodes a.table.now b.cx.now.nodes b.table.now a.state.now.nested_goals.items
 
-abbrev pub RefusesOneAdded : {H : Type 0} → Handler → EvalCtxt H → Type 0
+abbrev pub RefusesOneAdded : {H : Type 0} → Ruling → EvalCtxt H → Type 0
 RefusesOneAdded h a = RefusesAmong h a.table.now.mode a.cx.now.nodes (content_in a) a.state.now.nested_goals.items
 
 -- the goals that were added to the context are evaluated in steps: some are left, and each other one is proved

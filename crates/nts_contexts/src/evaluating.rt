@@ -7,7 +7,7 @@ ghost use Rattle.nts_certainty.specs.declared.certainty.Certainty.TheVariants as
 ghost use Rattle.nts_response.specs.Forms.{response_at, HoldsResponse};
 ghost use Rattle.nts_theory.specs.Telling.{IsResponseOf};
 ghost use Rattle.nts_evaluation.specs.nts_meaning.specs.Answering.{told_in};
-ghost use Rattle.nts_evaluation.specs.nts_meaning.specs.Meant.{rules_of, Always};
+ghost use Rattle.nts_evaluation.specs.nts_meaning.specs.Meant.{rules_of, ruling_since, Always};
 ghost use Rattle.nts_contexts.specs.Faults.{fault_after, tainted_after};
 ghost use Rattle.nts_contexts.specs.Contexts.{IsContextReady, KeepsContext, content_in};
 ghost use Rattle.nts_contexts.specs.Promises.{EvaluatesAdded, ReachesAdded, RefusesOneAdded};
@@ -38,10 +38,11 @@ impl<H: GoalHandler> EvalCtxt<'_, H> {
             0 < self.new.state.now.last_steps }
         ensures sure { result ≡ Ok certainty.Yes → self.new.state.now.nested_goals.items ≡ [] }
         ensures told { Always (rules_of H.ready H.handler self.old.handler.now) self.old.cx.now
-            (λ s. ReachesAdded (H.handler s.base self.old.handler.now) self.old self.new) }
+            (λ s. ReachesAdded (ruling_since (λ ts. H.handler ts self.old.handler.now) s) self.old
+            self.new) }
         ensures refuted { Always (rules_of H.ready H.handler self.old.handler.now) self.old.cx.now
             (λ s. result ≡ Err EvalError.NoSolution →
-            RefusesOneAdded (H.handler s.base self.old.handler.now) self.old) }
+            RefusesOneAdded (ruling_since (λ ts. H.handler ts self.old.handler.now) s) self.old) }
         ensures taint { self.new.state.now.is_tainted
             ≡ tainted_after self.old.state.now.is_tainted result }
         ensures fault { self.new.state.now.fault ≡ fault_after self.old.state.now.fault result }
@@ -87,10 +88,11 @@ impl<H: GoalHandler> EvalCtxt<'_, H> {
         ensures steps { self.old.state.now.fault ≡ None → self.old.state.now.is_tainted ≡ false →
             self.new.state.now.last_steps ≤ self.old.cx.now.step_limit }
         ensures told { Always (rules_of H.ready H.handler self.old.handler.now) self.old.cx.now
-            (λ s. ReachesAdded (H.handler s.base self.old.handler.now) self.old self.new) }
+            (λ s. ReachesAdded (ruling_since (λ ts. H.handler ts self.old.handler.now) s) self.old
+            self.new) }
         ensures refuted { Always (rules_of H.ready H.handler self.old.handler.now) self.old.cx.now
             (λ s. self.old.state.now.is_tainted ≡ false → result ≡ Err EvalError.NoSolution →
-            RefusesOneAdded (H.handler s.base self.old.handler.now) self.old ⊎
+            RefusesOneAdded (ruling_since (λ ts. H.handler ts self.old.handler.now) s) self.old ⊎
             (H.handler s.base self.old.handler.now).leaks (content_in self.new) 0) }
         ensures taint { self.new.state.now.is_tainted
             ≡ tainted_after self.old.state.now.is_tainted result }

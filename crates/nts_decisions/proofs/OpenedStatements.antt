@@ -22,6 +22,8 @@ use Rattle.nts_theory.specs.Outliving.{SaysOutlives, region_outlives, type_outli
 use Rattle.nts_theory.specs.Affirming.{SaysAffirmed, IsDenied, HasOwnWay}
 use Rattle.nts_theory.specs.Telling.{IsTraitStatement}
 use Rattle.nts_theory.proofs.Refutation.Affirming.{affirmed_no_handlers, denied_no_handlers, way_no_handlers}
+use Rattle.nts_theory.proofs.Refutation.Subtyping.{subtyping_no_handlers}
+use Rattle.nts_theory.specs.Subtyping.{IsSubtyping}
 use Rattle.nts_decisions.specs.Deciding.{blurred, blurred_environment, IsDecidable, SaysOfRegion, IsPlainGoal, top_level, opened_next, IsGoalDecided}
 use Rattle.nts_decisions.proofs.BlurredWorlds.{merged_leaf}
 use Rattle.nts_decisions.proofs.Deciding.{closed_once}
@@ -74,6 +76,9 @@ trait_has_no_way j e g x t w = way_no_handlers j e w.statement x w.way (trait_ha
 
 pub trait_not_denied : (j : Judgements) (g : Tree) → IsTraitStatement (statement_of g) → IsDenied j (statement_of g) → ⊥
 trait_not_denied j g t d = denied_no_handlers j (statement_of g) d (trait_handlers (statement_of g) t)
+
+pub trait_says_no_subtype : (g a b : Tree) → IsTraitStatement (statement_of g) → IsSubtyping g a b → ⊥
+trait_says_no_subtype g a b t said = subtyping_no_handlers g a b said (trait_handlers (statement_of g) t)
 
 -- .. is not about an alias
 by_test : (b : Bool) → (if b then coinductive_trait else other_goal) ≢ normalization

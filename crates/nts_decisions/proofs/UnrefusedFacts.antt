@@ -15,7 +15,8 @@ use Rattle.nts_model.specs.declared.labels.ClauseHead.TheVariants as clause
 use Rattle.nts_model.specs.declared.labels.Label.TheVariants as label
 use Rattle.nts_theory.specs.Affirming.{SaysAffirmed, IsDenied, HasOwnWay}
 use Rattle.nts_theory.specs.Outliving.{IsOutlives}
-use Rattle.nts_decisions.proofs.OpenedStatements.{trait_outlives_nothing, trait_not_affirmed, trait_not_denied, trait_has_no_way}
+use Rattle.nts_theory.specs.Subtyping.{IsSubtyping}
+use Rattle.nts_decisions.proofs.OpenedStatements.{trait_outlives_nothing, trait_not_affirmed, trait_not_denied, trait_has_no_way, trait_says_no_subtype}
 use Rattle.nts_model.specs.Derivations.Sequents.{Premise}
 use Rattle.nts_model.specs.Derivations.Rules.{Mode, Equation, statement_of}
 use Rattle.nts_model.specs.Derivations.Handlers.{Handler, Candidate, IsAsked, IsLawfulHandler, HasNoLeaks, IsCandidateFor, AreValuesOf}
@@ -23,7 +24,7 @@ use Rattle.nts_model.specs.Canonical.Inputs.{Input, PositionKind, type_variable,
 use Rattle.nts_model.specs.Canonical.Numbered.{numbered, no_leaf}
 use Rattle.nts_model.specs.Refutation.Opening.{binds, opened_in, entered_table}
 use Rattle.nts_model.specs.Answers.Responses.{Response, IsResponseTo, IsQueryTable, read_in, RefusesResponse}
-use Rattle.nts_theory.specs.Telling.{Verdict, Queries, IsInputFor, IsReady, StandsForAll, SaysOf, without_constraints, IsPlainResponse, goals_with, Tells, tells_nothing, says_nothing, tells_one, tells_outlives, tells_affirmed, tells_own, IsTraitStatement, Refutes, all_fail, is_denied, own_fails, Outcomes, no_outcome, then_fails, then_replies, Replies, replies, Fails, is_unmet, is_refused, is_leaky, Reaches, asks_nothing, then_asks, Refused, by_query, by_response}
+use Rattle.nts_theory.specs.Telling.{Verdict, Queries, IsInputFor, IsReady, StandsForAll, SaysOf, without_constraints, IsPlainResponse, goals_with, Tells, tells_nothing, says_nothing, tells_one, tells_outlives, tells_affirmed, tells_own, tells_subtype, IsTraitStatement, Refutes, all_fail, is_denied, own_fails, is_no_subtype, subtype_refused, Outcomes, no_outcome, then_fails, then_replies, Replies, replies, Fails, is_unmet, is_refused, is_leaky, Reaches, asks_nothing, then_asks, Refused, by_query, by_response}
 use Rattle.nts_theory.proofs.Refutation.Queried.{IsFirst, BeginsEach, IsQuery, first_query, IsTried, tried, tried_knows, found_table, says_long}
 use Rattle.nts_theory.proofs.Refutation.QueryLabels.{query_without}
 use Rattle.nts_theory.proofs.Refutation.Answered.{among_split}
@@ -228,6 +229,8 @@ module _ (Q : Queries) (h : Handler) (law : IsLawfulHandler h) (mode : Mode) (ti
   query_never_refutes : Refutes Q h mode q e' g' (map leaf_tree u) → ⊥
   query_never_refutes (is_denied d) = trait_not_denied h.judges g' is_trait (subst (λ z. IsDenied h.judges (statement_of z)) same_goal d)
   query_never_refutes (own_fails y own fails) = trait_has_no_way h.judges e' g' y is_trait (subst (λ z. HasOwnWay h.judges e' z y) same_goal own.way)
+  query_never_refutes (is_no_subtype outside n) = trait_says_no_subtype g' n.left n.right is_trait (subst (λ z. IsSubtyping z n.left n.right) same_goal n.is)
+  query_never_refutes (subtype_refused ps met outside l refused) = trait_says_no_subtype g' l.left l.right is_trait (subst (λ z. IsSubtyping z l.left l.right) same_goal l.is)
   query_never_refutes (all_fail ready all) = (let o = contains_here [] ready all in o.among)
 
   formed_values : (ks : List PositionKind) (zs : List Tree) → AreInputValues ks zs → (t : Tree) → Among zs t → IsFormed t
@@ -272,6 +275,7 @@ module _ (Q : Queries) (h : Handler) (law : IsLawfulHandler h) (mode : Mode) (ti
   tells_contained v (tells_outlives y o r) = absurd (outlives_nothing y (subst (λ z. IsOutlives z y) same_goal o))
   tells_contained v (tells_affirmed a sure says) = absurd (trait_not_affirmed h.judges e' g' is_trait (subst (SaysAffirmed h.judges e') same_goal a))
   tells_contained v (tells_own y own reply) = absurd (trait_has_no_way h.judges e' g' y is_trait (subst (λ z. HasOwnWay h.judges e' z y) same_goal own.way))
+  tells_contained v (tells_subtype ps met found outside l reach is says) = absurd (trait_says_no_subtype g' l.left l.right is_trait (subst (λ z. IsSubtyping z l.left l.right) same_goal l.is))
   tells_contained v (tells_one vs ready all stands) = by_one stands
     where
       by_one : StandsForAll (map leaf_tree u) vs v → ContainsMerged v.response ts

@@ -1,6 +1,6 @@
 -- A candidate of a decided goal that is tried: its equations are made equal exactly if it is met, no region constraint fails, and its
 -- goals are decided.
-use Rattle.std.proofs.Common.{◌≡◌, ℕ, Bool, false, List, map, refl, sym, ap, subst}
+use Rattle.std.proofs.Common.{◌≡◌, ℕ, Bool, false, List, [], map, refl, sym, ap, subst}
 use Rattle.nts_model.specs.Terms.Trees.{Tree, IsFormed}
 use Rattle.nts_model.specs.Tables.Contents.{Content}
 use Rattle.nts_model.specs.Tables.Resolving.{Knows, deeply_resolved}
@@ -64,7 +64,7 @@ module _ {a b e f : List Tree} {t u v : Table} (h : Handler) (mode : TypingMode)
     (ab : Extends a b) (be : Extends b e) (ae : Extends a e) (ef : Extends e f) (table : IsTable e v) (within : AllIn b vs) (added : goals_at f gs ≡ goals_with (map (tree_at e) vs) (map (premise_of e) x.goals.items))
     (formed : AreFormed f) (there : IsTable b u) (posed : ArePosed f v gs) (asked : IsPosed a t g) (candidate : IsCandidate a g x) where
   goals : goals_at f gs ≡ goals_with (map (tree_at b) vs) (map (premise_of a) x.goals.items)
-  goals = its_goals h mode g x vs gs equated adds constraints nested ab be ae ef table within added
+  goals = its_goals (record { handler = h; variances = λ z. [] }) mode g x vs gs equated adds constraints nested ab be ae ef table within added
 
   same : content_of f v.entries ≡ content_of e v.entries
   same = content_of-extended ef table.now

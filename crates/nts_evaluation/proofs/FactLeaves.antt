@@ -1,6 +1,7 @@
 -- The leaves that stand for the positions of a query in its first table have the kinds of its input.
 use Rattle.std.proofs.Common.{◌≡◌, ◌⊎◌, inl, inr, ℕ, zero, suc, ◌+◌, ◌<◌, List, [], ◌∷◌, ◌++◌, length, Some, None, refl, sym, ap, ◌∙◌, arith}
 use Rattle.std.specs.Prelude.{slice_get}
+use Rattle.nts_model.specs.declared.labels.Variance.{Variance}
 use Rattle.nts_model.specs.Canonical.Inputs.{Input, HaveKinds, canonical_of, PositionKind, type_variable, integer_variable, float_variable, const_variable, region_variable, placeholder}
 use Rattle.std.proofs.lemmas.Option.{slice_get_past}
 use Rattle.std.proofs.lemmas.Bool.{cases_lt}
@@ -110,5 +111,5 @@ made_descends ks kinds =
 pub leaves_have_kinds : (i : Input) → HaveKinds (canonical_of i) (value_leaves 0 (canonical_of i).kinds) (sub_root_in (made_entries (canonical_of i).kinds []))
 leaves_have_kinds i = (let ks = (canonical_of i).kinds in have_kinds (canonical_of i) (made_entries ks []) (made_descends ks (form-kinds i)) refl (form-kinds i))
 
-pub leaves_each : HasLeavesEach queries
-leaves_each = record { leaves = value_leaves 0; roots = λ ks. sub_root_in (made_entries ks []); values = λ ks. refl; have = λ i p. leaves_have_kinds i }
+pub leaves_each : (V : ℕ → List Variance) → HasLeavesEach (queries V)
+leaves_each V = record { leaves = value_leaves 0; roots = λ ks. sub_root_in (made_entries ks []); values = λ ks. refl; have = λ i p. leaves_have_kinds i }

@@ -1,5 +1,6 @@
 -- A goal at the root that one candidate without goals decides: its query's goal is decided by it, and it is not refused.
 use Rattle.std.proofs.Common.{◌≡◌, ℕ, ◌+◌, false, List, [], refl, arith}
+use Rattle.nts_model.specs.declared.labels.Variance.{Variance}
 use Rattle.nts_model.specs.Terms.Trees.{Tree}
 use Rattle.nts_model.specs.Tables.Resolving.{Knows, deeply_resolved}
 use Rattle.nts_model.specs.Derivations.Related.{pair}
@@ -42,14 +43,14 @@ module _ (h : Handler) (law : IsLawfulHandler h) (mode : Mode) (ts : List Tree) 
       let own = now.proper in
       let of : IsInputFor (content_of ts t.entries) (tree_at ts g.param_env.node) (tree_at ts g.predicate.node) (input_of ts t.entries g []) =
       record { environment = refl; predicate = refl; hidden = refl; classes = root_classes ts t.entries now.descends; proper = proper } in
-      query_settled queries begins_each leaves_each h law mode (content_of ts t.entries) (tree_at ts g.param_env.node) (tree_at ts g.predicate.node) fact known now.sound own.current (input_of ts t.entries g []) of environment predicate
+      query_settled (queries (λ i. [])) (begins_each (λ i. [])) (leaves_each (λ i. [])) h law mode (content_of ts t.entries) (tree_at ts g.param_env.node) (tree_at ts g.predicate.node) fact known now.sound own.current (input_of ts t.entries g []) of environment predicate
 
-  pub never_refused : HasNoLeaks h → (now : TypingMode) → mode_of now ≡ mode → IsRefusedIn h now ts t g → ⊥
-  never_refused tight now same r =
+  pub never_refused : HasNoLeaks h → (V : ℕ → List Variance) (now : TypingMode) → mode_of now ≡ mode → IsRefusedIn (record { handler = h; variances = V }) now ts t g → ⊥
+  never_refused tight V now same r =
       let table = posed.table in
       let n = table.now in
       let own = n.proper in
-      fact_not_refused queries begins_each leaves_each h law mode tight (content_of ts t.entries) (tree_at ts g.param_env.node) (tree_at ts g.predicate.node)
+      fact_not_refused (queries V) (begins_each V) (leaves_each V) h law mode tight (content_of ts t.entries) (tree_at ts g.param_env.node) (tree_at ts g.predicate.node)
       (only_is_fact h mode (content_of ts t.entries) (tree_at ts g.param_env.node) (tree_at ts g.predicate.node) fact) known n.sound own.current (rw same at r)
 
 -- .. as the table knows it
@@ -59,14 +60,14 @@ pub resolved_fact : (h : Handler) (mode : TypingMode) (a b : List Tree) (t : Tab
 resolved_fact h mode a b t g o same env predicate f = rw (same, env, predicate) f
 
 -- a goal with a fact is not refused
-pub fact_stands : {h : Handler} (mode : TypingMode) {ts : List Tree} {t : Table} {g : Goal} → IsTable ts t → IsAdmitted ts t g → IsLawfulHandler h → HasNoLeaks h → IsFact h mode ts t g → IsRefusedUnder h mode ts t g → ⊥
-fact_stands {h} mode {ts} {t} {g} table admitted law tight fact r =
+pub fact_stands : {h : Handler} {V : ℕ → List Variance} (mode : TypingMode) {ts : List Tree} {t : Table} {g : Goal} → IsTable ts t → IsAdmitted ts t g → IsLawfulHandler h → HasNoLeaks h → IsFact h mode ts t g → IsRefusedUnder (record { handler = h; variances = V }) mode ts t g → ⊥
+fact_stands {h} {V} mode {ts} {t} {g} table admitted law tight fact r =
     let now = table.now in
     let own = now.proper in
     let env = admitted.env in
     let predicate = admitted.predicate in
     let c = content_of ts t.entries in
-    fact_not_refused queries begins_each leaves_each h law (mode_of mode) tight c (deeply_resolved c (tree_at ts g.param_env.node)) (deeply_resolved c (tree_at ts g.predicate.node)) fact
+    fact_not_refused (queries V) (begins_each V) (leaves_each V) h law (mode_of mode) tight c (deeply_resolved c (tree_at ts g.param_env.node)) (deeply_resolved c (tree_at ts g.predicate.node)) fact
     (Knows-deeply_resolved c (tree_at ts g.param_env.node) now.sound env.knows, (Knows-deeply_resolved c (tree_at ts g.predicate.node) now.sound predicate.knows, tt)) now.sound own.current r
 
 -- the search may answer it

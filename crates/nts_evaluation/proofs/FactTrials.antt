@@ -30,7 +30,7 @@ use Rattle.nts_response.specs.declared.types.Response.{Response}
 use Rattle.nts_response.specs.Forms.{response_at, recorded_at, HoldsResponse}
 use Rattle.nts_search.proofs.StackLater.{response_same}
 use Rattle.nts_meaning.specs.Asking.{first_values}
-use Rattle.nts_meaning.specs.Telling.{queries}
+use Rattle.nts_meaning.specs.Telling.{Ruling, queries}
 use Rattle.nts_meaning.specs.Meant.{HasRunTo}
 use Rattle.nts_meaning.specs.Evaluation.{IsPosed, IsAskedGoal}
 use Rattle.nts_trying.specs.Opening.{IsOpenedTo}
@@ -48,14 +48,14 @@ pub plain_later : (a b : List Tree) (g : Goal) (x y : Candidate) → tree_at b g
 plain_later a b g x y env predicate same p = rw same (record { offered = rw (env, predicate) p.offered; no_goals = p.no_goals })
 
 -- the response of the table that such a candidate left
-pub over_after : (h : Handler) (s t u : Table) {a b : List Tree} (e : List Tree) (x : CandidateData) (g : Goal) (qs : List GenericArg) (r : Canonical Response) → HasRunTo h s.mode a s b u x → s.entries ≡ t.entries
+pub over_after : (h : Ruling) (s t u : Table) {a b : List Tree} (e : List Tree) (x : CandidateData) (g : Goal) (qs : List GenericArg) (r : Canonical Response) → HasRunTo h s.mode a s b u x → s.entries ≡ t.entries
     → Continues (content_of a s.entries) (content_of b u.entries) → AreFormed b → IsTable b u
     → IsQueryAtFirst a t g qs → IsPlainCandidate a g (candidate_of a x) → IsResponseOf (content_of b u.entries) (trees_of a qs) (response_at e r) → HoldsResponse e r.value → IsOverIfSilent e (trees_of a qs) r
 over_after h s t u {a} {b} e x g qs r run same continues formed table q p says holds ts up silent =
     let now = table.now in
     let proper = now.proper in
     let terms = term_table formed table in
-    let found : content_of b u.entries ≡ run.met = reached_nothing queries h (mode_of s.mode) run.values _ run.met (content_of b u.entries) p.no_goals run.reaches in
+    let found : content_of b u.entries ≡ run.met = reached_nothing (queries h.variances) h.handler (mode_of s.mode) run.values _ run.met (content_of b u.entries) p.no_goals run.reaches in
     let begun : IsBegun (content_of a t.entries) (candidate_of a x) run.values (content_of b u.entries) = rw (← same, found) run.begun in
     let later : Continues (content_of a t.entries) (content_of b u.entries) = rw (← same) continues in
     let values : trees_of a qs ≡ first_values q.kinds = q.values in

@@ -19,8 +19,9 @@ use Rattle.nts_response.specs.declared.types.Response.{Response}
 use Rattle.nts_search.specs.declared.stack.SearchGraph.{SearchGraph}
 use Rattle.nts_meaning.specs.Searching.{Searches}
 use Rattle.nts_model.specs.Derivations.Handlers.{Handler}
+use Rattle.nts_meaning.specs.Telling.{Ruling}
 use Rattle.nts_evaluation.specs.Promises.{IsAnswered, AnswersQuery, AnswersGoal, AnswersOwn, AnswersBy}
-use Rattle.nts_meaning.specs.Meant.{Rules}
+use Rattle.nts_meaning.specs.Meant.{Rules, ruling_since}
 use Rattle.nts_evaluation.proofs.Deciding.{decides_fault}
 
 -- an error that is not that there is no solution is no answer
@@ -36,9 +37,9 @@ query_failed r fails other grows searches = record { grows = grows; searches = s
 pub goal_failed : {R : Rules} {a b : Cx} {g h : SearchGraph} {t : Table} {goal : Goal} {values : List GenericArg} {depth : ℕ} (r : Result (Box (Canonical Response)) EvalError) → is_err r ≡ true → r ≢ Err error.NoSolution → Grows a b → Searches a b g h → AnswersGoal R a b g h t goal values depth r
 goal_failed r fails other grows searches = record { grows = grows; searches = searches; found = IfOk-from_err r _ fails; told = λ s tells. IfOk-from_err r _ fails; refuted = λ s tells n. absurd (other n); decided = λ s n b d can. decides_fault r fails other; facts = λ s tells f can. decides_fault r fails other }
 
-pub try_failed : {Proved : List Assumed → List Tree → Table → Type 0} {Told : Handler → Canonical Response → Type 0} {Failed : Handler → Type 0} {Settled : Handler → ℕ → Bool → Type 0} {Facts : Handler → Type 0} {R : Rules} {a b : Cx} {g h : SearchGraph} {t u : Table} {goal : Goal} {values : List GenericArg} {depth : ℕ} (r : Result (Box (Canonical Response)) EvalError) → is_err r ≡ true → r ≢ Err error.NoSolution → ((m : Handler) → Facts m) → u ≡ t → Grows a b → Searches a b g h
+pub try_failed : {Proved : List Assumed → List Tree → Table → Type 0} {Told : Ruling → Canonical Response → Type 0} {Failed : Ruling → Type 0} {Settled : Handler → ℕ → Bool → Type 0} {Facts : Ruling → Type 0} {R : Rules} {a b : Cx} {g h : SearchGraph} {t u : Table} {goal : Goal} {values : List GenericArg} {depth : ℕ} (r : Result (Box (Canonical Response)) EvalError) → is_err r ≡ true → r ≢ Err error.NoSolution → ((m : Ruling) → Facts m) → u ≡ t → Grows a b → Searches a b g h
     → AnswersBy Proved Told Failed Settled Facts R a b g h t u goal values depth r
-try_failed {R = R} r fails other all same grows searches = record { same = same; grows = grows; searches = searches; found = IfOk-from_err r _ fails; told = λ s tells. IfOk-from_err r _ fails; refuted = λ s tells n. absurd (other n); decided = λ s n b d can. decides_fault r fails other; facts = λ s tells. all (R.handler s.base) }
+try_failed {R = R} r fails other all same grows searches = record { same = same; grows = grows; searches = searches; found = IfOk-from_err r _ fails; told = λ s tells. IfOk-from_err r _ fails; refuted = λ s tells n. absurd (other n); decided = λ s n b d can. decides_fault r fails other; facts = λ s tells. all (ruling_since R.handler s) }
 
 pub own_failed : {R : Rules} {a b : Cx} {g h : SearchGraph} {t : Table} {goal : Goal} {values : List GenericArg} {depth : ℕ} (r : Result (Box (Canonical Response)) EvalError) → is_err r ≡ true → r ≢ Err error.NoSolution → Grows a b → Searches a b g h → AnswersOwn R a b g h t goal values depth r
 own_failed r fails other grows searches = record { grows = grows; searches = searches; found = IfOk-from_err r _ fails; told = λ s tells. IfOk-from_err r _ fails; refuted = λ s tells n. absurd (other n); decided = λ s n b d can. decides_fault r fails other }

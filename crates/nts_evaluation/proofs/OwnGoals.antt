@@ -20,6 +20,7 @@ use Rattle.nts_table.specs.Tables.{Table}
 use Rattle.nts_canonical.specs.declared.types.Canonical.{Canonical}
 use Rattle.nts_canonical.specs.Forms.{trees_of}
 use Rattle.nts_response.specs.declared.types.Response.{Response}
+use Rattle.nts_meaning.specs.Telling.{Ruling}
 use Rattle.nts_meaning.specs.Evaluation.{Goes, IsPosed, NormalizesNone}
 use Rattle.nts_meaning.specs.Meant.{IsTold, IsRefuted}
 use Rattle.nts_trying.specs.Opening.{IsOpenedTo}
@@ -134,11 +135,11 @@ module _ {a b : List Tree} {t u : Table} {g o : Goal} (posed : IsPosed a t g) (o
   own_holds h V mode A goes later formed law (inl affirmed) = affirmed_through posed opens up h V mode A there says.environment goes later formed law affirmed
   own_holds h V mode A goes later formed law (inr (y, way, holds)) = own_through posed opens up h V mode A there says.environment goes later formed law y way holds
 
-  pub own_says : AreFormed b → (h : Handler) (mode : TypingMode) (qs : List GenericArg) (e : List Tree) (r : Canonical Response) → trees_of b qs ≡ trees_of a qs → OwnTold h mode b u o qs e r → IsTold h mode a t g qs e r
+  pub own_says : AreFormed b → (h : Ruling) (mode : TypingMode) (qs : List GenericArg) (e : List Tree) (r : Canonical Response) → trees_of b qs ≡ trees_of a qs → OwnTold h mode b u o qs e r → IsTold h mode a t g qs e r
   own_says formed h mode qs e r same (inl (affirmed, sure, response)) = affirmed_told posed opens up h mode qs e r same affirmed sure response
   own_says formed h mode qs e r same (inr (inl (y, way, reply))) = own_told posed opens up there formed h mode qs e r y same way reply
   own_says formed h mode qs e r same (inr (inr (unsure, plain))) = nothing_through posed opens up h mode qs e r same unsure plain
 
-  pub own_none : AreFormed b → (h : Handler) (mode : TypingMode) (qs : List GenericArg) → OwnRefuted h mode b u o → IsRefuted h mode a t g qs
+  pub own_none : AreFormed b → (h : Ruling) (mode : TypingMode) (qs : List GenericArg) → OwnRefuted h mode b u o → IsRefuted h mode a t g qs
   own_none formed h mode qs (inl denied) = denied_refuted posed opens up h mode qs denied
   own_none formed h mode qs (inr (y, way, fails)) = own_refuted posed opens up there formed h mode qs y way fails

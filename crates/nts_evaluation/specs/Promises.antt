@@ -7,7 +7,7 @@ use Rattle.nts_model.specs.Derivations.Rules.{Meaning, Mode, statement_of}
 use Rattle.nts_model.specs.Derivations.Handlers.{Handler, Candidate}
 use Rattle.nts_theory.specs.Affirming.{SaysAffirmed, IsDenied, HasOwnWay}
 use Rattle.nts_theory.specs.Telling.{IsResponseOf, IsPlainResponse}
-use Rattle.nts_meaning.specs.Telling.{Replies, Fails}
+use Rattle.nts_meaning.specs.Telling.{Ruling, Replies, Fails}
 use Rattle.nts_model.specs.Derivations.Proofs.{Assumed, passed}
 use Rattle.nts_model.specs.Searching.Stacks.{IsDerivedFrom, HoldsCandidateFrom, assumptions}
 use Rattle.nts_model.specs.Answers.Responses.{answer_sequent}
@@ -26,7 +26,7 @@ use Rattle.nts_response.specs.declared.types.Response.{Response}
 use Rattle.nts_response.specs.Forms.{response_at}
 use Rattle.nts_candidates.specs.Offered.{path_kind_of, candidate_of, certainty_of}
 use Rattle.nts_search.specs.declared.stack.SearchGraph.{SearchGraph}
-use Rattle.nts_meaning.specs.Meant.{Since, Rules, Always, meaning_since, IsQueryTold, IsQueryRefuted, AreOffered, HoldsSince, IsServedSince, IsProvedNow, IsProvedFromSince, IsNestedSince, EvaluatesGoal, IsRefusedIn, EvaluatesUnder, IsRefusedUnder, IsTold, IsRefuted, HaveOutcomes, CandidatesTell, RepliesWith, FailsIn, HasRunTo, ReachesBy}
+use Rattle.nts_meaning.specs.Meant.{Since, Rules, Always, meaning_since, ruling_since, IsQueryTold, IsQueryRefuted, AreOffered, HoldsSince, IsServedSince, IsProvedNow, IsProvedFromSince, IsNestedSince, EvaluatesGoal, IsRefusedIn, EvaluatesUnder, IsRefusedUnder, IsTold, IsRefuted, HaveOutcomes, CandidatesTell, RepliesWith, FailsIn, HasRunTo, ReachesBy}
 use Rattle.nts_meaning.specs.Searching.{Searches, HeadsTell, IsCut, assumed_in, IsHeadAnswer, IsAnswerTold, IsGoalCut}
 use Rattle.nts_meaning.specs.Answering.{IsAnswerTo, IfAnswered, IfCertain, IfSure, is_yes, verdict_at}
 use Rattle.nts_model.specs.Tables.Passing.{BringsOnly}
@@ -58,8 +58,8 @@ use Rattle.nts_model.specs.Tables.Resolving.{deeply_resolved}
 
 -- since any earlier store in which the handler's terms stood, and where the provisional answers on the stack are told by what the
 -- handler meant then
-abbrev pub WhereTold : Rules → Cx → SearchGraph → (Handler → Type 0) → Type 0
-WhereTold R a g P = (s : Since R.ready a) → HeadsTell (R.handler s.base) a.nodes g → P (R.handler s.base)
+abbrev pub WhereTold : Rules → Cx → SearchGraph → (Ruling → Type 0) → Type 0
+WhereTold R a g P = (s : Since R.ready a) → HeadsTell (ruling_since R.handler s) a.nodes g → P (ruling_since R.handler s)
 
 -- since any such store: where a goal is decided so, and the search may go so deep, it is answered as it is decided
 abbrev pub AnswersDecided : {A : Type 0} → Rules → Cx → SearchGraph → SearchGraph → ℕ → (Handler → ℕ → Bool → Type 0) → Result A EvalError → (A → Type 0) → Type 0
@@ -92,7 +92,7 @@ pub record AnswersQuery (R : Rules) (a b : Cx) (g h : SearchGraph) (input : Cano
   -- what is decided is answered so, and the positions are their own values
   pub decided : AnswersDecided R a g h (depth + 1) (λ m n b. IsBelow n (λ k. IsQueryDecided m (mode_of input.typing_mode) k (form_of a.nodes input) b)) r (λ x. IsOwnYes b.nodes (kinds_of input) x.value)
   -- where one candidate without goals decides its goal, and it does not stand on the stack, it is answered yes
-  pub facts : WhereTold R a g (λ m. IsFactForm m (mode_of input.typing_mode) (form_of a.nodes input) → HasNoInput a.nodes g input → CanDecide m a g 0 (depth + 1) → Decides true r (λ x. IsYes x.value.value.certainty) g h)
+  pub facts : WhereTold R a g (λ m. IsFactForm m.handler (mode_of input.typing_mode) (form_of a.nodes input) → HasNoInput a.nodes g input → CanDecide m.handler a g 0 (depth + 1) → Decides true r (λ x. IsYes x.value.value.certainty) g h)
 
 -- what a table came to stand for has only labels of these trees
 abbrev pub BringsOnlyOf : List Tree → Cx → Table → Cx → Table → Type 0
@@ -109,7 +109,7 @@ pub record AsksGoal (R : Rules) (a b : Cx) (g h : SearchGraph) (t u : Table) (go
   pub refuted : WhereTold R a g (λ m. r ≡ Err error.NoSolution → IsRefusedIn m t.mode a.nodes t goal ⊎ IsGoalCut a.nodes g (content_of a.nodes t.entries) t.mode (tree_at a.nodes goal.param_env.node) (tree_at a.nodes goal.predicate.node) step)
   pub decided : AnswersDecided R a g h (depth + 1) (λ m n b. IsBelow n (λ k. IsGoalDecided m (mode_of t.mode) k (tree_at a.nodes goal.param_env.node) (tree_at a.nodes goal.predicate.node) b)) r IsYesUnchanged
   -- at the root: where one candidate without goals decides the goal of its query, and it is not refused, it is answered yes
-  pub facts : WhereTold R a g (λ m. (IsInput (input_of a.nodes t.entries goal []) → IsFactForm m (mode_of t.mode) (canonical_of (input_of a.nodes t.entries goal []))) → (IsRefusedIn m t.mode a.nodes t goal → ⊥) → g.stack.items ≡ [] → CanDecide m a g 0 (depth + 1) → Decides true r (λ e. IsYes e.certainty) g h)
+  pub facts : WhereTold R a g (λ m. (IsInput (input_of a.nodes t.entries goal []) → IsFactForm m.handler (mode_of t.mode) (canonical_of (input_of a.nodes t.entries goal []))) → (IsRefusedIn m t.mode a.nodes t goal → ⊥) → g.stack.items ≡ [] → CanDecide m.handler a g 0 (depth + 1) → Decides true r (λ e. IsYes e.certainty) g h)
 
 -- a goal of a table, as the table knows it, is answered so at once: the store has fast paths, and the handler's says so
 pub record AnsweredAtOnce (h : Handler) (a : Cx) (t : Table) (g : Goal) (c : Certainty) : Type 0 where
@@ -124,7 +124,7 @@ pub record AsksAdded (R : Rules) (a b : Cx) (g h : SearchGraph) (t u : Table) (g
   pub labels : OnOk r (BringsOnlyOf (asked_terms a.nodes goal) a t b u)
   pub proved : Always R a (λ s. IfSure r (IsProvedFromSince R.handler s t.mode (assumed_behind step b h) b.nodes u goal))
   pub marks : Always R a (λ s. bound_of depth ≡ 0 → IfOk r (λ e. IsTrue h.has_overflowed ⊎ AnsweredAtOnce (R.handler s.base) a t goal e.certainty))
-  pub told : WhereTold R a g (λ m. IfOk r (λ e. EvaluatesUnder m t.mode a.nodes t b.nodes u goal e.certainty e.has_changed ⊎ ((bound_of depth ≡ 0) ⊎ AnsweredAtOnce m a t goal e.certainty) × (u.entries ≡ t.entries)))
+  pub told : WhereTold R a g (λ m. IfOk r (λ e. EvaluatesUnder m t.mode a.nodes t b.nodes u goal e.certainty e.has_changed ⊎ ((bound_of depth ≡ 0) ⊎ AnsweredAtOnce m.handler a t goal e.certainty) × (u.entries ≡ t.entries)))
   pub refuted : WhereTold R a g (λ m. r ≡ Err error.NoSolution → IsRefusedUnder m t.mode a.nodes t goal ⊎ (let c = content_of a.nodes t.entries in IsGoalCut a.nodes g c t.mode (deeply_resolved c (tree_at a.nodes goal.param_env.node)) (deeply_resolved c (tree_at a.nodes goal.predicate.node)) step))
   pub decided : AnswersDecided R a g h (bound_of depth) (λ m n b. IsBelow n (λ k. (let c = content_of a.nodes t.entries in IsGoalDecided m (mode_of t.mode) k (deeply_resolved c (tree_at a.nodes goal.param_env.node)) (deeply_resolved c (tree_at a.nodes goal.predicate.node)) b))) r IsYesUnchanged
 
@@ -142,7 +142,7 @@ pub record EndsRound (R : Rules) (a b : Cx) (g h : SearchGraph) (asked : Round) 
   -- a decided goal reads no provisional answer
   pub decided : Always R a (λ s. (n : ℕ) (k : Bool) → IsBelow n (λ m. IsQueryDecided (R.handler s.base) (mode_of asked.input.typing_mode) m (form_of a.nodes asked.input) k) → CanDecide (R.handler s.base) a g n (depth + 1)
       → IfOk r (λ z. (z.value.entry.is_read ≡ false) × IsRoundDecided k b.nodes (kinds_of asked.input) z.value.answer × IsAsBefore g h))
-  pub facts : WhereTold R a g (λ m. IsAnswerTold m (mode_of asked.input.typing_mode) a.nodes (form_of a.nodes asked.input) asked.provisional → IsFactForm m (mode_of asked.input.typing_mode) (form_of a.nodes asked.input) → CanDecide m a g 0 (depth + 1)
+  pub facts : WhereTold R a g (λ m. IsAnswerTold m (mode_of asked.input.typing_mode) a.nodes (form_of a.nodes asked.input) asked.provisional → IsFactForm m.handler (mode_of asked.input.typing_mode) (form_of a.nodes asked.input) → CanDecide m.handler a g 0 (depth + 1)
       → IfOk r (λ z. (z.value.entry.is_read ≡ false) × IsRoundYes z.value.answer × IsAsBefore g h))
 
 -- a goal of a query's table is answered for the terms that stand for its positions
@@ -154,7 +154,7 @@ pub record AnswersGoal (R : Rules) (a b : Cx) (g h : SearchGraph) (t : Table) (g
   pub refuted : WhereTold R a g (λ m. r ≡ Err error.NoSolution → IsRefuted m t.mode a.nodes t goal values)
   pub decided : AnswersDecided R a g h depth (λ m n b. IsRootQuery a.nodes t goal values × IsGoalDecided m (mode_of t.mode) n (tree_at a.nodes goal.param_env.node) (tree_at a.nodes goal.predicate.node) b) r (λ x. IsYes x.value.value.certainty)
   -- one candidate without goals decides it
-  pub facts : WhereTold R a g (λ m. IsFactHere m t.mode a.nodes t goal values → CanDecide m a g 0 depth → Decides true r (λ x. IsYes x.value.value.certainty) g h)
+  pub facts : WhereTold R a g (λ m. IsFactHere m.handler t.mode a.nodes t goal values → CanDecide m.handler a g 0 depth → Decides true r (λ x. IsYes x.value.value.certainty) g h)
 
 -- what is known of a goal of the engine's own kinds, the trees of which are of the store a: that the handler affirms it, or that its
 -- own way holds in the table c
@@ -164,17 +164,17 @@ HoldsOwn h m mode A a g c =
     ⊎ ((x : Candidate) × HasOwnWay h.judges (tree_at a g.param_env.node) (tree_at a g.predicate.node) x × HoldsCandidateFrom m mode A c (tree_at a g.predicate.node) x)
 
 -- .. what a response of the store b says of it: yes, where the table is as before; the verdict of its own way; or nothing
-abbrev pub OwnTold : Handler → TypingMode → List Tree → Table → Goal → List GenericArg → List Tree → Canonical Response → Type 0
+abbrev pub OwnTold : Ruling → TypingMode → List Tree → Table → Goal → List GenericArg → List Tree → Canonical Response → Type 0
 OwnTold h mode a t g qs b r =
-    SaysAffirmed h.judges (tree_at a g.param_env.node) (tree_at a g.predicate.node) × (is_yes r.value.certainty ≡ true) × IsResponseOf (content_of a t.entries) (trees_of a qs) (response_at b r)
-    ⊎ ((x : Candidate) × HasOwnWay h.judges (tree_at a g.param_env.node) (tree_at a g.predicate.node) x × Replies h (mode_of mode) (content_of a t.entries) (tree_at a g.param_env.node) (tree_at a g.predicate.node) (trees_of a qs) x (verdict_at b r))
+    SaysAffirmed (let m = h.handler in m.judges) (tree_at a g.param_env.node) (tree_at a g.predicate.node) × (is_yes r.value.certainty ≡ true) × IsResponseOf (content_of a t.entries) (trees_of a qs) (response_at b r)
+    ⊎ ((x : Candidate) × HasOwnWay (let m = h.handler in m.judges) (tree_at a g.param_env.node) (tree_at a g.predicate.node) x × Replies h (mode_of mode) (content_of a t.entries) (tree_at a g.param_env.node) (tree_at a g.predicate.node) (trees_of a qs) x (verdict_at b r))
     ⊎ (is_yes r.value.certainty ≡ false) × IsPlainResponse (content_of a t.entries) (trees_of a qs) (response_at b r)
 
 -- .. and why it has no solution: the handler denies it, or its own way fails
-abbrev pub OwnRefuted : Handler → TypingMode → List Tree → Table → Goal → Type 0
+abbrev pub OwnRefuted : Ruling → TypingMode → List Tree → Table → Goal → Type 0
 OwnRefuted h mode a t g =
-    IsDenied h.judges (statement_of (tree_at a g.predicate.node))
-    ⊎ ((x : Candidate) × HasOwnWay h.judges (tree_at a g.param_env.node) (tree_at a g.predicate.node) x × Fails h (mode_of mode) (content_of a t.entries) x)
+    IsDenied (let m = h.handler in m.judges) (statement_of (tree_at a g.predicate.node))
+    ⊎ ((x : Candidate) × HasOwnWay (let m = h.handler in m.judges) (tree_at a g.param_env.node) (tree_at a g.predicate.node) x × Fails h (mode_of mode) (content_of a t.entries) x)
 
 -- such a goal is answered
 pub record AnswersOwn (R : Rules) (a b : Cx) (g h : SearchGraph) (t : Table) (goal : Goal) (values : List GenericArg) (depth : ℕ) (r : Result (Box (Canonical Response)) EvalError) : Type 0 where
@@ -188,7 +188,7 @@ pub record AnswersOwn (R : Rules) (a b : Cx) (g h : SearchGraph) (t : Table) (go
 
 -- .. by candidates: what is proved where the answer is certain; what is told and refuted of them; how they fare where the goal is
 -- decided; and what is so where one of them decides it, which has no goals
-pub record AnswersBy (Proved : List Assumed → List Tree → Table → Type 0) (Told : Handler → Canonical Response → Type 0) (Failed : Handler → Type 0) (Settled : Handler → ℕ → Bool → Type 0) (Facts : Handler → Type 0) (R : Rules) (a b : Cx) (g h : SearchGraph) (t u : Table) (goal : Goal)
+pub record AnswersBy (Proved : List Assumed → List Tree → Table → Type 0) (Told : Ruling → Canonical Response → Type 0) (Failed : Ruling → Type 0) (Settled : Handler → ℕ → Bool → Type 0) (Facts : Ruling → Type 0) (R : Rules) (a b : Cx) (g h : SearchGraph) (t u : Table) (goal : Goal)
     (values : List GenericArg) (depth : ℕ) (r : Result (Box (Canonical Response)) EvalError) : Type 0 where
   pub same : u ≡ t
   pub grows : Grows a b
@@ -202,7 +202,7 @@ pub record AnswersBy (Proved : List Assumed → List Tree → Table → Type 0) 
 abbrev pub TriesEach : Rules → Cx → Cx → SearchGraph → SearchGraph → Table → Table → Goal → List GenericArg → List CandidateData → ℕ → Result (Box (Canonical Response)) EvalError → Type 0
 TriesEach R a b g h t u goal values xs depth r =
     AnswersBy (λ A c v. Always R a (λ s. AreOffered (R.handler s.base) t.mode a.nodes goal xs → IsServedSince R.handler s t.mode A c v goal)) (λ m. CandidatesTell m t.mode a.nodes t goal values xs b.nodes) (λ m. HaveOutcomes m t.mode a.nodes t goal values xs []) (λ m n k. AreRootValues a.nodes values × CandidatesSettled m t.mode n a.nodes t xs k)
-    (λ m. IsQueryAtFirst a.nodes t goal values → CandidatesSettled m t.mode 0 a.nodes t xs true → ArePlainCandidates a.nodes t goal xs → CanDecide m a g 0 depth → Decides true r (λ x. IsYes x.value.value.certainty) g h) R a b g h t u goal values depth r
+    (λ m. IsQueryAtFirst a.nodes t goal values → CandidatesSettled m.handler t.mode 0 a.nodes t xs true → ArePlainCandidates a.nodes t goal xs → CanDecide m.handler a g 0 depth → Decides true r (λ x. IsYes x.value.value.certainty) g h) R a b g h t u goal values depth r
 
 abbrev pub TriesOne : Rules → Cx → Cx → SearchGraph → SearchGraph → Table → Table → Goal → List GenericArg → CandidateData → ℕ → Result (Box (Canonical Response)) EvalError → Type 0
 TriesOne R a b g h t u goal values x depth r =

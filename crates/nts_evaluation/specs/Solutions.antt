@@ -18,6 +18,7 @@ use Rattle.nts_terms.specs.declared.modes.TypingMode.{TypingMode}
 use Rattle.nts_terms.specs.Modes.{mode_of}
 use Rattle.nts_unify.specs.Reading.{content_of}
 use Rattle.nts_table.specs.Tables.{Table}
+use Rattle.nts_meaning.specs.Telling.{Ruling}
 use Rattle.nts_meaning.specs.Meant.{EvaluatesUnder}
 
 -- the mode is coherence, and no rule of the handler normalizes an alias
@@ -42,7 +43,7 @@ abbrev pub HasNoInputSolution : Handler → Form → Type 0
 HasNoInputSolution h f = (truth : Truth) → IsFair truth → RespectsLeaks h truth → (v : ℕ → List Variance) → HasNoSolution (HasMetProof (meaning h v) truth) f
 
 -- the goal was evaluated with that certainty, and what that left of the table is gone
-pub record WasEvaluated (h : Handler) (mode : TypingMode) (a : List Tree) (t : Table) (g : Goal) (sure : Certainty) : Type 0 where
+pub record WasEvaluated (h : Ruling) (mode : TypingMode) (a : List Tree) (t : Table) (g : Goal) (sure : Certainty) : Type 0 where
   pub store : List Tree
   pub after : Table
   pub changed : HasChanged

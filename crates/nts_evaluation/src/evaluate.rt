@@ -26,9 +26,9 @@ use nts_store::EvalError;
 use nts_table::InferCtxt;
 use nts_terms::{Cx, GenericArg, Goal};
 use nts_trying::{
-    AvailableDepth, GoalRow, Judged, OwnGoal, Step, Trial, answer_outlives, check_leaks,
-    enter_forall, equate, fast_answer, goal_kind, goal_row, judge, keep_response, merge_responses,
-    record_constraints,
+    AvailableDepth, GoalRow, Judged, OwnGoal, Step, Trial, answer_outlives, answer_subtype,
+    check_leaks, enter_forall, equate, fast_answer, goal_kind, goal_row, judge, keep_response,
+    merge_responses, record_constraints,
 };
 
 /// Evaluates a goal in a query of its own: its leaves give place to positions, the search answers the query, and the response is
@@ -176,6 +176,9 @@ fn compute_goal<H: GoalHandler>(
             let response = evaluate_own(table, cx, handler, graph, opened, own, values, depth);
             cx.terms_are_formed();
             return response;
+        }
+        GoalRow::Subtype(opened, types) => {
+            return answer_subtype(table, cx, opened, types, values);
         }
         GoalRow::Candidates(opened) => opened,
     };

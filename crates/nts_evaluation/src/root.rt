@@ -8,7 +8,7 @@ ghost use Rattle.nts_terms.specs.Rest.{Grows};
 ghost use Rattle.nts_canonical.specs.Building.{kinds_of};
 ghost use Rattle.nts_meaning.specs.Answering.{IsQueryInput, IsAnswerTo};
 ghost use Rattle.nts_meaning.specs.Searching.{IsSearch, Searches};
-ghost use Rattle.nts_meaning.specs.Meant.{IsInputProved, IsQueryTold, IsQueryRefuted};
+ghost use Rattle.nts_meaning.specs.Meant.{ruling_in, IsInputProved, IsQueryTold, IsQueryRefuted};
 ghost use Rattle.nts_canonical.specs.Forms.{form_of};
 ghost use Rattle.nts_response.specs.Forms.{response_at};
 ghost use Rattle.nts_evaluation.specs.Solutions.{IsCoherenceOf, ContainsEach, HasNoInputSolution};
@@ -43,10 +43,10 @@ pub fn evaluate_input<H: GoalHandler>(
     ensures proved { (let h = H.handler cx.old.nodes handler.now in IfOk result (λ o. IfSome o (λ r.
         r.value.certainty ≡ certainty.Yes → IsInputProved
         (meaning h (variances_in cx.old.declarations)) cx.old.nodes input cx.new.nodes r))) }
-    ensures told { IfOk result (λ o. IfSome o (IsQueryTold (H.handler cx.old.nodes handler.now)
+    ensures told { IfOk result (λ o. IfSome o (IsQueryTold (ruling_in H.handler cx.old handler.now)
         (mode_of input.typing_mode) cx.old.nodes input cx.new.nodes)) }
     ensures refuted { IfOk result (λ o. IsNone o → IsQueryRefuted
-        (H.handler cx.old.nodes handler.now) (mode_of input.typing_mode) cx.old.nodes input) }
+        (ruling_in H.handler cx.old handler.now) (mode_of input.typing_mode) cx.old.nodes input) }
     ensures contains { (let h = H.handler cx.old.nodes handler.now in IsCoherenceOf h
         input.typing_mode → IfOk result (λ o. IfSome o (λ r. ContainsEach h
         (form_of cx.old.nodes input) (response_at cx.new.nodes r)))) }

@@ -8,7 +8,7 @@ ghost use Rattle.nts_terms.specs.Signatures.{variances_in};
 ghost use Rattle.nts_meaning.specs.Running.{HasRankedProofIn, HasFallingProofIn};
 ghost use Rattle.nts_terms.specs.Handles.{HoldsArg, HoldsGoal};
 ghost use Rattle.nts_meaning.specs.Evaluation.{Runs, IsAdmitted, IsPosed, IsGoalUnder};
-ghost use Rattle.nts_meaning.specs.Meant.{rules_of, Always, IsProvedSince, EvaluatesUnder, IsRefusedUnder};
+ghost use Rattle.nts_meaning.specs.Meant.{rules_of, ruling_in, ruling_since, Always, IsProvedSince, EvaluatesUnder, IsRefusedUnder};
 ghost use Rattle.nts_certainty.specs.declared.certainty.Certainty.TheVariants as certainty;
 ghost use Rattle.nts_terms.specs.Rest.{Grows};
 ghost use Rattle.nts_asking.specs.Stalled.{StillStalls, IsNotStalled};
@@ -93,7 +93,7 @@ pub fn evaluate_root_goal<H: GoalHandler>(
     ensures goal { IsNotStalled cx.old table.old stalled_on → IfOk result (λ e. IsGoalUnder
         cx.old.nodes cx.new.nodes table.old goal e.goal) }
     ensures evaluates { IsNotStalled cx.old table.old stalled_on → IfOk result (λ e. EvaluatesUnder
-        (H.handler cx.old.nodes handler.now) table.old.mode cx.old.nodes table.old cx.new.nodes
+        (ruling_in H.handler cx.old handler.now) table.old.mode cx.old.nodes table.old cx.new.nodes
         table.new goal e.certainty e.has_changed) }
     ensures kept { IsNotStalled cx.old table.old stalled_on → IfOk result (λ e. Keeps cx.new.nodes
         table.new.entries e.goal e.certainty e.has_changed e.stalled_on) }
@@ -105,7 +105,7 @@ pub fn evaluate_root_goal<H: GoalHandler>(
         IfOk result (λ e. e.certainty ≡ certainty.Yes → HasFallingProofIn (meaning h (variances_in
         cx.old.declarations)) (mode_of table.old.mode) cx.new.nodes table.new goal)) }
     ensures refuted { result ≡ Err EvalError.NoSolution → IsRefusedUnder
-        (H.handler cx.old.nodes handler.now) table.old.mode cx.old.nodes table.old goal }
+        (ruling_in H.handler cx.old handler.now) table.old.mode cx.old.nodes table.old goal }
     ensures none { result ≡ Err EvalError.NoSolution → IsCoherenceOf
         (H.handler cx.old.nodes handler.now) table.old.mode → HasNoSolutionUnder
         (H.handler cx.old.nodes handler.now) cx.old.nodes table.old goal }
@@ -152,8 +152,9 @@ pub fn evaluate_root<H: GoalHandler>(
     ensures runs { Runs cx.old cx.new table.old table.new }
     ensures goal { IfOk result (λ e. IsGoalUnder cx.old.nodes cx.new.nodes table.old goal e.goal) }
     ensures evaluates { Always (rules_of H.ready H.handler handler.now) cx.old (λ s.
-        IfOk result (λ e. EvaluatesUnder (H.handler s.base handler.now) table.old.mode
-        cx.old.nodes table.old cx.new.nodes table.new goal e.certainty e.has_changed)) }
+        IfOk result (λ e. EvaluatesUnder (ruling_since (λ ts. H.handler ts handler.now) s)
+        table.old.mode cx.old.nodes table.old cx.new.nodes table.new goal e.certainty
+        e.has_changed)) }
     ensures kept { IfOk result (λ e. Keeps cx.new.nodes table.new.entries e.goal e.certainty
         e.has_changed e.stalled_on) }
     ensures err { OnErr result (table.new ≡ table.old) }
@@ -161,8 +162,9 @@ pub fn evaluate_root<H: GoalHandler>(
         e.certainty ≡ certainty.Yes → IsProvedSince (λ ts. H.handler ts handler.now) s
         table.old.mode cx.new.nodes table.new goal)) }
     ensures refuted { Always (rules_of H.ready H.handler handler.now) cx.old (λ s.
-        result ≡ Err EvalError.NoSolution → IsRefusedUnder (H.handler s.base handler.now)
-        table.old.mode cx.old.nodes table.old goal) }
+        result ≡ Err EvalError.NoSolution → IsRefusedUnder
+        (ruling_since (λ ts. H.handler ts handler.now) s) table.old.mode cx.old.nodes table.old
+        goal) }
     ensures decided { Always (rules_of H.ready H.handler handler.now) cx.old (λ s. (b : Bool) →
         IsDeterminate (H.handler s.base handler.now) table.old.mode cx.old.nodes table.old goal
         depth b → MayAnswer (H.handler s.base handler.now) cx.old → IsAsDecided b result (λ e.

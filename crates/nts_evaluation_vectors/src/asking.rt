@@ -5,7 +5,7 @@ ghost use Rattle.nts_terms.specs.Handles.{HoldsArg, HoldsGoal, HoldsPredicate};
 ghost use Rattle.nts_terms.specs.Rest.{Grows};
 
 use crate::own::{Own, own_of};
-use crate::steps::{Of, outlives_of, predicate_of};
+use crate::steps::{Of, outlives_of, predicate_of, types_of};
 use nts_asking::GoalStalledOn;
 use nts_certainty::{Certainty, HasChanged};
 use nts_delegate::{Clauses, GoalHandler};
@@ -29,6 +29,10 @@ pub enum Wanted {
     Assumed(Of),
     /// That the first term outlives the second one, in an empty environment.
     Outlives(Name, Name),
+    /// That the first type is a subtype of the second one, in an empty environment.
+    Subtype(Name, Name),
+    /// That the first type can be coerced to the second one, in an empty environment.
+    Coerce(Name, Name),
     /// A statement of a kind that the engine answers by itself, in an empty environment.
     Says(Own),
 }
@@ -183,6 +187,8 @@ fn predicate_wanted(cx: &mut Cx, names: &Names, wanted: Wanted) -> Result<Predic
         Wanted::Plain(of) | Wanted::Assumed(of) => predicate_of(cx, names, &[], of),
         Wanted::EachRegion(of) => predicate_of(cx, names, &[Sort::Region], of),
         Wanted::Outlives(left, right) => outlives_of(cx, names, left, right),
+        Wanted::Subtype(a, b) => types_of(cx, names, false, a, b),
+        Wanted::Coerce(a, b) => types_of(cx, names, true, a, b),
         Wanted::Says(own) => own_of(cx, names, own),
     }
 }

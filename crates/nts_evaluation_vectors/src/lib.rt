@@ -19,3 +19,5 @@ mod stalled_tests;
 mod stalling_tests;
 #[cfg(test)]
 mod steps;
+#[cfg(test)]
+mod subtype_tests;

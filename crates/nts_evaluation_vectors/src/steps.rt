@@ -266,3 +266,34 @@ pub fn outlives_of(
     let value = PredicateKind::Clause(outlives);
     Ok(cx.mk_predicate(Binder { vars, value })?)
 }
+
+/// That the first type can be coerced to the second one, or is a subtype of it.
+pub fn types_of(
+    cx: &mut Cx,
+    names: &Names,
+    coerced: bool,
+    a: &str,
+    b: &str,
+) -> Result<Predicate, EvalError>
+    ensures holds { IfOk result (HoldsPredicate cx.new.nodes) }
+    ensures grows { Grows cx.old cx.new }
+{
+    let (a, b) = (names.term(a)?, names.term(b)?);
+    if !cx.holds(a) || !cx.holds(b) {
+        return Err(EvalError::NoSolution);
+    }
+    let (GenericArgKind::Type(a), GenericArgKind::Type(b)) = (a.kind(cx), b.kind(cx)) else {
+        return Err(EvalError::NoSolution);
+    };
+    let value = if coerced {
+        PredicateKind::Coerce { a, b }
+    } else {
+        PredicateKind::Subtype {
+            a_is_expected: false,
+            a,
+            b,
+        }
+    };
+    let vars = cx.mk_bound_vars(&[])?;
+    Ok(cx.mk_predicate(Binder { vars, value })?)
+}

@@ -71,6 +71,7 @@ fn explain_here<H: GoalHandler>(
         GoalRow::Unopened => return Ok(Vec::new(cx.alloc)),
         GoalRow::Outlives(_, _) => return Ok(Vec::new(cx.alloc)),
         GoalRow::Own(_, _) => return Ok(Vec::new(cx.alloc)),
+        GoalRow::Subtype(_, _) => return Ok(Vec::new(cx.alloc)),
         GoalRow::Unanswered(_) => return Ok(Vec::new(cx.alloc)),
         GoalRow::Candidates(opened) => opened,
     };

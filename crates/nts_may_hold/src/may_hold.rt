@@ -5,7 +5,7 @@ ghost use Rattle.nts_model.specs.Derivations.Handlers.{HasNoLeaks};
 ghost use Rattle.nts_table.specs.Tables.{IsTable};
 ghost use Rattle.nts_terms.specs.Rest.{Grows};
 ghost use Rattle.nts_evaluation.specs.nts_meaning.specs.Evaluation.{IsAdmitted, IsPosed};
-ghost use Rattle.nts_evaluation.specs.nts_meaning.specs.Meant.{rules_of, Always, IsRefusedUnder};
+ghost use Rattle.nts_evaluation.specs.nts_meaning.specs.Meant.{rules_of, ruling_in, ruling_since, Always, IsRefusedUnder};
 ghost use Rattle.nts_certainty.specs.declared.certainty.Certainty.TheVariants as certainty;
 ghost use Rattle.nts_evaluation.specs.Deciding.{IsDeterminate, IsFact, IsOnlyFact, MayAnswer, IsAsDecided};
 ghost use Rattle.nts_evaluation.specs.Solutions.{IsCoherenceOf, HasNoSolutionUnder, WasEvaluated, IsAllGood};
@@ -34,10 +34,10 @@ pub fn root_goal_may_hold_with_depth<H: GoalHandler>(
     requires admitted { IsAdmitted cx.old.nodes table.old goal }
     ensures same { table.new ≡ table.old }
     ensures grows { Grows cx.old cx.new }
-    ensures held { result ≡ Ok true → (c : Sure) × WasEvaluated (H.handler cx.old.nodes handler.now)
-        table.old.mode cx.old.nodes table.old goal c }
+    ensures held { result ≡ Ok true → (c : Sure) × WasEvaluated
+        (ruling_in H.handler cx.old handler.now) table.old.mode cx.old.nodes table.old goal c }
     ensures refuted { result ≡ Ok false → IsRefusedUnder
-        (H.handler cx.old.nodes handler.now) table.old.mode cx.old.nodes table.old goal }
+        (ruling_in H.handler cx.old handler.now) table.old.mode cx.old.nodes table.old goal }
     ensures none { result ≡ Ok false → IsCoherenceOf
         (H.handler cx.old.nodes handler.now) table.old.mode → HasNoSolutionUnder
         (H.handler cx.old.nodes handler.now) cx.old.nodes table.old goal }
@@ -75,10 +75,10 @@ pub fn root_goal_may_hold_opaque_types_jank<H: GoalHandler>(
     ensures same { table.new ≡ table.old }
     ensures grows { Grows cx.old cx.new }
     ensures held { result ≡ Ok true → (c : Sure) × IsAllGood c × WasEvaluated
-        (H.handler cx.old.nodes handler.now) table.old.mode cx.old.nodes table.old goal c }
-    ensures refuted { result ≡ Ok false → IsRefusedUnder (H.handler cx.old.nodes handler.now)
+        (ruling_in H.handler cx.old handler.now) table.old.mode cx.old.nodes table.old goal c }
+    ensures refuted { result ≡ Ok false → IsRefusedUnder (ruling_in H.handler cx.old handler.now)
         table.old.mode cx.old.nodes table.old goal ⊎ ((c : Sure) × (IsAllGood c → ⊥) × WasEvaluated
-        (H.handler cx.old.nodes handler.now) table.old.mode cx.old.nodes table.old goal c) }
+        (ruling_in H.handler cx.old handler.now) table.old.mode cx.old.nodes table.old goal c) }
     ensures decided { (b : Bool) → IsDeterminate (H.handler cx.old.nodes handler.now) table.old.mode
         cx.old.nodes table.old goal cx.old.recursion_limit b → MayAnswer
         (H.handler cx.old.nodes handler.now) cx.old → IfOk result (λ r. r ≡ b) }
@@ -119,11 +119,12 @@ fn evaluate_and_roll_back<H: GoalHandler>(
     ensures same { table.new ≡ table.old }
     ensures grows { Grows cx.old cx.new }
     ensures evaluated { Always (rules_of H.ready H.handler handler.now) cx.old (λ s.
-        IfOk result (WasEvaluated (H.handler s.base handler.now) table.old.mode cx.old.nodes
-        table.old goal)) }
+        IfOk result (WasEvaluated (ruling_since (λ ts. H.handler ts handler.now) s) table.old.mode
+        cx.old.nodes table.old goal)) }
     ensures refuted { Always (rules_of H.ready H.handler handler.now) cx.old (λ s.
-        result ≡ Err EvalError.NoSolution → IsRefusedUnder (H.handler s.base handler.now)
-        table.old.mode cx.old.nodes table.old goal) }
+        result ≡ Err EvalError.NoSolution → IsRefusedUnder
+        (ruling_since (λ ts. H.handler ts handler.now) s) table.old.mode cx.old.nodes table.old
+        goal) }
     ensures decided { Always (rules_of H.ready H.handler handler.now) cx.old (λ s. (b : Bool) →
         IsDeterminate (H.handler s.base handler.now) table.old.mode cx.old.nodes table.old goal
         depth b → MayAnswer (H.handler s.base handler.now) cx.old → IsAsDecided b result (λ c.

@@ -10,7 +10,6 @@ use Rattle.nts_model.specs.Tables.Contents.{Content}
 use Rattle.nts_model.specs.Terms.Substitutions.{leaf_tree, Occurs}
 use Rattle.nts_model.specs.Lists.{Among}
 use Rattle.nts_model.specs.Derivations.Rules.{Meaning, Mode}
-use Rattle.nts_model.specs.Derivations.Handlers.{Handler}
 use Rattle.nts_model.specs.Derivations.Proofs.{Assumed}
 use Rattle.nts_model.specs.Searching.Stacks.{IsProvedFrom, IsDerivedFrom}
 use Rattle.nts_theory.proofs.Responses.AskedFrom.{asked_proved_from, proved_from_continues}
@@ -39,7 +38,7 @@ use Rattle.nts_response.specs.declared.types.Response.{Response}
 use Rattle.nts_response.specs.Forms.{premise_at, response_at}
 use Rattle.nts_response.specs.Applicable.{ShowsConstraints, IsApplicable, IsResponseApplied}
 use Rattle.nts_theory.specs.Telling.{IsInputFor, Verdict}
-use Rattle.nts_meaning.specs.Telling.{QueryTells, QueryRefutes, Asked, Refused}
+use Rattle.nts_meaning.specs.Telling.{Ruling, QueryTells, QueryRefutes, Asked, Refused}
 use Rattle.nts_theory.specs.Telling.{IsCutIn}
 use Rattle.nts_meaning.specs.Meant.{IsQueryRefuted, IsRefusedIn, EvaluatesGoal}
 use Rattle.nts_meaning.specs.Searching.{IsCut, IsGoalCut, IsHead}
@@ -158,7 +157,7 @@ module _ {a b d : List Tree} {t : Table} {g : Goal} {q : Vec GenericArg × Canon
     here : IsResponseApplied a e t.entries u.entries (map leaf_tree (originals asked)) (response_at d r) false []
     here = subst (λ os. IsResponseApplied a e t.entries u.entries os (response_at d r) false []) leaves_are (applied_at now applied)
 
-    pub evaluates : (h : Handler) (mode : TypingMode) → IsAnswerTo d (kinds_of q.1) r → QueryTells h (mode_of mode) (form_of b q.1) (verdict_at d r) → (sure : Certainty) → sure ≡ r.value.certainty → (x : HasChanged) → (x ≡ changes.No) ↔ IsIdentity 0 (trees_of d r.value.var_values.items)
+    pub evaluates : (h : Ruling) (mode : TypingMode) → IsAnswerTo d (kinds_of q.1) r → QueryTells h (mode_of mode) (form_of b q.1) (verdict_at d r) → (sure : Certainty) → sure ≡ r.value.certainty → (x : HasChanged) → (x ≡ changes.No) ↔ IsIdentity 0 (trees_of d r.value.var_values.items)
         → EvaluatesGoal h mode a t e u g sure x
     evaluates h mode fits told sure certain x same =
         record {
@@ -195,18 +194,18 @@ module _ {a b d : List Tree} {t : Table} {g : Goal} {q : Vec GenericArg × Canon
       }
 
   -- what the query refutes, and what can't be applied
-  pub query_refutes : {h : Handler} {mode : Mode} → QueryRefutes h mode (form_of b q.1) → Refused h mode (content_of a t.entries) (tree_at a g.param_env.node) (tree_at a g.predicate.node)
+  pub query_refutes : {h : Ruling} {mode : Mode} → QueryRefutes h mode (form_of b q.1) → Refused h mode (content_of a t.entries) (tree_at a g.param_env.node) (tree_at a g.predicate.node)
   query_refutes {h} {mode} x = by_query asked of_goal (subst (λ f. QueryRefutes h mode f) query.form x)
 
   -- .. or it is cut as a cycle
-  pub query_cut : {h : Handler} {s : SearchGraph} {step : PathKind} → IsStack a s → All (IsHead a) s.stack.items → IsQueryRefuted h (mode_of q.1.typing_mode) b q.1 ⊎ IsCut b s (form_of b q.1) q.1.typing_mode step
+  pub query_cut : {h : Ruling} {s : SearchGraph} {step : PathKind} → IsStack a s → All (IsHead a) s.stack.items → IsQueryRefuted h (mode_of q.1.typing_mode) b q.1 ⊎ IsCut b s (form_of b q.1) q.1.typing_mode step
       → IsRefusedIn h t.mode a t g ⊎ IsGoalCut a s (content_of a t.entries) t.mode (tree_at a g.param_env.node) (tree_at a g.predicate.node) step
   query_cut {h} stack heads (inl x) = inl (query_refutes (subst (λ z. QueryRefutes h z (form_of b q.1)) query.mode x))
   query_cut {h} {s} {step} stack heads (inr x) =
       let there = cut_earlier ab stack heads x in
       inr (asked, of_goal, record { head = there.head; below = there.below; same = λ d. there.same d ∙ query.form; path = there.path; elsewhere = subst IsCutIn query.mode there.elsewhere })
 
-  pub response_refused : {h : Handler} {mode : Mode} (r : Canonical Response) → IsAnswerTo d (kinds_of q.1) r → QueryTells h mode (form_of b q.1) (verdict_at d r) → RefusesResponse (content_of d t.entries) (trees_of d q.0.items) (response_at d r) → Refused h mode (content_of a t.entries) (tree_at a g.param_env.node) (tree_at a g.predicate.node)
+  pub response_refused : {h : Ruling} {mode : Mode} (r : Canonical Response) → IsAnswerTo d (kinds_of q.1) r → QueryTells h mode (form_of b q.1) (verdict_at d r) → RefusesResponse (content_of d t.entries) (trees_of d q.0.items) (response_at d r) → Refused h mode (content_of a t.entries) (tree_at a g.param_env.node) (tree_at a g.predicate.node)
   response_refused {h} {mode} r fits x k = by_response asked (verdict_at d r) of_goal (subst (λ f. QueryTells h mode f (verdict_at d r)) query.form x) (rw kinds_are fits.to) (rw (now, leaves_are) at k)
 
 -- what an evaluation leaves, seen from a smaller store
@@ -215,5 +214,5 @@ evaluates_at same h =
     record { input = h.input; of_goal = rw same at h.of_goal; verdict = h.verdict; told = h.told; fits = h.fits; applied = applied_at same h.applied; certain = h.certain; changes = h.changes }
 
 -- a goal that was evaluated was asked
-pub was_asked : {h : Handler} {mode : Mode} {a e : List Tree} {t u : Entries} {x y : Tree} {sure : Certainty} {z : HasChanged} → Evaluates (QueryTells h mode) a e t u x y sure z → Asked h mode (content_of a t) (content_of e u) x y
+pub was_asked : {h : Ruling} {mode : Mode} {a e : List Tree} {t u : Entries} {x y : Tree} {sure : Certainty} {z : HasChanged} → Evaluates (QueryTells h mode) a e t u x y sure z → Asked h mode (content_of a t) (content_of e u) x y
 was_asked h = (let k = h.applied in asked_by h.input h.verdict h.of_goal h.told h.fits k.applies)

@@ -1,6 +1,7 @@
 -- The table that a query begins with, where the goal was known to the table that asks.
 use Rattle.std.proofs.Common.{◌≡◌, inl, inr, ℕ, zero, suc, ◌+◌, List, [], ◌∷◌, ◌++◌, map, length, get_or, Some, refl, sym, ap, subst, ◌∙◌, arith}
 use Rattle.std.specs.Prelude.{slice_get}
+use Rattle.nts_model.specs.declared.labels.Variance.{Variance}
 use Rattle.std.proofs.lemmas.List.{length-append, length-map, map-append, append_assoc}
 use Rattle.nts_model.specs.declared.labels.Sort.{Sort}
 use Rattle.nts_model.specs.declared.labels.Sort.TheVariants as sort
@@ -246,8 +247,8 @@ first_of_input i proper w =
 input_well_bound : (c : Content) (e g : Tree) (i : Input) → IsInputFor c e g i → Knows c (pair e g) → IsWellBound (whole i)
 input_well_bound c e g i h k = (let w = known_well_bound c (pair e g) k in rw (h.environment, h.predicate, h.hidden) (w.0, (w.1.0, (tt, tt))))
 
-pub begins_each : BeginsEach queries
-begins_each = record { first = λ c e g i h k. first_of_input i h.proper (form-well_bound i (input_well_bound c e g i h k)) }
+pub begins_each : (declared : ℕ → List Variance) → BeginsEach (queries declared)
+begins_each declared = record { first = λ c e g i h k. first_of_input i h.proper (form-well_bound i (input_well_bound c e g i h k)) }
 
 -- .. and so is the goal of a canonical input
 pub first_of_query : {ts : List Tree} {c : CanonicalInput} → IsQueryInput ts c → IsFirst (form_of ts c) (first_table (kinds_of c)) (first_values (kinds_of c))

@@ -3,7 +3,6 @@ use Rattle.std.proofs.Common.{◌≡◌, inl, inr, ℕ, ◌+◌, ◌<◌, List, 
 use Rattle.std.specs.Prelude.{All, max, ◌≤◌, Result, Ok, Err, IfOk, IfSome, ◌⊎◌, false}
 use Rattle.std.proofs.lemmas.List.Elements.{All-push, All-pop}
 use Rattle.nts_model.specs.Terms.Trees.{Tree}
-use Rattle.nts_model.specs.Derivations.Handlers.{Handler}
 use Rattle.nts_model.specs.Derivations.Rules.{Meaning, Mode}
 use Rattle.nts_model.specs.Derivations.Sequents.{PathKind as Kind}
 use Rattle.nts_model.specs.Derivations.Proofs.{Assumed, passed}
@@ -42,7 +41,7 @@ use Rattle.nts_meaning.specs.declared.round.Round.{Round}
 use Rattle.nts_meaning.specs.declared.round.Ended.{Ended}
 use Rattle.nts_meaning.specs.Rounds.{IsFirstRound, EndsWith, IsBoxed}
 use Rattle.nts_meaning.specs.Answering.{IsQueryInput, IsAnswerTo, IfAnswered, verdict_at}
-use Rattle.nts_meaning.specs.Telling.{QueryTells, QueryRefutes}
+use Rattle.nts_meaning.specs.Telling.{Ruling, QueryTells, QueryRefutes}
 use Rattle.nts_theory.specs.Telling.{SaysNothing}
 use Rattle.nts_theory.specs.Telling.Tells.{says_nothing}
 use Rattle.nts_meaning.specs.Searching.{IsHeadAnswer, IsHead, IsSearch, IsEntryLater, AreLater, Searches, assumed_in, IsAnswerTold, HeadsTell, IsCut, IsReadAt, HasNoneAt, IsGoalCut}
@@ -72,7 +71,7 @@ search_begun {a} {g} n stack none depth most =
       room = omega (arith, long, depth);
     }
 
-pub tell_begun : (g : SearchGraph) (hd : Handler) (ts : List Tree) → g.stack.items ≡ [] → HeadsTell hd ts g
+pub tell_begun : (g : SearchGraph) (hd : Ruling) (ts : List Tree) → g.stack.items ≡ [] → HeadsTell hd ts g
 tell_begun g hd ts none = λ i d l. (let long : length g.stack.items ≡ 0 = ap length none in absurd (omega (arith, l, long)))
 
 -- .. as it does wherever its room is that of its whole depth
@@ -125,7 +124,7 @@ search_pushed {a} {b} {g} {h} n input step p s w asked answer pushed kept rest =
     }
 
 -- .. which tells what its provisional answer tells
-pub tell_pushed : {a b : Cx} {g : SearchGraph} (h : SearchGraph) (hd : Handler) (n : ℕ) (input : CanonicalInput) (step : PathKind) (p : Option (Canonical Response)) → IsSearch a g n → Grows a b → IsQueryInput a.nodes input → IsHeadAnswer a.nodes (kinds_of input) p → (e : Option ℕ) × (h.stack.items ≡ g.stack.items ++ entry_of input step p e ∷ [])
+pub tell_pushed : {a b : Cx} {g : SearchGraph} (h : SearchGraph) (hd : Ruling) (n : ℕ) (input : CanonicalInput) (step : PathKind) (p : Option (Canonical Response)) → IsSearch a g n → Grows a b → IsQueryInput a.nodes input → IsHeadAnswer a.nodes (kinds_of input) p → (e : Option ℕ) × (h.stack.items ≡ g.stack.items ++ entry_of input step p e ∷ [])
     → HeadsTell hd a.nodes g → IsAnswerTold hd (mode_of input.typing_mode) a.nodes (form_of a.nodes input) p → HeadsTell hd b.nodes h
 tell_pushed {a} {b} {g} h hd n input step p s w asked answer pushed tells told =
     let mode = mode_of input.typing_mode in
@@ -222,7 +221,7 @@ round_proved m ts A own input f g o r is same e h sure =
     let one : r.value.certainty ≡ certainty.Yes → IsDerivedFrom m (mode_of own.typing_mode) A (answer_sequent f (response_at ts r)) = subst (λ z. IfSome z (λ q. q.value.certainty ≡ certainty.Yes → IsDerivedFrom m (mode_of own.typing_mode) A (answer_sequent f (response_at ts q)))) e h in
     subst (λ (i : CanonicalInput). IsDerivedFrom m (mode_of i.typing_mode) A (answer_sequent g (response_at ts r))) is (subst (λ z. IsDerivedFrom m (mode_of own.typing_mode) A (answer_sequent z (response_at ts r))) same (one sure))
 
-pub round_told : (h : Handler) (ts : List Tree) (own input : CanonicalInput) (f g : Form) (o : Option (Canonical Response)) → own ≡ input → f ≡ g → IsAnswerTold h (mode_of own.typing_mode) ts f o → IsAnswerTold h (mode_of input.typing_mode) ts g o
+pub round_told : (h : Ruling) (ts : List Tree) (own input : CanonicalInput) (f g : Form) (o : Option (Canonical Response)) → own ≡ input → f ≡ g → IsAnswerTold h (mode_of own.typing_mode) ts f o → IsAnswerTold h (mode_of input.typing_mode) ts g o
 round_told h ts own input f g o is same t = subst (λ (i : CanonicalInput). IsAnswerTold h (mode_of i.typing_mode) ts g o) is (subst (λ z. IsAnswerTold h (mode_of own.typing_mode) ts z o) same t)
 
 -- an answer of the last round: it can be applied, it is derived, and it is told or refuted
@@ -230,10 +229,10 @@ module _ (x : Option (Canonical Response)) (z : Result (Box (Canonical Response)
   pub last_fits : (ts : List Tree) (ks : List PositionKind) → IsHeadAnswer ts ks x → IfAnswered z (IsAnswerTo ts ks)
   last_fits ts ks h = by_answer x z some none (λ r e. subst (IsHeadAnswer ts ks) e h)
 
-  pub last_told : (hd : Handler) (mode : Mode) (ts : List Tree) (f : Form) → IsAnswerTold hd mode ts f x → IfAnswered z (λ r. QueryTells hd mode f (verdict_at ts r))
+  pub last_told : (hd : Ruling) (mode : Mode) (ts : List Tree) (f : Form) → IsAnswerTold hd mode ts f x → IfAnswered z (λ r. QueryTells hd mode f (verdict_at ts r))
   last_told hd mode ts f h = by_answer x z some none (λ r e. subst (IsAnswerTold hd mode ts f) e h)
 
-  pub last_refuted : (hd : Handler) (mode : Mode) (ts : List Tree) (f : Form) → IsAnswerTold hd mode ts f x → z ≡ Err error.NoSolution → QueryRefutes hd mode f
+  pub last_refuted : (hd : Ruling) (mode : Mode) (ts : List Tree) (f : Form) → IsAnswerTold hd mode ts f x → z ≡ Err error.NoSolution → QueryRefutes hd mode f
   last_refuted hd mode ts f h e = subst (IsAnswerTold hd mode ts f) (some_is_ok x z some e) h
 
   pub last_each : {P : Canonical Response → Type 0} → ((r : Canonical Response) → x ≡ Some r → P r) → IfAnswered z P
@@ -243,7 +242,7 @@ module _ (x : Option (Canonical Response)) (z : Result (Box (Canonical Response)
 pub first_fits : (ts : List Tree) (i : CanonicalInput) (x : Round) → IsFirstRound ts i x → IsHeadAnswer ts (kinds_of i) x.provisional
 first_fits ts i x h = subst (IsHeadAnswer ts (kinds_of i)) (sym h.is) h.fits
 
-pub first_told : (hd : Handler) (mode : Mode) (ts : List Tree) (f : Form) (i : CanonicalInput) (x : Round) → f.kinds ≡ kinds_of i → IsFirstRound ts i x → IsAnswerTold hd mode ts f x.provisional
+pub first_told : (hd : Ruling) (mode : Mode) (ts : List Tree) (f : Form) (i : CanonicalInput) (x : Round) → f.kinds ≡ kinds_of i → IsFirstRound ts i x → IsAnswerTold hd mode ts f x.provisional
 first_told hd mode ts f i x same h = subst (IsAnswerTold hd mode ts f) (sym h.is) (says_nothing (rw same h.nothing))
 
 -- what a round ends with, by what its table answered
@@ -263,7 +262,7 @@ some_entry : {X : Type 0} (xs : List X) (n : ℕ) → n < length xs → X
 some_entry [] n l = absurd (omega (arith, l))
 some_entry (x ∷ xs) n l = x
 
-module _ {a b : Cx} {g : SearchGraph} (hd : Handler) (n m : ℕ) (input : CanonicalInput) (search : IsSearch a g m) (w : Grows a b) (at : IsInputAt a.nodes g input n) (tells : HeadsTell hd a.nodes g) where
+module _ {a b : Cx} {g : SearchGraph} (hd : Ruling) (n m : ℕ) (input : CanonicalInput) (search : IsSearch a g m) (w : Grows a b) (at : IsInputAt a.nodes g input n) (tells : HeadsTell hd a.nodes g) where
   abbrev d : StackEntry
   d = some_entry g.stack.items n at.below
 

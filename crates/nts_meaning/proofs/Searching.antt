@@ -35,7 +35,7 @@ use Rattle.nts_response.proofs.Each.{response_kept}
 use Rattle.nts_meaning.specs.Answering.{IsFormOf, IsQueryInput, IsAnswerTo, TellsNoMore}
 use Rattle.nts_meaning.specs.Meant.{IsServed, HoldsSurely}
 use Rattle.nts_meaning.specs.Running.{Stays}
-use Rattle.nts_meaning.specs.Telling.{QueryTells}
+use Rattle.nts_meaning.specs.Telling.{Ruling, QueryTells}
 use Rattle.nts_candidates.specs.Offered.{path_kind_of}
 use Rattle.nts_search.specs.declared.stack.StackEntry.{StackEntry}
 use Rattle.nts_search.specs.declared.stack.SearchGraph.{SearchGraph}
@@ -265,14 +265,14 @@ served_more {h} {m} {mode} {A} {B} {c} {e} {g} f s =
     record { candidate = s.candidate; offered = s.offered; sure = x.sure; holds = x.holds }
 
 -- what provisional answers tell
-abbrev IsToldAt : Handler → List Tree → StackEntry → Type 0
+abbrev IsToldAt : Ruling → List Tree → StackEntry → Type 0
 IsToldAt h ts x = IsAnswerTold h (mode_of x.input.typing_mode) ts (form_of ts x.input) x.provisional
 
-pub answer_told_later : (h : Handler) (mode : Mode) (a b : List Tree) (ks : List PositionKind) (f : Form) (x : Option (Canonical Response)) → Extends a b → IsHeadAnswer a ks x → IsAnswerTold h mode a f x → IsAnswerTold h mode b f x
+pub answer_told_later : (h : Ruling) (mode : Mode) (a b : List Tree) (ks : List PositionKind) (f : Form) (x : Option (Canonical Response)) → Extends a b → IsHeadAnswer a ks x → IsAnswerTold h mode a f x → IsAnswerTold h mode b f x
 answer_told_later h mode a b ks f None e k t = t
 answer_told_later h mode a b ks f (Some r) e k t = subst (QueryTells h mode f) (sym (verdict_same a b r e k.holds)) t
 
-told_at : (h : Handler) (a b : List Tree) (x y : StackEntry) → Extends a b → IsHead a x → IsEntryLater x y → IsToldAt h a x → IsToldAt h b y
+told_at : (h : Ruling) (a b : List Tree) (x y : StackEntry) → Extends a b → IsHead a x → IsEntryLater x y → IsToldAt h a x → IsToldAt h b y
 told_at h a b x y e head later told =
     let input = later.input in
     let provisional = later.provisional in
@@ -280,17 +280,17 @@ told_at h a b x y e head later told =
     let here : IsToldAt h b x = subst (λ f. IsAnswerTold h (mode_of x.input.typing_mode) b f x.provisional) (sym (form_later a b x.input e head.input)) there in
     rw (input, provisional) here
 
-told_later : (h : Handler) (a b : List Tree) (xs ys : List StackEntry) → Extends a b → All (IsHead a) xs → AreLater xs ys → All (IsToldAt h a) xs → All (IsToldAt h b) ys
+told_later : (h : Ruling) (a b : List Tree) (xs ys : List StackEntry) → Extends a b → All (IsHead a) xs → AreLater xs ys → All (IsToldAt h a) xs → All (IsToldAt h b) ys
 told_later h a b [] [] e k l t = λ i d z. absurd (omega (arith, z))
 told_later h a b [] (y ∷ ys) e k l t = absurd l
 told_later h a b (x ∷ xs) [] e k l t = absurd l
 told_later h a b (x ∷ xs) (y ∷ ys) e k l t =
     All-cons (IsToldAt h b) y ys (told_at h a b x y e (All-head (IsHead a) x xs k) l.0 (All-head (IsToldAt h a) x xs t)) (told_later h a b xs ys e (All-tail (IsHead a) x xs k) l.1 (All-tail (IsToldAt h a) x xs t))
 
-pub heads_tell_later : {a b : Cx} {g h : SearchGraph} (hd : Handler) (n : ℕ) → IsSearch a g n → Extends a.nodes b.nodes → Searches a b g h → HeadsTell hd a.nodes g → HeadsTell hd b.nodes h
+pub heads_tell_later : {a b : Cx} {g h : SearchGraph} (hd : Ruling) (n : ℕ) → IsSearch a g n → Extends a.nodes b.nodes → Searches a b g h → HeadsTell hd a.nodes g → HeadsTell hd b.nodes h
 heads_tell_later {a} {b} {g} {h} hd n s e x t = told_later hd a.nodes b.nodes g.stack.items h.stack.items e s.heads x.later t
 
-pub tell_grown : {a b : Cx} {g : SearchGraph} (hd : Handler) (n : ℕ) → IsSearch a g n → Grows a b → HeadsTell hd a.nodes g → HeadsTell hd b.nodes g
+pub tell_grown : {a b : Cx} {g : SearchGraph} (hd : Ruling) (n : ℕ) → IsSearch a g n → Grows a b → HeadsTell hd a.nodes g → HeadsTell hd b.nodes g
 tell_grown hd n s w t = heads_tell_later hd n s w.extends (Searches-refl n s w) t
 
 pub covers_grown : {a b : Cx} {g : SearchGraph} (n : ℕ) → IsSearch a g n → Grows a b → Covers (assumed_in a.nodes g) (assumed_in b.nodes g)

@@ -29,7 +29,7 @@ use Rattle.nts_response.specs.Forms.{response_at}
 use Rattle.nts_model.specs.Canonical.Inputs.{PositionKind}
 use Rattle.nts_model.specs.Answers.Responses.{answer_sequent}
 use Rattle.nts_candidates.specs.Offered.{source_of, candidate_of, candidates_of}
-use Rattle.nts_meaning.specs.Telling.{Tells, Refutes, Outcomes, Replies, Fails, Reaches, RefusesOne, Asked, Refused, QueryTells, QueryRefutes}
+use Rattle.nts_meaning.specs.Telling.{Ruling, Tells, Refutes, Outcomes, Replies, Fails, Reaches, RefusesOne, Asked, Refused, QueryTells, QueryRefutes}
 use Rattle.nts_theory.specs.Telling.{IsPlainResponse, goals_with, IsBegun}
 use Rattle.nts_meaning.specs.Evaluation.{goals_at}
 use Rattle.nts_meaning.specs.Running.{StaysProved}
@@ -62,6 +62,14 @@ Always R a P = (s : Since R.ready a) → P s
 -- what the handler means there
 abbrev pub meaning_since : {ready : List Tree → Type 0} {now : Cx} → (List Tree → Handler) → Since ready now → Meaning
 meaning_since handler s = meaning (handler s.base) s.variances
+
+-- .. and what goals are judged by since then; or in a store, in which the handler's terms stand
+abbrev pub ruling_since : {ready : List Tree → Type 0} {now : Cx} → (List Tree → Handler) → Since ready now → Ruling
+ruling_since handler s = record { handler = handler s.base; variances = s.variances }
+
+-- what a handler means in a store, with the variances that are declared there
+abbrev pub ruling_in : {S : Type 0} → (List Tree → S → Handler) → Cx → S → Ruling
+ruling_in handler a s = record { handler = handler a.nodes s; variances = variances_in a.declarations }
 
 -- what a handler offers for a goal of a store
 abbrev pub offers_of : Handler → Mode → List Tree → Goal → List Candidate
@@ -110,26 +118,26 @@ abbrev pub IsNestedSince : {ready : List Tree → Type 0} {now : Cx} → (List T
 IsNestedSince handler s mode z A ts t g = IsProvedFromSince handler s mode (passed (step_kind z (source_of g.0)) A) ts t g.1
 
 -- a goal of the table t and the store a was evaluated, which left the table u of the store b; and it was refused
-abbrev pub EvaluatesGoal : Handler → TypingMode → List Tree → Table → List Tree → Table → Goal → Certainty → HasChanged → Type 0
+abbrev pub EvaluatesGoal : Ruling → TypingMode → List Tree → Table → List Tree → Table → Goal → Certainty → HasChanged → Type 0
 EvaluatesGoal h mode a t b u g sure changed =
     Evaluates (QueryTells h (mode_of mode)) a b t.entries u.entries (tree_at a g.param_env.node) (tree_at a g.predicate.node) sure changed
 
-abbrev pub IsRefusedIn : Handler → TypingMode → List Tree → Table → Goal → Type 0
+abbrev pub IsRefusedIn : Ruling → TypingMode → List Tree → Table → Goal → Type 0
 IsRefusedIn h mode a t g =
     Refused h (mode_of mode) (content_of a t.entries) (tree_at a g.param_env.node) (tree_at a g.predicate.node)
 
 -- the goal as the table knows it was evaluated: its query tells a verdict, and the response was applied to the goal's leaves
-abbrev pub EvaluatesUnder : Handler → TypingMode → List Tree → Table → List Tree → Table → Goal → Certainty → HasChanged → Type 0
+abbrev pub EvaluatesUnder : Ruling → TypingMode → List Tree → Table → List Tree → Table → Goal → Certainty → HasChanged → Type 0
 EvaluatesUnder h mode a t b u g sure changed =
     Evaluates (QueryTells h (mode_of mode)) a b t.entries u.entries (deeply_resolved (content_of a t.entries) (tree_at a g.param_env.node)) (deeply_resolved (content_of a t.entries) (tree_at a g.predicate.node)) sure changed
 
 -- .. so it was asked
-abbrev pub IsAskedUnder : Handler → TypingMode → List Tree → Table → List Tree → Table → Goal → Type 0
+abbrev pub IsAskedUnder : Ruling → TypingMode → List Tree → Table → List Tree → Table → Goal → Type 0
 IsAskedUnder h mode a t b u g =
     Asked h (mode_of mode) (content_of a t.entries) (content_of b u.entries) (deeply_resolved (content_of a t.entries) (tree_at a g.param_env.node)) (deeply_resolved (content_of a t.entries) (tree_at a g.predicate.node))
 
 -- the goal as the table knows it is refused: by its query, or since no solution of the table grants the response
-abbrev pub IsRefusedUnder : Handler → TypingMode → List Tree → Table → Goal → Type 0
+abbrev pub IsRefusedUnder : Ruling → TypingMode → List Tree → Table → Goal → Type 0
 IsRefusedUnder h mode a t g =
     Refused h (mode_of mode) (content_of a t.entries) (deeply_resolved (content_of a t.entries) (tree_at a g.param_env.node)) (deeply_resolved (content_of a t.entries) (tree_at a g.predicate.node))
 
@@ -138,46 +146,46 @@ abbrev pub IsInputProved : Meaning → List Tree → CanonicalInput → List Tre
 IsInputProved m a i b r = HasProof m (mode_of i.typing_mode) (answer_sequent (form_of a i) (response_at b r))
 
 -- a query's response, of the store b, and what the query refutes
-abbrev pub IsQueryTold : Handler → Mode → List Tree → CanonicalInput → List Tree → Canonical Response → Type 0
+abbrev pub IsQueryTold : Ruling → Mode → List Tree → CanonicalInput → List Tree → Canonical Response → Type 0
 IsQueryTold h mode a i b r = QueryTells h mode (form_of a i) (verdict_at b r)
 
-abbrev pub IsQueryRefuted : Handler → Mode → List Tree → CanonicalInput → Type 0
+abbrev pub IsQueryRefuted : Ruling → Mode → List Tree → CanonicalInput → Type 0
 IsQueryRefuted h mode a i = QueryRefutes h mode (form_of a i)
 
 -- .. for a goal of a query's table and the terms that stand for the positions, whatever their kinds
-abbrev pub IsTold : Handler → TypingMode → List Tree → Table → Goal → List GenericArg → List Tree → Canonical Response → Type 0
+abbrev pub IsTold : Ruling → TypingMode → List Tree → Table → Goal → List GenericArg → List Tree → Canonical Response → Type 0
 IsTold h mode a t g qs b r =
     (ks : List PositionKind) → Tells h (mode_of mode) ks (content_of a t.entries) (tree_at a g.param_env.node) (tree_at a g.predicate.node) (trees_of a qs) (verdict_at b r)
 
-abbrev pub IsRefuted : Handler → TypingMode → List Tree → Table → Goal → List GenericArg → Type 0
+abbrev pub IsRefuted : Ruling → TypingMode → List Tree → Table → Goal → List GenericArg → Type 0
 IsRefuted h mode a t g qs = Refutes h (mode_of mode) (content_of a t.entries) (tree_at a g.param_env.node) (tree_at a g.predicate.node) (trees_of a qs)
 
 -- .. by candidates: their outcomes, and the response that stands for them, or one that tells nothing
-abbrev pub HaveOutcomes : Handler → TypingMode → List Tree → Table → Goal → List GenericArg → List CandidateData → List Verdict → Type 0
+abbrev pub HaveOutcomes : Ruling → TypingMode → List Tree → Table → Goal → List GenericArg → List CandidateData → List Verdict → Type 0
 HaveOutcomes h mode a t g qs xs vs = Outcomes h (mode_of mode) (content_of a t.entries) (tree_at a g.param_env.node) (tree_at a g.predicate.node) (trees_of a qs) (candidates_of a xs) vs
 
-abbrev pub CandidatesTell : Handler → TypingMode → List Tree → Table → Goal → List GenericArg → List CandidateData → List Tree → Canonical Response → Type 0
+abbrev pub CandidatesTell : Ruling → TypingMode → List Tree → Table → Goal → List GenericArg → List CandidateData → List Tree → Canonical Response → Type 0
 CandidatesTell h mode a t g qs xs b r =
     ((vs : List Verdict) × HaveOutcomes h mode a t g qs xs vs × StandsForAll (trees_of a qs) vs (verdict_at b r))
     ⊎ (is_yes r.value.certainty ≡ false) × IsPlainResponse (content_of a t.entries) (trees_of a qs) (response_at b r)
 
 -- .. by one of them
-abbrev pub RepliesWith : Handler → TypingMode → List Tree → Table → Goal → List GenericArg → CandidateData → List Tree → Canonical Response → Type 0
+abbrev pub RepliesWith : Ruling → TypingMode → List Tree → Table → Goal → List GenericArg → CandidateData → List Tree → Canonical Response → Type 0
 RepliesWith h mode a t g qs x b r = Replies h (mode_of mode) (content_of a t.entries) (tree_at a g.param_env.node) (tree_at a g.predicate.node) (trees_of a qs) (candidate_of a x) (verdict_at b r)
 
-abbrev pub FailsIn : Handler → TypingMode → List Tree → Table → CandidateData → Type 0
+abbrev pub FailsIn : Ruling → TypingMode → List Tree → Table → CandidateData → Type 0
 FailsIn h mode a t x = Fails h (mode_of mode) (content_of a t.entries) (candidate_of a x)
 
 -- a candidate was run: it is begun, and then some of its goals are asked
-pub record HasRunTo (h : Handler) (mode : TypingMode) (a : List Tree) (t : Table) (b : List Tree) (u : Table) (x : CandidateData) : Type 0 where
+pub record HasRunTo (h : Ruling) (mode : TypingMode) (a : List Tree) (t : Table) (b : List Tree) (u : Table) (x : CandidateData) : Type 0 where
   pub values : List Tree
   pub met : Content
   pub begun : IsBegun (content_of a t.entries) (candidate_of a x) values met
   pub reaches : (let y = candidate_of a x in Reaches h (mode_of mode) (goals_with values y.goals) met (content_of b u.entries))
 
 -- goals of the store a were asked
-abbrev pub ReachesBy : Handler → TypingMode → List Tree → Table → List Tree → Table → List (GoalSource × Goal) → Type 0
+abbrev pub ReachesBy : Ruling → TypingMode → List Tree → Table → List Tree → Table → List (GoalSource × Goal) → Type 0
 ReachesBy h mode a t b u gs = Reaches h (mode_of mode) (goals_at a gs) (content_of a t.entries) (content_of b u.entries)
 
-abbrev pub RefusesOneOf : Handler → TypingMode → List Tree → Table → List (GoalSource × Goal) → Type 0
+abbrev pub RefusesOneOf : Ruling → TypingMode → List Tree → Table → List (GoalSource × Goal) → Type 0
 RefusesOneOf h mode a t gs = RefusesOne h (mode_of mode) (goals_at a gs) (content_of a t.entries)

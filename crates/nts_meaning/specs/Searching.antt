@@ -1,7 +1,6 @@
 -- How the stack of a search stands while goals are evaluated.
 use Rattle.std.specs.Prelude.{suc, ◌<◌, ◌-◌, ◌≡◌, ℕ, ◌+◌, ◌≤◌, List, [], ◌∷◌, length, get_or, Option, Some, None, All, IsTrue}
 use Rattle.nts_model.specs.Terms.Trees.{Tree}
-use Rattle.nts_model.specs.Derivations.Handlers.{Handler}
 use Rattle.nts_model.specs.Derivations.Rules.{Mode}
 use Rattle.nts_model.specs.Derivations.Proofs.{Assumed}
 use Rattle.nts_model.specs.Searching.Stacks.{assumptions, path_kind}
@@ -19,7 +18,7 @@ use Rattle.nts_search.specs.declared.stack.StackEntry.{StackEntry}
 use Rattle.nts_search.specs.declared.stack.SearchGraph.{SearchGraph}
 use Rattle.nts_search.specs.Searching.{entries_at, IsStack}
 use Rattle.nts_meaning.specs.Answering.{IsQueryInput, IsAnswerTo, verdict_at}
-use Rattle.nts_meaning.specs.Telling.{QueryTells, QueryRefutes}
+use Rattle.nts_meaning.specs.Telling.{Ruling, QueryTells, QueryRefutes}
 use Rattle.nts_theory.specs.Telling.{IsCutIn, IsInputFor}
 use Rattle.nts_model.specs.Derivations.Sequents.{inductive}
 use Rattle.nts_candidates.specs.Offered.{path_kind_of}
@@ -71,12 +70,12 @@ abbrev pub assumed_in : List Tree → SearchGraph → List Assumed
 assumed_in ts g = assumptions (entries_at ts g)
 
 -- an answer to an input is told, or it is refuted
-abbrev pub IsAnswerTold : Handler → Mode → List Tree → Form → Option (Canonical Response) → Type 0
+abbrev pub IsAnswerTold : Ruling → Mode → List Tree → Form → Option (Canonical Response) → Type 0
 IsAnswerTold h mode ts f None = QueryRefutes h mode f
 IsAnswerTold h mode ts f (Some r) = QueryTells h mode f (verdict_at ts r)
 
 -- .. and so are all provisional answers
-abbrev pub HeadsTell : Handler → List Tree → SearchGraph → Type 0
+abbrev pub HeadsTell : Ruling → List Tree → SearchGraph → Type 0
 HeadsTell h ts g = All (λ x. IsAnswerTold h (mode_of x.input.typing_mode) ts (form_of ts x.input) x.provisional) g.stack.items
 
 -- a cycle without a solution: an input of this form stands on the stack, and all steps from it on are inductive, the last

@@ -8,6 +8,7 @@ pub mod ErasingExamples
 pub mod OpenGoalExample
 pub mod ToldExamples
 pub mod JudgedExamples
+pub mod SubtypingExamples
 pub mod RecordingExamples
 pub mod RefutationExamples
 pub mod SolutionExamples

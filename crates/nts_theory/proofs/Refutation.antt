@@ -21,6 +21,7 @@ pub mod OpenedTerms
 pub mod Stating
 pub mod Recording
 pub mod Affirming
+pub mod Subtyping
 pub mod ReachedGoals
 pub mod Queried
 pub mod Begun

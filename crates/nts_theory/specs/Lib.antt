@@ -1,5 +1,6 @@
 pub mod Erased
 pub mod Affirming
 pub mod Outliving
+pub mod Subtyping
 pub mod Refutation
 pub mod Telling

@@ -3,6 +3,7 @@
 use Rattle.std.specs.Prelude.{◌≡◌, ◌⊎◌, ◌↔◌, ℕ, ◌+◌, ◌≤◌, Bool, true, false, List, [], ◌∷◌, ◌++◌, map, length, get_or, Some}
 use Rattle.nts_model.specs.declared.labels.Sort.{Sort}
 use Rattle.nts_model.specs.declared.labels.VariableKind.TheVariants as variable
+use Rattle.nts_model.specs.declared.labels.Variance.{Variance}
 use Rattle.nts_model.specs.declared.labels.Leaf.{Leaf}
 use Rattle.nts_model.specs.declared.labels.Leaf.TheVariants as leaf
 use Rattle.nts_model.specs.declared.labels.ClauseHead.TheVariants as clause
@@ -31,6 +32,7 @@ use Rattle.nts_model.specs.Answers.Applying.{IsProperContent}
 use Rattle.nts_model.specs.Derivations.Proving.{HoldsTerms, AreConstraintsOf}
 use Rattle.nts_theory.specs.Affirming.{SaysAffirmed, IsDenied, HasOwnWay}
 use Rattle.nts_theory.specs.Outliving.{IsOutlives}
+use Rattle.nts_theory.specs.Subtyping.{LeavesPremises, IsNoSubtype}
 use Rattle.nts_model.specs.Answers.Responses.{Findings, AreFindings, Response, response_of, IsResponseTo, Applies, RefusesResponse}
 
 -- a response, and whether it is certain
@@ -38,10 +40,12 @@ pub record Verdict : Type 0 where
   pub response : Response
   pub is_yes : Bool
 
--- the table of a query at first, where its input has these kinds, and what stands for the positions there
+-- the table of a query at first, where its input has these kinds, and what stands for the positions there; and the variances that are
+-- declared for the parameters of types
 pub record Queries : Type 0 where
   pub table : List PositionKind → Content
   pub values : List PositionKind → List Tree
+  pub variances : ℕ → List Variance
 
 -- these are the sub roots of a table: two variables have one exactly if they are of one class
 abbrev pub AreClassesOf : Content → (ℕ → ℕ) → Type 0
@@ -136,7 +140,7 @@ IsInductive type_relating = Unit {0}
 IsInductive (normalize_goal inductive) = Unit {0}
 IsInductive s = ⊥
 
--- in coherence an inductive cycle is in doubt, and elsewhere it has no solution
+-- in coherence an inductive cycle is in doubt, and elsewhere it has no solution; there alone subtypes are related
 abbrev pub IsCutIn : Mode → Type 0
 IsCutIn mode = mode ≡ coherence → ⊥
 
@@ -199,7 +203,9 @@ pub record SaysRecorded (x : Constraint) (c : Content) (e g : Tree) (qs : List T
 mutual
   -- what a goal is answered in a table, for these terms of an input of these kinds: nothing is told; or the verdict that stands
   -- for those of the candidates for the goal; or, of a goal that something outlives a region, yes, where the table holds that; or,
-  -- of a goal that the handler affirms, yes, where the table is as before; or, of one that has one way by the engine, the verdict of that
+  -- of a goal that the handler affirms, yes, where the table is as before; or, of one that has one way by the engine, the verdict of that;
+  -- or, of a goal that one type is a subtype of another, outside of coherence, what the two, once related, and the goals that this
+  -- left came to
   pub data Tells (Q : Queries) (h : Handler) (mode : Mode) : List PositionKind → Content → Tree → Tree → List Tree → Verdict → Type 0 where
     tells_nothing : {ks : List PositionKind} {c : Content} {e g : Tree} {qs : List Tree} {v : Verdict} (d : Content) → (d ≡ c) ⊎ (d ≡ entered_table c g) → v.is_yes ≡ false → IsPlainResponse d qs v.response → Tells Q h mode ks c e g qs v
     says_nothing : {ks : List PositionKind} {c : Content} {e g : Tree} {qs : List Tree} {v : Verdict} → SaysNothing ks v.response → Tells Q h mode ks c e g qs v
@@ -210,12 +216,17 @@ mutual
     tells_affirmed : {ks : List PositionKind} {c : Content} {e g : Tree} {qs : List Tree} {v : Verdict} → SaysAffirmed h.judges e (opened_in c g) → v.is_yes ≡ true → IsResponseOf (entered_table c g) qs v.response
         → Tells Q h mode ks c e g qs v
     tells_own : {ks : List PositionKind} {c : Content} {e g : Tree} {qs : List Tree} {v : Verdict} (x : Candidate) → IsOwnWayIn h c e g x → Replies Q h mode (entered_table c g) e (opened_in c g) qs x v → Tells Q h mode ks c e g qs v
+    tells_subtype : {ks : List PositionKind} {c : Content} {e g : Tree} {qs : List Tree} {v : Verdict} (ps : List Premise) (met found : Content) → IsCutIn mode → LeavesPremises Q.variances (entered_table c g) met e (opened_in c g) ps
+        → Reaches Q h mode ps met found → IsFound (entered_table c g) e (opened_in c g) found → SaysOf (entered_table c g) found qs v → Tells Q h mode ks c e g qs v
 
-  -- each candidate fails, or the one way by the engine, or the handler denies the goal
+  -- each candidate fails, or the one way by the engine, or the handler denies the goal; or the one type is no subtype of the other, or
+  -- one of the goals that relating them left is refused
   pub data Refutes (Q : Queries) (h : Handler) (mode : Mode) : Content → Tree → Tree → List Tree → Type 0 where
     all_fail : {c : Content} {e g : Tree} {qs : List Tree} → IsReady c e g → Outcomes Q h mode (entered_table c g) e (opened_in c g) qs (h.offers mode e (opened_in c g)) [] → Refutes Q h mode c e g qs
     is_denied : {c : Content} {e g : Tree} {qs : List Tree} → IsDenied h.judges (statement_of (opened_in c g)) → Refutes Q h mode c e g qs
     own_fails : {c : Content} {e g : Tree} {qs : List Tree} (x : Candidate) → IsOwnWayIn h c e g x → Fails Q h mode (entered_table c g) x → Refutes Q h mode c e g qs
+    is_no_subtype : {c : Content} {e g : Tree} {qs : List Tree} → IsCutIn mode → IsNoSubtype Q.variances (entered_table c g) (opened_in c g) → Refutes Q h mode c e g qs
+    subtype_refused : {c : Content} {e g : Tree} {qs : List Tree} (ps : List Premise) (met : Content) → IsCutIn mode → LeavesPremises Q.variances (entered_table c g) met e (opened_in c g) ps → RefusesOne Q h mode ps met → Refutes Q h mode c e g qs
 
   -- candidate by candidate, it fails or has a verdict
   pub data Outcomes (Q : Queries) (h : Handler) (mode : Mode) : Content → Tree → Tree → List Tree → List Candidate → List Verdict → Type 0 where

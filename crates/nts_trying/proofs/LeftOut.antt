@@ -9,10 +9,10 @@ use Rattle.nts_model.specs.Lists.{Among}
 use Rattle.nts_model.specs.Derivations.Rules.{Mode, related}
 use Rattle.nts_model.specs.Terms.Substitutions.{filled_under}
 use Rattle.nts_model.specs.Derivations.Handlers.{Candidate, Handler}
+use Rattle.nts_meaning.specs.Telling.{Ruling, Outcomes, Replies, Fails}
 use Rattle.nts_model.specs.Refutation.Choosing.{IsCandidateMet}
 use Rattle.nts_delegate.specs.Relevant.{built_by, IsIrrelevant, LeavesOut}
 use Rattle.nts_delegate.specs.Relevant.LeavesOut.{none, offered, left_out}
-use Rattle.nts_meaning.specs.Telling.{Outcomes, Replies, Fails}
 use Rattle.nts_theory.specs.Telling.Outcomes.{no_outcome, then_fails, then_replies}
 use Rattle.nts_theory.specs.Telling.Fails.{is_unmet}
 use Rattle.nts_unify.proofs.SavedLemmas.{push_inj}
@@ -47,7 +47,7 @@ unmet c x r m =
     r.apart.apart (some_inj r.apart.left r.apart.right (sym left ∙ ap built_by one ∙ right))
 
 -- the outcomes of one more, where there are outcomes of more than those before it
-last_outcome : {h : Handler} {mode : Mode} {c : Content} {k p : Tree} {qs : List Tree} {rs : List Verdict} (xs ys zs : List Candidate) (x : Candidate) → zs ≡ ys ++ x ∷ [] → ((ws : List Candidate) (ps : List Verdict) → ws ≡ ys → Outcomes h mode c k p qs ws ps → Outcomes h mode c k p qs xs ps) → Outcomes h mode c k p qs zs rs → Outcomes h mode c k p qs (xs ++ x ∷ []) rs
+last_outcome : {h : Ruling} {mode : Mode} {c : Content} {k p : Tree} {qs : List Tree} {rs : List Verdict} (xs ys zs : List Candidate) (x : Candidate) → zs ≡ ys ++ x ∷ [] → ((ws : List Candidate) (ps : List Verdict) → ws ≡ ys → Outcomes h mode c k p qs ws ps → Outcomes h mode c k p qs xs ps) → Outcomes h mode c k p qs zs rs → Outcomes h mode c k p qs (xs ++ x ∷ []) rs
 last_outcome xs ys zs x e before no_outcome = absurd (let l = ap length e in omega (arith, l, length-append ys (x ∷ [])))
 last_outcome {h} {mode} {c} {k} {p} {qs} xs ys zs x e before (then_fails {xs = ws} {vs = ps} {x = w} o f) =
     let same = push_inj ws ys w x e in then_fails (before ws ps same.0 o) (subst (Fails h mode c) same.1 f)
@@ -55,7 +55,7 @@ last_outcome {h} {mode} {c} {k} {p} {qs} xs ys zs x e before (then_replies {xs =
     let same = push_inj ws ys w x e in then_replies (before ws ps same.0 o) (subst (λ z. Replies h mode c k p qs z r) same.1 f)
 
 -- so the outcomes of the others are outcomes of all
-pub all_outcomes : {h : Handler} {mode : Mode} {c : Content} {k p : Tree} {qs : List Tree} {xs ys : List Candidate} → LeavesOut xs ys → (zs : List Candidate) (rs : List Verdict) → zs ≡ ys → Outcomes h mode c k p qs zs rs → Outcomes h mode c k p qs xs rs
+pub all_outcomes : {h : Ruling} {mode : Mode} {c : Content} {k p : Tree} {qs : List Tree} {xs ys : List Candidate} → LeavesOut xs ys → (zs : List Candidate) (rs : List Verdict) → zs ≡ ys → Outcomes h mode c k p qs zs rs → Outcomes h mode c k p qs xs rs
 all_outcomes {h} {mode} {c} {k} {p} {qs} none zs rs e o = subst (λ z. Outcomes h mode c k p qs z rs) e o
 all_outcomes {h} {mode} {c} {k} {p} {qs} (left_out {xs} {ys} x l r) zs rs e o = then_fails (all_outcomes l zs rs e o) (is_unmet (unmet c x r))
 all_outcomes {h} {mode} {c} {k} {p} {qs} (offered {xs} {ys} x l) zs rs e o = last_outcome xs ys zs x e (λ ws ps q p. all_outcomes l ws ps q p) o

@@ -14,6 +14,8 @@ pub mod LeftOut
 pub mod Instances
 pub mod Unasked
 pub mod Outliving
+pub mod SubtypeGoals
+pub mod RelatedTypes
 pub mod Owning
 pub mod Judging
 mod OutlivesExamples

@@ -46,19 +46,24 @@ use Rattle.nts_trying.specs.Opening.{IsOpenedTo}
 use Rattle.nts_meaning.specs.Meant.{IsServed, offers_of, IsTold, IsRefuted, CandidatesTell}
 use Rattle.nts_meaning.proofs.Evaluating.{Knows-goes, offers-kept}
 use Rattle.nts_meaning.proofs.Running.{term_table}
-use Rattle.nts_meaning.specs.Telling.{Outcomes, Replies, Fails}
-use Rattle.nts_theory.specs.Telling.{IsPlainResponse, Verdict, IsReady, IsTraitGoal, StandsForAll, SaysRecorded, IsTermTable, IsResponseOf, IsOwnWayIn}
+use Rattle.nts_meaning.specs.Telling.{Ruling, Outcomes, Replies, Fails}
+use Rattle.nts_theory.specs.Telling.{IsCutIn, IsPlainResponse, Verdict, IsReady, IsTraitGoal, StandsForAll, SaysRecorded, IsTermTable, IsResponseOf, IsOwnWayIn}
 use Rattle.nts_theory.specs.Affirming.{SaysAffirmed, IsDenied, HasOwnWay}
 use Rattle.nts_theory.proofs.Aliases.ByEngine.{IsClosedThere, affirmed_proved}
 use Rattle.nts_theory.proofs.Aliases.ByOwnWay.{own_way_proved}
 use Rattle.nts_model.specs.Tables.Levels.{IsLevelled, AreRegionsLevelled}
 use Rattle.nts_model.specs.Derivations.Proving.{IsTermOf}
-use Rattle.nts_theory.specs.Telling.Tells.{tells_nothing, tells_one, tells_outlives, tells_affirmed, tells_own}
+use Rattle.nts_theory.specs.Telling.Tells.{tells_nothing, tells_one, tells_outlives, tells_affirmed, tells_own, tells_subtype}
+use Rattle.nts_theory.specs.Telling.Reaches.{asks_nothing}
 use Rattle.nts_theory.specs.Outliving.{IsOutlives}
+use Rattle.nts_trying.specs.Subtyping.{IsSubtypeGoal, AreSubtypesIn, SaysSubtypes, SubtypesTold}
+use Rattle.nts_trying.specs.declared.subtypes.TypePair.{TypePair}
+use Rattle.nts_trying.proofs.SubtypeGoals.{subtyping_proved}
 use Rattle.nts_trying.specs.Outliving.{IsClosedEnv, IsOutlivesGoal, constraint_at, HoldsIn}
 use Rattle.nts_trying.specs.declared.outlives.Outlives.{Outlives}
 use Rattle.nts_trying.proofs.Outliving.{outlives_proved}
-use Rattle.nts_theory.specs.Telling.Refutes.{all_fail, is_denied, own_fails}
+use Rattle.nts_theory.specs.Telling.Refutes.{all_fail, is_denied, own_fails, is_no_subtype}
+use Rattle.nts_theory.specs.Subtyping.{IsSubtyping, IsNoSubtype}
 use Rattle.nts_meaning.specs.Answering.{is_yes, verdict_at}
 use Rattle.nts_model.specs.Answers.Applying.{IsProperContent}
 use Rattle.nts_table.proofs.TermTables.{proper_content}
@@ -86,11 +91,11 @@ goal_closed c e g h asked = by_test (binds g) refl
         asked_closed e g (subst (handlers.IsAsked e) same asked)
 
 -- what the candidates tell, in terms of what is offered for the goal
-pub told_offered : {b d : List Tree} (h : Handler) (mode : TypingMode) (u : Table) (o : Goal) (qs : List GenericArg) (xs : List CandidateData) (e : List Tree) (r : Canonical Response) → Extends b d → IsTable b u → HoldsGoal b o → trees_of d qs ≡ trees_of b qs → LeavesOut (offers_of h (mode_of mode) d o) (candidates_of d xs) → CandidatesTell h mode d u o qs xs e r
-    → ((vs : List Verdict) × Outcomes h (mode_of mode) (content_of b u.entries) (tree_at b o.param_env.node) (tree_at b o.predicate.node) (trees_of b qs) (offers_of h (mode_of mode) b o) vs × StandsForAll (trees_of b qs) vs (verdict_at e r))
+pub told_offered : {b d : List Tree} (h : Ruling) (mode : TypingMode) (u : Table) (o : Goal) (qs : List GenericArg) (xs : List CandidateData) (e : List Tree) (r : Canonical Response) → Extends b d → IsTable b u → HoldsGoal b o → trees_of d qs ≡ trees_of b qs → LeavesOut (offers_of h.handler (mode_of mode) d o) (candidates_of d xs) → CandidatesTell h mode d u o qs xs e r
+    → ((vs : List Verdict) × Outcomes h (mode_of mode) (content_of b u.entries) (tree_at b o.param_env.node) (tree_at b o.predicate.node) (trees_of b qs) (offers_of h.handler (mode_of mode) b o) vs × StandsForAll (trees_of b qs) vs (verdict_at e r))
     ⊎ (is_yes r.value.certainty ≡ false) × IsPlainResponse (content_of b u.entries) (trees_of b qs) (response_at e r)
 told_offered {b} {d} h mode u o qs xs e r up w holds trees those (inl (rs, x, y)) =
-    inl (rs, rw (content_of-extended up w.now, trees, offers-kept h (mode_of mode) up holds, up.kept o.param_env.node holds.env.within, up.kept o.predicate.node holds.predicate.within) at (all_outcomes those (candidates_of d xs) rs refl x), subst (λ z. StandsForAll z rs (verdict_at e r)) trees y)
+    inl (rs, rw (content_of-extended up w.now, trees, offers-kept h.handler (mode_of mode) up holds, up.kept o.param_env.node holds.env.within, up.kept o.predicate.node holds.predicate.within) at (all_outcomes those (candidates_of d xs) rs refl x), subst (λ z. StandsForAll z rs (verdict_at e r)) trees y)
 told_offered {b} {d} h mode u o qs xs e r up w holds trees those (inr (n, x)) =
     inr (n, subst (λ z. IsPlainResponse z (trees_of b qs) (response_at e r)) (content_of-extended up w.now) (subst (λ z. IsPlainResponse (content_of d u.entries) z (response_at e r)) trees x))
 
@@ -105,11 +110,11 @@ module _ {a b : List Tree} {t u : Table} {g o : Goal} (posed : IsPosed a t g) (o
   environment_same : tree_at b o.param_env.node ≡ tree_at a g.param_env.node
   environment_same = ap (λ (z : ParamEnv). tree_at b z.node) opens.environment ∙ up.kept g.param_env.node posed.holds.env.within
 
-  opened_outcomes : (h : Handler) (mode : TypingMode) (qs : List Tree) (vs : List Verdict) → Outcomes h (mode_of mode) there (tree_at b o.param_env.node) (tree_at b o.predicate.node) qs (offers_of h (mode_of mode) b o) vs
+  opened_outcomes : (h : Ruling) (mode : TypingMode) (qs : List Tree) (vs : List Verdict) → Outcomes h (mode_of mode) there (tree_at b o.param_env.node) (tree_at b o.predicate.node) qs (offers_of h.handler (mode_of mode) b o) vs
       → Outcomes h (mode_of mode) (entered_table before (tree_at a g.predicate.node)) (tree_at a g.param_env.node) (opened_in before (tree_at a g.predicate.node)) qs
-      (h.offers (mode_of mode) (tree_at a g.param_env.node) (opened_in before (tree_at a g.predicate.node))) vs
+      ((let m = h.handler in m.offers) (mode_of mode) (tree_at a g.param_env.node) (opened_in before (tree_at a g.predicate.node))) vs
   opened_outcomes h mode qs vs x =
-      let offers = h.offers (mode_of mode) in
+      let offers = (let m = h.handler in m.offers) (mode_of mode) in
       let e = tree_at a g.param_env.node in
       let p = opened_in before (tree_at a g.predicate.node) in
       subst (λ z. Outcomes h (mode_of mode) z e p qs (offers e p) vs) opens.table
@@ -130,24 +135,24 @@ module _ {a b : List Tree} {t u : Table} {g o : Goal} (posed : IsPosed a t g) (o
       }
 
   -- what its candidates are answered the goal is answered
-  pub told_through : IsPosed b u o → IsAskedGoal b o → (h : Handler) (mode : TypingMode) (qs : List GenericArg) (e : List Tree) (r : Canonical Response) → trees_of b qs ≡ trees_of a qs
-      → ((vs : List Verdict) × Outcomes h (mode_of mode) there (tree_at b o.param_env.node) (tree_at b o.predicate.node) (trees_of b qs) (offers_of h (mode_of mode) b o) vs × StandsForAll (trees_of b qs) vs (verdict_at e r))
+  pub told_through : IsPosed b u o → IsAskedGoal b o → (h : Ruling) (mode : TypingMode) (qs : List GenericArg) (e : List Tree) (r : Canonical Response) → trees_of b qs ≡ trees_of a qs
+      → ((vs : List Verdict) × Outcomes h (mode_of mode) there (tree_at b o.param_env.node) (tree_at b o.predicate.node) (trees_of b qs) (offers_of h.handler (mode_of mode) b o) vs × StandsForAll (trees_of b qs) vs (verdict_at e r))
       ⊎ (is_yes r.value.certainty ≡ false) × IsPlainResponse there (trees_of b qs) (response_at e r) → IsTold h mode a t g qs e r
   told_through p ask h mode qs e r same (inl (vs, x, y)) ks =
-      let there_told : Outcomes h (mode_of mode) there (tree_at b o.param_env.node) (tree_at b o.predicate.node) (trees_of a qs) (offers_of h (mode_of mode) b o) vs =
-      subst (λ z. Outcomes h (mode_of mode) there (tree_at b o.param_env.node) (tree_at b o.predicate.node) z (offers_of h (mode_of mode) b o) vs) same x in
+      let there_told : Outcomes h (mode_of mode) there (tree_at b o.param_env.node) (tree_at b o.predicate.node) (trees_of a qs) (offers_of h.handler (mode_of mode) b o) vs =
+      subst (λ z. Outcomes h (mode_of mode) there (tree_at b o.param_env.node) (tree_at b o.predicate.node) z (offers_of h.handler (mode_of mode) b o) vs) same x in
       tells_one vs (ready_opened p ask) (opened_outcomes h mode (trees_of a qs) vs there_told) (subst (λ z. StandsForAll z vs (verdict_at e r)) same y)
   told_through p ask h mode qs e r same (inr (n, x)) ks = tells_nothing there (inr opens.table) n (subst (λ z. IsPlainResponse there z (response_at e r)) same x)
 
-  pub refuted_through : IsPosed b u o → IsAskedGoal b o → (h : Handler) (mode : TypingMode) (qs : List GenericArg) → Outcomes h (mode_of mode) there (tree_at b o.param_env.node) (tree_at b o.predicate.node) (trees_of a qs) (offers_of h (mode_of mode) b o) [] → IsRefuted h mode a t g qs
+  pub refuted_through : IsPosed b u o → IsAskedGoal b o → (h : Ruling) (mode : TypingMode) (qs : List GenericArg) → Outcomes h (mode_of mode) there (tree_at b o.param_env.node) (tree_at b o.predicate.node) (trees_of a qs) (offers_of h.handler (mode_of mode) b o) [] → IsRefuted h mode a t g qs
   refuted_through p ask h mode qs x = all_fail (ready_opened p ask) (opened_outcomes h mode (trees_of a qs) [] x)
 
   -- .. of which nothing is told there
-  pub nothing_through : (h : Handler) (mode : TypingMode) (qs : List GenericArg) (e : List Tree) (r : Canonical Response) → trees_of b qs ≡ trees_of a qs → is_yes r.value.certainty ≡ false → IsPlainResponse there (trees_of b qs) (response_at e r) → IsTold h mode a t g qs e r
+  pub nothing_through : (h : Ruling) (mode : TypingMode) (qs : List GenericArg) (e : List Tree) (r : Canonical Response) → trees_of b qs ≡ trees_of a qs → is_yes r.value.certainty ≡ false → IsPlainResponse there (trees_of b qs) (response_at e r) → IsTold h mode a t g qs e r
   nothing_through h mode qs e r same n x ks = tells_nothing there (inr opens.table) n (subst (λ z. IsPlainResponse there z (response_at e r)) same x)
 
   -- what is told of what outlives what there is told of the goal
-  pub outlives_told : (x : Outlives) → IsOutlivesGoal b o x → (h : Handler) (mode : TypingMode) (qs : List GenericArg) (e : List Tree) (r : Canonical Response) → trees_of b qs ≡ trees_of a qs
+  pub outlives_told : (x : Outlives) → IsOutlivesGoal b o x → (h : Ruling) (mode : TypingMode) (qs : List GenericArg) (e : List Tree) (r : Canonical Response) → trees_of b qs ≡ trees_of a qs
       → SaysRecorded (constraint_at b x) there (tree_at b o.param_env.node) (tree_at b o.predicate.node) (trees_of b qs) (verdict_at e r) → IsTold h mode a t g qs e r
   outlives_told x says h mode qs e r same told ks =
       let y = constraint_at b x in
@@ -278,14 +283,14 @@ module _ {a b : List Tree} {t u : Table} {g o : Goal} (posed : IsPosed a t g) (o
       (subst (λ z. HoldsCandidateFrom (meaning h V) mode A (content_of d v.entries) z x) opens.predicate holds))
 
   -- what is told of it: that the handler affirms or denies it, and how its own way fares
-  pub affirmed_told : (h : Handler) (mode : TypingMode) (qs : List GenericArg) (e : List Tree) (r : Canonical Response) → trees_of b qs ≡ trees_of a qs → SaysAffirmed h.judges (tree_at b o.param_env.node) (tree_at b o.predicate.node) → is_yes r.value.certainty ≡ true
+  pub affirmed_told : (h : Ruling) (mode : TypingMode) (qs : List GenericArg) (e : List Tree) (r : Canonical Response) → trees_of b qs ≡ trees_of a qs → SaysAffirmed (let m = h.handler in m.judges) (tree_at b o.param_env.node) (tree_at b o.predicate.node) → is_yes r.value.certainty ≡ true
       → IsResponseOf there (trees_of b qs) (response_at e r) → IsTold h mode a t g qs e r
   affirmed_told h mode qs e r same says sure response ks =
-      tells_affirmed (subst (SaysAffirmed h.judges (tree_at a g.param_env.node)) opens.predicate (subst (λ z. SaysAffirmed h.judges z (tree_at b o.predicate.node)) environment_same says)) sure
+      tells_affirmed (subst (SaysAffirmed (let m = h.handler in m.judges) (tree_at a g.param_env.node)) opens.predicate (subst (λ z. SaysAffirmed (let m = h.handler in m.judges) z (tree_at b o.predicate.node)) environment_same says)) sure
       (subst (λ z. IsResponseOf z (trees_of a qs) (response_at e r)) opens.table (subst (λ z. IsResponseOf there z (response_at e r)) same response))
 
-  pub denied_refuted : (h : Handler) (mode : TypingMode) (qs : List GenericArg) → IsDenied h.judges (statement_of (tree_at b o.predicate.node)) → IsRefuted h mode a t g qs
-  denied_refuted h mode qs d = is_denied (subst (λ z. IsDenied h.judges (statement_of z)) opens.predicate d)
+  pub denied_refuted : (h : Ruling) (mode : TypingMode) (qs : List GenericArg) → IsDenied (let m = h.handler in m.judges) (statement_of (tree_at b o.predicate.node)) → IsRefuted h mode a t g qs
+  denied_refuted h mode qs d = is_denied (subst (λ z. IsDenied (let m = h.handler in m.judges) (statement_of z)) opens.predicate d)
 
   way_there : (h : Handler) (x : Candidate) → IsPosed b u o → AreFormed b → HasOwnWay h.judges (tree_at b o.param_env.node) (tree_at b o.predicate.node) x → IsOwnWayIn h before (tree_at a g.param_env.node) (tree_at a g.predicate.node) x
   way_there h x p formed way =
@@ -297,17 +302,45 @@ module _ {a b : List Tree} {t u : Table} {g o : Goal} (posed : IsPosed a t g) (o
         environment = subst IsFormed environment_same (formed o.param_env.node p.holds.env.within);
       }
 
-  pub own_told : IsPosed b u o → AreFormed b → (h : Handler) (mode : TypingMode) (qs : List GenericArg) (e : List Tree) (r : Canonical Response) (x : Candidate) → trees_of b qs ≡ trees_of a qs → HasOwnWay h.judges (tree_at b o.param_env.node) (tree_at b o.predicate.node) x
+  pub own_told : IsPosed b u o → AreFormed b → (h : Ruling) (mode : TypingMode) (qs : List GenericArg) (e : List Tree) (r : Canonical Response) (x : Candidate) → trees_of b qs ≡ trees_of a qs → HasOwnWay (let m = h.handler in m.judges) (tree_at b o.param_env.node) (tree_at b o.predicate.node) x
       → Replies h (mode_of mode) there (tree_at b o.param_env.node) (tree_at b o.predicate.node) (trees_of b qs) x (verdict_at e r) → IsTold h mode a t g qs e r
   own_told p formed h mode qs e r x same way reply ks =
       let v = verdict_at e r in
-      tells_own x (way_there h x p formed way)
+      tells_own x (way_there h.handler x p formed way)
       (subst (λ z. Replies h (mode_of mode) z (tree_at a g.param_env.node) (opened_in before (tree_at a g.predicate.node)) (trees_of a qs) x v) opens.table
       (subst (λ z. Replies h (mode_of mode) there (tree_at a g.param_env.node) z (trees_of a qs) x v) opens.predicate
       (subst (λ z. Replies h (mode_of mode) there z (tree_at b o.predicate.node) (trees_of a qs) x v) environment_same (subst (λ z. Replies h (mode_of mode) there (tree_at b o.param_env.node) (tree_at b o.predicate.node) z x v) same reply))))
 
-  pub own_refuted : IsPosed b u o → AreFormed b → (h : Handler) (mode : TypingMode) (qs : List GenericArg) (x : Candidate) → HasOwnWay h.judges (tree_at b o.param_env.node) (tree_at b o.predicate.node) x → Fails h (mode_of mode) there x → IsRefuted h mode a t g qs
-  own_refuted p formed h mode qs x way fails = own_fails x (way_there h x p formed way) (subst (λ z. Fails h (mode_of mode) z x) opens.table fails)
+  pub own_refuted : IsPosed b u o → AreFormed b → (h : Ruling) (mode : TypingMode) (qs : List GenericArg) (x : Candidate) → HasOwnWay (let m = h.handler in m.judges) (tree_at b o.param_env.node) (tree_at b o.predicate.node) x → Fails h (mode_of mode) there x → IsRefuted h mode a t g qs
+  own_refuted p formed h mode qs x way fails = own_fails x (way_there h.handler x p formed way) (subst (λ z. Fails h (mode_of mode) z x) opens.table fails)
+
+  -- where the types of the opened goal are related under the table, the goal is proved
+  pub subtype_through : (m : Meaning) (mode : Mode) (A : List Assumed) {d : List Tree} {v : Table} (p : TypePair) → IsPosed b u o → IsSubtypeGoal b o p → Goes b d u v → Continues before (content_of d v.entries) → AreFormed d → AreSubtypesIn m.variances b p d v
+      → IsProvedFrom m mode A (content_of d v.entries) (tree_at d g.param_env.node) (tree_at d g.predicate.node)
+  subtype_through m mode A {d} {v} p there_posed says goes later formed held =
+      let t = through there_posed goes later formed in
+      let terms = t.terms in
+      let is = says.is in
+      of_goal m mode A t
+      (subtyping_proved m mode A (content_of d v.entries) terms.sound terms.values terms.constraints before (tree_at a g.param_env.node) (tree_at a g.predicate.node) (tree_at b p.sub.node) (tree_at b p.sup.node) posed.table.now.proper.current later t.levelled t.regions t.env_before t.goal_before t.env_now t.goal_now t.opened_now
+      (closed_there is.environment) opens.closed (subst (λ z. IsSubtyping z (tree_at b p.sub.node) (tree_at b p.sup.node)) opens.predicate is.says) held)
+
+  -- .. and what it is told and refuted by
+  pub subtype_told : (h : Ruling) (mode : TypingMode) (qs : List GenericArg) (e : List Tree) (r : Canonical Response) → trees_of b qs ≡ trees_of a qs
+      → SubtypesTold h.variances (mode_of mode) there (tree_at b o.param_env.node) (tree_at b o.predicate.node) (trees_of b qs) (verdict_at e r) → IsTold h mode a t g qs e r
+  subtype_told h mode qs e r same (inl x) ks =
+      let says = SaysSubtypes h.variances (mode_of mode) in
+      let v = verdict_at e r in
+      let one : says there (tree_at b o.param_env.node) (tree_at b o.predicate.node) (trees_of a qs) v = subst (λ z. says there (tree_at b o.param_env.node) (tree_at b o.predicate.node) z v) same x in
+      let two : says there (tree_at a g.param_env.node) (tree_at b o.predicate.node) (trees_of a qs) v = subst (λ z. says there z (tree_at b o.predicate.node) (trees_of a qs) v) environment_same one in
+      let three : says there (tree_at a g.param_env.node) (opened_in before (tree_at a g.predicate.node)) (trees_of a qs) v = subst (λ z. says there (tree_at a g.param_env.node) z (trees_of a qs) v) opens.predicate two in
+      let y : says (entered_table before (tree_at a g.predicate.node)) (tree_at a g.param_env.node) (opened_in before (tree_at a g.predicate.node)) (trees_of a qs) v = subst (λ z. says z (tree_at a g.param_env.node) (opened_in before (tree_at a g.predicate.node)) (trees_of a qs) v) opens.table three in
+      tells_subtype y.left y.met y.met y.outside y.leaves asks_nothing y.is_found y.says
+  subtype_told h mode qs e r same (inr (unsure, plain)) ks = nothing_through h mode qs e r same unsure plain ks
+
+  pub subtype_refuted : (h : Ruling) (mode : TypingMode) (qs : List GenericArg) → IsCutIn (mode_of mode) → IsNoSubtype h.variances there (tree_at b o.predicate.node) → IsRefuted h mode a t g qs
+  subtype_refuted h mode qs outside none =
+      is_no_subtype outside (subst (λ z. IsNoSubtype h.variances z (opened_in before (tree_at a g.predicate.node))) opens.table (subst (λ z. IsNoSubtype h.variances there z) opens.predicate none))
 
 -- an opened goal in a store that has grown
 pub opened_later : {a b d : List Tree} {t u : Table} {g o : Goal} → Extends b d → IsTable b u → HoldsGoal b o → IsOpenedTo a b t u g o → IsOpenedTo a d t u g o

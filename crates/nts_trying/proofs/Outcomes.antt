@@ -4,7 +4,7 @@ use Rattle.std.specs.Prelude.{All, Result, Ok, Err, OnErr}
 use Rattle.std.proofs.lemmas.List.{take_more, map-append}
 use Rattle.std.proofs.lemmas.List.Elements.{All-head, All-tail, All-push}
 use Rattle.nts_model.specs.Terms.Trees.{Tree}
-use Rattle.nts_model.specs.Derivations.Handlers.{Handler}
+use Rattle.nts_meaning.specs.Telling.{Ruling, Outcomes, Replies, Fails}
 use Rattle.nts_certainty.specs.declared.certainty.Certainty.TheVariants as certainty
 use Rattle.nts_store.specs.declared.fault.EvalError.{EvalError}
 use Rattle.nts_store.specs.declared.fault.EvalError.TheVariants as error
@@ -29,7 +29,6 @@ use Rattle.nts_response.specs.Forms.{response_at}
 use Rattle.std.specs.Global.{Box}
 use Rattle.nts_meaning.specs.Answering.{IfAnswered, verdict_at}
 use Rattle.nts_trying.specs.Found.{Found, IsMerged, kept_after}
-use Rattle.nts_meaning.specs.Telling.{Outcomes, Replies, Fails}
 use Rattle.nts_theory.specs.Telling.{IsPlainResponse, StandsForAll}
 use Rattle.nts_theory.specs.Telling.Outcomes.{no_outcome, then_fails, then_replies}
 use Rattle.nts_meaning.specs.Meant.{HaveOutcomes, CandidatesTell, RepliesWith, FailsIn}
@@ -97,14 +96,14 @@ failed_of (Ok x) h f = tt
 failed_of (Err z) h f = f h
 
 -- no candidate was asked yet
-pub outcomes_first : (a b : List Tree) (t : Table) (g : Goal) (h : Handler) (mode : TypingMode) (qs : List GenericArg) (xs : List CandidateData) (rs : List (Canonical Response)) → rs ≡ [] → HaveOutcomes h mode a t g qs (take 0 xs) (map (verdict_at b) rs)
+pub outcomes_first : (a b : List Tree) (t : Table) (g : Goal) (h : Ruling) (mode : TypingMode) (qs : List GenericArg) (xs : List CandidateData) (rs : List (Canonical Response)) → rs ≡ [] → HaveOutcomes h mode a t g qs (take 0 xs) (map (verdict_at b) rs)
 outcomes_first a b t g h mode qs xs rs q = subst (λ z. HaveOutcomes h mode a t g qs [] (map (verdict_at b) z)) (sym q) no_outcome
 
 -- a candidate in a store that has grown
 candidates_next : (ts : List Tree) (xs : List CandidateData) (i : ℕ) (d : CandidateData) → i < length xs → candidates_of ts (take (i + 1) xs) ≡ candidates_of ts (take i xs) ++ candidate_of ts (get_or xs i d) ∷ []
 candidates_next ts xs i d l = ap (map (candidate_of ts)) (take_more xs i d l) ∙ map-append (candidate_of ts) (take i xs) (get_or xs i d ∷ [])
 
-pub outcomes_more : {P : List Tree → Table → Type 0} {a b e : List Tree} {t : Table} {g : Goal} {qs : List GenericArg} (h : Handler) (mode : TypingMode) (xs : List CandidateData) (i : ℕ) (d x : CandidateData) (rs new : List (Canonical Response)) (y : Result (Box (Canonical Response)) EvalError)
+pub outcomes_more : {P : List Tree → Table → Type 0} {a b e : List Tree} {t : Table} {g : Goal} {qs : List GenericArg} (h : Ruling) (mode : TypingMode) (xs : List CandidateData) (i : ℕ) (d x : CandidateData) (rs new : List (Canonical Response)) (y : Result (Box (Canonical Response)) EvalError)
     → i < length xs → x ≡ get_or xs i d → Extends a b → Extends b e → IsTable a t → All (IsArgOf a t.entries) qs → IsCandidate a g (get_or xs i d) → All (Found P a b t g qs) rs → new ≡ kept_after rs y
     → HoldsGoal a g → IfAnswered y (RepliesWith h mode b t g qs x e) → OnErr y (FailsIn h mode b t x) → HaveOutcomes h mode a t g qs (take i xs) (map (verdict_at b) rs) → HaveOutcomes h mode a t g qs (take (i + 1) xs) (map (verdict_at e) new)
 outcomes_more {P} {a} {b} {e} {t} {g} {qs} h mode xs i d x rs new y l is ab be w args candidate found q held told failed before =
@@ -136,7 +135,7 @@ found_merged {P} {a} {b} {e} {t} {g} {qs} rs r ab be formed w args found (inr (n
     let unsure = λ (y : r.value.certainty ≡ certainty.Yes). doubt_unsure (map (λ c. c.value.certainty) rs) (sym doubt ∙ y) in
     found_still r r.value.certainty w ab formed be args refl unsure (rw (told_unsure r.value.certainty (content_of b t.entries) unsure) plain) holds no_more
 
-pub told_merged : {P : List Tree → Table → Type 0} {a b e : List Tree} {t : Table} {g : Goal} {qs : List GenericArg} (h : Handler) (mode : TypingMode) (xs : List CandidateData) (rs : List (Canonical Response)) (r : Canonical Response) → Extends a b → Extends b e → IsTable a t → All (IsArgOf a t.entries) qs → All (Found P a b t g qs) rs
+pub told_merged : {P : List Tree → Table → Type 0} {a b e : List Tree} {t : Table} {g : Goal} {qs : List GenericArg} (h : Ruling) (mode : TypingMode) (xs : List CandidateData) (rs : List (Canonical Response)) (r : Canonical Response) → Extends a b → Extends b e → IsTable a t → All (IsArgOf a t.entries) qs → All (Found P a b t g qs) rs
     → HaveOutcomes h mode a t g qs xs (map (verdict_at b) rs) → IsMerged b e t qs rs r → CandidatesTell h mode a t g qs xs e r
 told_merged {P} {a} {b} {e} {t} {g} {qs} h mode xs rs r ab be w args found outcomes (inl stands) =
     let (i, l, is) = merged_among b rs r stands.why stands.merges in

@@ -1,5 +1,5 @@
 -- Goals that something outlives a region: which statements are such, and that one holds where its constraint is held.
-use Rattle.std.proofs.Common.{◌≡◌, inl, inr, ◌||◌, Bool, true, false, List, [], ◌∷◌, Some, refl, sym, ap, ◌∙◌, subst, arith}
+use Rattle.std.proofs.Common.{◌≡◌, inl, inr, ◌||◌, Bool, true, false, List, [], ◌∷◌, Some, refl, sym, ap, ◌∙◌, subst}
 use Rattle.nts_model.specs.declared.labels.Sort.TheVariants as sort
 use Rattle.nts_model.specs.declared.labels.Relation.TheVariants as relation
 use Rattle.nts_model.specs.Terms.Trees.{Tree, empty, more, node, kind_of, of_sort, any_label, is_alias, IsClosed, IsFormed}
@@ -29,7 +29,7 @@ use Rattle.nts_model.specs.Refutation.Opening.{binds, opened_in}
 use Rattle.nts_theory.proofs.Derivations.ByCandidate.{IsGranted, granted}
 use Rattle.nts_trying.specs.Outliving.{OutlivesIn, constraint_at}
 use Rattle.nts_trying.specs.declared.outlives.Outlives.{Outlives}
-use Rattle.nts_trying.proofs.Unasked.{listed_of}
+use Rattle.nts_trying.proofs.Unasked.{listed_of, row_of_none}
 use Rattle.nts_model.specs.Terms.Trees.{children, row_length, IsRow}
 use Rattle.nts_model.specs.Derivations.Related.{no_sorts}
 use Rattle.nts_model.specs.Derivations.Rules.{statement_of}
@@ -120,12 +120,6 @@ known_sides c x s type_outlives k = record { left = (let y = k.1 in y.0); right 
 -- .. of a goal that a table knows
 pub known_here : (c : Content) (g : Tree) (x : Constraint) → Knows c g → IsOutlives g x → AreSidesOf (Knows c) x
 known_here c g x k s = (let there : Knows c (unbound s.statement) = subst (Knows c) s.binds_nothing k in known_sides c x s.statement s.says there.1.1.0)
-
--- a binder without variables
-row_of_none : (t : Tree) → IsRow t → row_length t ≡ 0 → t ≡ empty
-row_of_none empty r e = refl
-row_of_none (more a b) r e = absurd (omega (arith, e))
-row_of_none (node l c) r e = absurd r
 
 -- a goal of the store that says so, by its kind
 module _ (ts : List Tree) (g : Goal) (b : Binder PredicateKind) (is : tree_at ts g.predicate.node ≡ tree_of_predicate ts b) where

@@ -1,12 +1,10 @@
 -- Goals of the engine's own kinds: which statements are such, what is known of them, and the candidate that is the own way of one.
-use Rattle.std.proofs.Common.{◌≡◌, inl, inr, ℕ, ◌||◌, true, false, List, [], ◌∷◌, map, Some, None, is_some, arith, refl, sym, ap, ◌∙◌, subst}
+use Rattle.std.proofs.Common.{◌≡◌, inl, inr, ℕ, ◌||◌, true, false, List, [], ◌∷◌, map, Some, None, is_some, refl, sym, ap, ◌∙◌, subst}
 use Rattle.std.specs.Prelude.{All, Option, option_map}
 use Rattle.std.proofs.lemmas.List.Elements.{All-head, All-tail}
 use Rattle.nts_model.specs.declared.labels.Leaf.{Leaf}
 use Rattle.nts_model.specs.declared.labels.AliasHead.{AliasHead}
 use Rattle.nts_model.specs.declared.labels.AliasHead.TheVariants as alias_of
-use Rattle.nts_model.specs.declared.labels.ClauseHead.TheVariants as clause_head
-use Rattle.nts_model.specs.declared.labels.PredicateHead.TheVariants as predicate_head
 use Rattle.nts_model.specs.declared.labels.ListHead.TheVariants as list
 use Rattle.nts_model.specs.declared.labels.Label.TheVariants as label
 use Rattle.nts_model.specs.declared.labels.Sort.TheVariants as sort
@@ -49,6 +47,7 @@ use Rattle.nts_trying.specs.Outliving.{IsClosedEnv}
 use Rattle.nts_trying.specs.Owning.{tree_of_own, OwnFits, IsOwnStatement, IsOwnGoal, StatesOwn, IsPlainGoal, IsPlainWay, misc_goal}
 use Rattle.nts_trying.specs.declared.own.OwnGoal.{OwnGoal}
 use Rattle.nts_trying.specs.declared.own.OwnGoal.TheVariants as own
+use Rattle.nts_trying.proofs.Unasked.{listed_of, row_of_none}
 
 -- such statements
 pub own_tree : (ts : List Tree) (o : OwnGoal) → IsOwnStatement (tree_of_own ts o)
@@ -93,15 +92,6 @@ pub own_is_no_trait : (ts : List Tree) (g : Goal) (o : OwnGoal) → IsOwnGoal ts
 own_is_no_trait ts g o says t = own_no_trait ts o (subst (λ z. IsTraitStatement (statement_of z)) says.binds_nothing t)
 
 -- a goal of the store by what the tests of it see
-row_of_none : (t : Tree) → IsRow t → row_length t ≡ 0 → t ≡ empty
-row_of_none empty r e = refl
-row_of_none (more a b) r e = absurd (omega (arith, e))
-row_of_none (node l c) r e = absurd r
-
-abbrev listed_of : Tree → Tree
-listed_of (node l (more v r)) = v
-listed_of t = empty
-
 module _ (ts : List Tree) (g : Goal) (b : Binder PredicateKind) (is : tree_at ts g.predicate.node ≡ tree_of_predicate ts b) (o : OwnGoal) where
   pub own_here : PredicateFits ts b → IsRow (children (tree_at ts b.vars.node)) → row_length (children (tree_at ts b.vars.node)) ≡ 0 → tree_of_statement ts b.value ≡ tree_of_own ts o → OwnFits ts o → HasClosedStatement (tree_at ts g.predicate.node) → IsClosedEnv (tree_at ts g.param_env.node) → IsOwnGoal ts g o
   own_here fits row none says parts closed env =

@@ -33,11 +33,10 @@ use Rattle.nts_response.proofs.Each.{response_kept}
 use Rattle.nts_model.proofs.Tables.Bringing.{only-refl}
 use Rattle.nts_meaning.specs.Asking.{first_table, first_values, asked_environment, asked_predicate}
 use Rattle.nts_theory.specs.Telling.{IsResponseOf, Verdict, SaysOf, IsFound}
-use Rattle.nts_model.specs.Derivations.Handlers.{Handler}
+use Rattle.nts_meaning.specs.Telling.{Ruling, Replies}
 use Rattle.nts_terms.specs.declared.modes.TypingMode.{TypingMode}
 use Rattle.nts_terms.specs.Modes.{mode_of}
 use Rattle.nts_candidates.specs.declared.data.CandidateData.{CandidateData}
-use Rattle.nts_meaning.specs.Telling.{Replies}
 use Rattle.nts_theory.specs.Telling.{IsPlainResponse}
 use Rattle.nts_theory.specs.Telling.Replies.{replies}
 use Rattle.nts_meaning.specs.Meant.{HasRunTo}
@@ -139,7 +138,7 @@ pub says_before : (x : Certainty) (b c : Content) (qs : List Tree) (v : Verdict)
 says_before x b c qs v e n h = inr (e ∙ unsure_yes x n, inr h)
 
 -- a candidate that was run in a snapshot of the table t has this response
-pub run_replies : {a b : List Tree} (s t u : Table) (h : Handler) (mode : TypingMode) (x : CandidateData) (g : Goal) (qs : List Tree) (v : Verdict) → HasRunTo h s.mode a s b u x → s.mode ≡ mode → s.entries ≡ t.entries → AreFormed b → IsTable b u
+pub run_replies : {a b : List Tree} (s t u : Table) (h : Ruling) (mode : TypingMode) (x : CandidateData) (g : Goal) (qs : List Tree) (v : Verdict) → HasRunTo h s.mode a s b u x → s.mode ≡ mode → s.entries ≡ t.entries → AreFormed b → IsTable b u
     → BringsOnly (asked_terms a g) (content_of a s.entries) (content_of b u.entries) → SaysOf (content_of a s.entries) (content_of b u.entries) qs v → Replies h (mode_of mode) (content_of a t.entries) (tree_at a g.param_env.node) (tree_at a g.predicate.node) qs (candidate_of a x) v
 run_replies {a} {b} s t u h mode x g qs v run moded same formed table labels says =
     let e = tree_at a g.param_env.node in

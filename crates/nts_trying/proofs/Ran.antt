@@ -14,7 +14,8 @@ use Rattle.nts_model.specs.Derivations.Rules.{Mode, Meaning, GoalKind, step_kind
 use Rattle.nts_model.specs.Derivations.Proofs.{Assumed, passed}
 use Rattle.nts_model.specs.Searching.Stacks.{IsProvedFrom}
 use Rattle.nts_model.specs.Terms.Substitutions.{filled}
-use Rattle.nts_model.specs.Derivations.Handlers.{Handler, premise_by}
+use Rattle.nts_model.specs.Derivations.Handlers.{premise_by}
+use Rattle.nts_meaning.specs.Telling.{Ruling}
 use Rattle.nts_model.specs.Refutation.Forcing.{AddsAll}
 use Rattle.nts_certainty.specs.declared.sources.GoalSource.{GoalSource}
 use Rattle.nts_store.specs.declared.nodes.NodeId.{NodeId}
@@ -59,7 +60,7 @@ added_only {e} {f} {v} {g} {vs} {hs} {d} gs h k same = record { labels = λ P q 
 
 -- a candidate of the store a for the table t: it was equated in b and u, its constraints were recorded in e and v, and its goals
 -- are of the store f
-module _ {a b e f : List Tree} {t u v : Table} (h : Handler) (mode : TypingMode) (g : Goal) (x : CandidateData) (vs : List NodeId) (gs : List (GoalSource × Goal))
+module _ {a b e f : List Tree} {t u v : Table} (h : Ruling) (mode : TypingMode) (g : Goal) (x : CandidateData) (vs : List NodeId) (gs : List (GoalSource × Goal))
     (equated : EquatesCandidate a b t u x.fresh.items vs x.equations.items) (adds : AddsAll (map (tree_at b) vs) (map (constraint_of b) x.region_constraints.items) (content_of b u.entries) (content_of e v.entries))
     (constraints : map (constraint_of b) x.region_constraints.items ≡ map (constraint_of a) x.region_constraints.items) (nested : AreNested a x.fresh.items g x.goals.items)
     (ab : Extends a b) (be : Extends b e) (ae : Extends a e) (ef : Extends e f) (table : IsTable e v) (within : AllIn b vs) (added : goals_at f gs ≡ goals_with (map (tree_at e) vs) (map (premise_of e) x.goals.items)) where

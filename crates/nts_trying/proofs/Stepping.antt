@@ -49,7 +49,7 @@ use Rattle.nts_table.specs.Tables.{Table, IsTable}
 use Rattle.nts_response.specs.Forms.{premise_at}
 use Rattle.nts_meaning.specs.Evaluation.{Goes, IsPosed, asked_terms, goals_at}
 use Rattle.nts_trying.specs.Stepping.{ArePosed, terms_of, AreLeft, AreSettled, left_after, none_left, is_left, is_done}
-use Rattle.nts_meaning.specs.Telling.{Reaches, Asked, Refused}
+use Rattle.nts_meaning.specs.Telling.{Ruling, Reaches, Asked, Refused}
 use Rattle.nts_theory.specs.Telling.Reaches.{asks_nothing, then_asks}
 use Rattle.nts_theory.specs.Telling.RefusesOne.{refuses_one}
 use Rattle.nts_meaning.specs.Meant.{Since, IsProvedSince, IsProvedFromSince, EvaluatesUnder, IsRefusedUnder, ReachesBy, RefusesOneOf}
@@ -171,7 +171,7 @@ earlier_trees : {a b : List Tree} {g : Goal} → Extends a b → HoldsGoal a g �
 earlier_trees {a} {b} {g} e held P x = subst (λ v. P v (tree_at a g.predicate.node)) (e.kept g.param_env.node held.env.within) (subst (P (tree_at b g.param_env.node)) (e.kept g.predicate.node held.predicate.within) x)
 
 -- one goal more was asked, or passed over
-module _ {a b : List Tree} {t : Table} (u : Table) (h : Handler) (mode : TypingMode) (gs : List (GoalSource × Goal)) (g : GoalSource × Goal) (posed : ArePosed a t gs) (i : Among gs g) (e : Extends a b) (before : ReachesBy h mode a t b u gs) where
+module _ {a b : List Tree} {t : Table} (u : Table) (h : Ruling) (mode : TypingMode) (gs : List (GoalSource × Goal)) (g : GoalSource × Goal) (posed : ArePosed a t gs) (i : Among gs g) (e : Extends a b) (before : ReachesBy h mode a t b u gs) where
   abbrev here : Content
   here = content_of b u.entries
 
@@ -201,11 +201,11 @@ module _ {a b : List Tree} {t : Table} (u : Table) (h : Handler) (mode : TypingM
       by_case (inr c) = inr (k, same, earlier_trees e held (λ v w. IsGoalCut a s here mode (deeply_resolved here v) (deeply_resolved here w) k) c)
 
 -- a step over the goals that are left, after the steps before
-reaches_into : {h : Handler} {mode : Mode} (gs hs : List Premise) {c d e : Content} → ((p : Premise) → Among gs p → Among hs p) → Reaches h mode hs c d → Reaches h mode gs d e → Reaches h mode hs c e
+reaches_into : {h : Ruling} {mode : Mode} (gs hs : List Premise) {c d e : Content} → ((p : Premise) → Among gs p → Among hs p) → Reaches h mode hs c d → Reaches h mode gs d e → Reaches h mode hs c e
 reaches_into gs hs f h asks_nothing = h
 reaches_into gs hs f h (then_asks x p r i k q) = then_asks x p (reaches_into gs hs f h r) (f p i) k q
 
-module _ {a b : List Tree} {t : Table} (u : Table) (h : Handler) (mode : TypingMode) (gs left : List (GoalSource × Goal)) (posed : ArePosed a t gs) (some : AreLeft gs left) (e : Extends a b) (before : ReachesBy h mode a t b u gs) where
+module _ {a b : List Tree} {t : Table} (u : Table) (h : Ruling) (mode : TypingMode) (gs left : List (GoalSource × Goal)) (posed : ArePosed a t gs) (some : AreLeft gs left) (e : Extends a b) (before : ReachesBy h mode a t b u gs) where
   goals_left : (p : Premise) → Among (goals_at b left) p → Among (goals_at a gs) p
   goals_left p j =
       let r = among_mapped (premise_at b) left p j in
@@ -230,13 +230,13 @@ module _ {a b : List Tree} {t : Table} (u : Table) (h : Handler) (mode : TypingM
       by_case held (inr (k, same, c)) = inr (k, same, earlier_trees e held (λ v w. IsGoalCut a s x.table mode (deeply_resolved x.table v) (deeply_resolved x.table w) k) (goal_cut_before e stack heads later c))
 
 -- goals that stop are refused; a cut is one of an inductive source
-pub stopped_refused : {h : Handler} {mode : TypingMode} {a : List Tree} {gs : List (GoalSource × Goal)} (t : Table) (s : SearchGraph) (z : CurrentGoalKind) → z ≢ kinds.NormalizesTo → StopsIn s z h mode a (content_of a t.entries) gs → RefusesOneOf h mode a t gs
+pub stopped_refused : {h : Ruling} {mode : TypingMode} {a : List Tree} {gs : List (GoalSource × Goal)} (t : Table) (s : SearchGraph) (z : CurrentGoalKind) → z ≢ kinds.NormalizesTo → StopsIn s z h mode a (content_of a t.entries) gs → RefusesOneOf h mode a t gs
 stopped_refused {a = a} {gs = gs} t s z n (x, inl r) = refuses_one x.table (premise_at a x.goal) x.reaches (among_image (premise_at a) gs x.goal x.among) x.can_ask r
 stopped_refused {a = a} {gs = gs} t s z n (x, inr (k, same, (i, of, c))) =
     cuts_one x.table (premise_at a x.goal) x.reaches (among_image (premise_at a) gs x.goal x.among) (inductive_source z x.goal.0 n (sym same ∙ ap path_kind_of (last_inductive k c))) c.elsewhere
 
 -- on an empty stack nothing is cut
-pub stopped_root : {h : Handler} {mode : TypingMode} {a : List Tree} {c : Content} {gs : List (GoalSource × Goal)} (s : SearchGraph) (z : CurrentGoalKind) → s.stack.items ≡ [] → StopsIn s z h mode a c gs → RefusesAmong h mode a c gs
+pub stopped_root : {h : Ruling} {mode : TypingMode} {a : List Tree} {c : Content} {gs : List (GoalSource × Goal)} (s : SearchGraph) (z : CurrentGoalKind) → s.stack.items ≡ [] → StopsIn s z h mode a c gs → RefusesAmong h mode a c gs
 stopped_root s z none (x, inl r) = (x, r)
 stopped_root s z none (x, inr (k, same, c)) = (x, not_cut s none (inr c))
 
@@ -245,7 +245,7 @@ pub after_error : {T E P : Type 0} (r : Result T E) → OnErr r P → is_err r �
 after_error (Ok x) h e = (let z : false ≡ true = e in cc z)
 after_error (Err x) h e = h
 
-pub reach_still : {b d : List Tree} {v : Table} (a : List Tree) (t u : Table) (h : Handler) (mode : TypingMode) (gs : List (GoalSource × Goal)) → Extends b d → IsTable b u → v ≡ u → ReachesBy h mode a t b u gs → ReachesBy h mode a t d v gs
+pub reach_still : {b d : List Tree} {v : Table} (a : List Tree) (t u : Table) (h : Ruling) (mode : TypingMode) (gs : List (GoalSource × Goal)) → Extends b d → IsTable b u → v ≡ u → ReachesBy h mode a t b u gs → ReachesBy h mode a t d v gs
 reach_still {b} {d} {v} a t u h mode gs up w same x =
     subst (λ c. Reaches h (mode_of mode) (goals_at a gs) (content_of a t.entries) c) (sym (content_same up w same)) x
 

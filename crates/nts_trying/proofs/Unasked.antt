@@ -1,6 +1,6 @@
 -- Goals that handlers are not asked, and goals that can't be opened, by what the tests of them see.
 use Rattle.std.proofs.Common.{◌≡◌, ℕ, zero, suc, ◌<◌, ◌||◌, inl, inr, arith, Bool, true, false, not, List, is_some, refl, sym, ap, ◌∙◌, subst}
-use Rattle.nts_model.specs.Terms.Trees.{Tree, empty, more, node, children, row_length, row_at, IsInRow, any_label, is_canonical, is_alias, IsClosed}
+use Rattle.nts_model.specs.Terms.Trees.{Tree, empty, more, node, children, row_length, row_at, IsRow, IsInRow, any_label, is_canonical, is_alias, IsClosed}
 use Rattle.nts_model.specs.Terms.Scoping.{IsWellBound}
 use Rattle.nts_model.specs.Derivations.Rules.{statement_of}
 use Rattle.nts_model.specs.Derivations.Sequents.{HasClosedStatements}
@@ -76,6 +76,12 @@ asked_statements ts g h = h.asked.asked.statements
 abbrev pub listed_of : Tree → Tree
 listed_of (node l (more v r)) = v
 listed_of t = empty
+
+-- a row without items
+pub row_of_none : (t : Tree) → IsRow t → row_length t ≡ 0 → t ≡ empty
+row_of_none empty r e = refl
+row_of_none (more a b) r e = absurd (omega (arith, e))
+row_of_none (node l c) r e = absurd r
 
 -- it binds nothing
 pub asked_binds_none : (ts : List Tree) (g : Goal) (b : Binder PredicateKind) → tree_at ts g.predicate.node ≡ tree_of_predicate ts b → IsAskedGoal ts g → row_length (children (tree_at ts b.vars.node)) ≡ 0

@@ -7,5 +7,6 @@ pub mod Stepping
 pub mod Adding
 pub mod Rows
 pub mod Outliving
+pub mod Subtyping
 pub mod Owning
 pub mod Stopping

@@ -297,7 +297,7 @@ fn record_one(
 }
 
 /// The rules of a handler stand in no text of the user's.
-const NO_PLACE: Span = Span(0);
+pub(crate) const NO_PLACE: Span = Span(0);
 
 /// Records that a region or a type outlives a region, for the leak check to see.
 pub fn record_outlives(

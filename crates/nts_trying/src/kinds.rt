@@ -15,6 +15,7 @@ ghost use Rattle.nts_theory.specs.Telling.{IsTraitStatement};
 
 use crate::outlives::{Outlives, outlives_in};
 use crate::own::{OwnGoal, own_goal_in};
+use crate::subtypes::{TypePair, types_in};
 use nts_delegate::GoalHandler;
 use nts_meaning::nts_search::CurrentGoalKind;
 use nts_terms::{ClauseKind, Cx, Goal, ParamEnv, PredicateKind, TraitRef};
@@ -95,6 +96,8 @@ pub enum GoalRow {
     Outlives(Goal, Outlives),
     /// By the engine itself, and what the handler judges.
     Own(Goal, OwnGoal),
+    /// By relating two types, of which it says that the first is a subtype of the second.
+    Subtype(Goal, TypePair),
     /// It is ambiguous: nothing answers a goal of its kind, or with its terms.
     Unanswered(Goal),
     /// It is ambiguous: it binds variables, and can't be opened.
@@ -117,6 +120,9 @@ pub fn goal_row(cx: &Cx, opened: Option<Goal>) -> GoalRow
             }
             if let Some(own) = own_goal_in(cx, goal) {
                 return GoalRow::Own(goal, own);
+            }
+            if let Some(types) = types_in(cx, goal) {
+                return GoalRow::Subtype(goal, types);
             }
             GoalRow::Unanswered(goal)
         }

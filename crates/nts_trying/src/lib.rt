@@ -11,6 +11,7 @@ mod merged;
 mod outlives;
 mod own;
 mod steps;
+mod subtypes;
 
 pub use binder::enter_forall;
 pub use candidate::{Trial, equate, record_constraints};
@@ -21,3 +22,4 @@ pub use merged::{keep_response, merge_responses};
 pub use outlives::{Outlives, answer_outlives};
 pub use own::{Judged, OwnGoal, judge};
 pub use steps::{AvailableDepth, Step, depth_below};
+pub use subtypes::{TypePair, answer_subtype};

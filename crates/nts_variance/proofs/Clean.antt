@@ -1,6 +1,5 @@
 -- Trees without regions that a universe cannot name.
 use Rattle.std.proofs.Common.{◌≡◌, ◌⊎◌, ⊎_elim, ℕ, true, [], Some, None, refl, sym, ap, ◌∙◌, subst}
-use Rattle.nts_model.specs.declared.labels.Sort.{Sort}
 use Rattle.nts_model.specs.declared.labels.VariableKind.{VariableKind}
 use Rattle.nts_model.specs.declared.labels.VariableKind.TheVariants as kind
 use Rattle.nts_model.specs.declared.labels.FreeRegion.{FreeRegion}
@@ -12,7 +11,7 @@ use Rattle.nts_model.specs.declared.labels.ConstHead.TheVariants as konst
 use Rattle.nts_model.specs.declared.labels.ListHead.TheVariants as list
 use Rattle.nts_model.specs.declared.labels.Label.{Label}
 use Rattle.nts_model.specs.declared.labels.Label.TheVariants as label
-use Rattle.nts_model.specs.Terms.Trees.{Tree, empty, more, node, kind_of, kind_of_label, one_sort, in_order, shape, is, HavePlaces, AllFit, Meets, IsFormed, infer_of, variable_of, variable_tree}
+use Rattle.nts_model.specs.Terms.Trees.{Tree, empty, more, node, kind_of, one_sort, in_order, shape, is, AllFit, Meets, IsFormed, infer_of, variable_of, variable_tree}
 use Rattle.nts_model.specs.Tables.Contents.{Content, unset, state_of, kind_at}
 use Rattle.nts_model.specs.Terms.Placeholders.{CanName}
 use Rattle.nts_model.specs.Tables.Resolving.{rooted_variable, rooted, resolved, deeply_resolved, IsSound}

@@ -24,7 +24,7 @@ use Rattle.nts_model.specs.declared.labels.ListHead.{ListHead}
 use Rattle.nts_model.specs.declared.labels.ListHead.TheVariants as list
 use Rattle.nts_model.specs.declared.labels.Label.{Label}
 use Rattle.nts_model.specs.declared.labels.Label.TheVariants as label
-use Rattle.nts_model.specs.Terms.Trees.{Tree, empty, more, node, kind_of, of_sort, kind_of_label, sort_of_variable, label_of, any_label, is_alias, in_order, shape, HavePlaces, Meets, IsClosed, IsFormed, variable_of, variable_tree}
+use Rattle.nts_model.specs.Terms.Trees.{Tree, empty, more, node, kind_of, of_sort, kind_of_label, sort_of_variable, label_of, any_label, is_alias, in_order, shape, Meets, IsClosed, IsFormed, variable_of, variable_tree}
 use Rattle.nts_model.specs.Tables.Contents.{Content, Slot, unset, Recorded, with_slot, with_constraint}
 use Rattle.nts_model.specs.Tables.Resolving.{number_of, IsInfer, resolved, deeply_resolved, Knows, KnowsVariable, IsSound}
 use Rattle.nts_model.specs.Tables.Levels.{NamesAll, term_level, region_level}

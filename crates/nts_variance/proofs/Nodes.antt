@@ -4,7 +4,6 @@ use Rattle.nts_model.specs.Tables.Passing.{TreePasses, TablePasses}
 use Rattle.nts_variance.proofs.Passes.{pass_joined, over_passes, over_parted, entering_passes, popped_passes, sides_pass}
 use Rattle.nts_model.specs.declared.labels.Variance.{Variance}
 use Rattle.nts_model.specs.declared.labels.Variance.TheVariants as variance
-use Rattle.nts_model.specs.declared.labels.AliasHead.{AliasHead}
 use Rattle.nts_model.specs.declared.labels.AliasHead.TheVariants as alias_of
 use Rattle.nts_model.specs.declared.labels.TyHead.TheVariants as ty
 use Rattle.nts_model.specs.declared.labels.ConstHead.TheVariants as konst
@@ -18,7 +17,7 @@ use Rattle.nts_model.specs.Tables.Resolving.{IsInfer, Knows, IsSound, resolved, 
 use Rattle.nts_model.specs.Tables.Levels.{NamesAll}
 use Rattle.nts_model.specs.Tables.Worlds.{World, inst, Solves}
 use Rattle.nts_model.specs.Tables.Holding.{HoldsConstraint}
-use Rattle.nts_model.specs.Derivations.Related.{Constraint, times, first_variance, rest_variances, alias, arguments, alias_label, Related, AreRelatedByArgument, one_tree, regions, constructors, functions, values, open_aliases, aliases, subtypes, no_more, and_more}
+use Rattle.nts_model.specs.Derivations.Related.{Constraint, times, first_variance, rest_variances, arguments, alias_label, Related, AreRelatedByArgument, one_tree, regions, constructors, functions, values, open_aliases, aliases, subtypes, no_more, and_more}
 use Rattle.nts_variance_model.specs.Variances.Judging.{Judging, IsSettled, Settles, AllSettle, IsLawfulJudging, opposite}
 use Rattle.nts_variance_model.specs.Variances.Relations.{Relating, SettlesIn}
 use Rattle.nts_variance_model.specs.Variances.AnsweredGoals.{IsAnswered}

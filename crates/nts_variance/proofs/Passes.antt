@@ -12,8 +12,7 @@ use Rattle.nts_model.specs.Tables.Resolving.{resolved, rooted, rooted_variable}
 use Rattle.nts_model.specs.Tables.Passing.{PassesVariables, TreePasses, TablePasses}
 use Rattle.nts_model.proofs.Tables.Kept.{variable_label}
 use Rattle.nts_model.proofs.Tables.Passing.{passes-deeply_resolved}
-use Rattle.nts_model.specs.Derivations.Related.{times, first_variance, rest_variances}
-use Rattle.nts_variance_model.specs.Variances.Judging.{opposite}
+use Rattle.nts_model.specs.Derivations.Related.{rest_variances}
 use Rattle.nts_variance_model.specs.Variances.Forms.{Form, a_constructor, a_function, a_value, an_alias, over, pairs_over}
 use Rattle.nts_variance_model.specs.Variances.Relations.{Relating}
 use Rattle.nts_variance_model.proofs.Variances.Generalizing.{owed}

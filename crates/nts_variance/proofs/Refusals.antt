@@ -6,7 +6,6 @@ use Rattle.nts_model.specs.declared.labels.Variance.{Variance}
 use Rattle.nts_model.specs.declared.labels.VariableKind.TheVariants as kind
 use Rattle.nts_model.specs.declared.labels.FreeRegion.{FreeRegion}
 use Rattle.nts_model.specs.declared.labels.BoundVarIndexKind.TheVariants as index
-use Rattle.nts_model.specs.declared.labels.AliasHead.TheVariants as alias_of
 use Rattle.nts_model.specs.declared.labels.ListHead.TheVariants as list
 use Rattle.nts_model.specs.declared.labels.Leaf.TheVariants as leaf
 use Rattle.nts_model.specs.declared.labels.Label.{Label}
@@ -19,7 +18,7 @@ use Rattle.nts_model.specs.Tables.Worlds.{World, inst, Solves}
 use Rattle.nts_model.specs.Derivations.Related.{IsAlias}
 use Rattle.nts_variance_model.specs.Variances.Judging.{Judging, Settles, IsLawfulJudging, opposite}
 use Rattle.nts_variance_model.specs.Variances.Leaving.{judging_of, Refuses}
-use Rattle.nts_variance_model.specs.Variances.Forms.{Form, a_constructor, a_function, a_value, an_alias, over, FitsForm}
+use Rattle.nts_variance_model.specs.Variances.Forms.{over, FitsForm}
 use Rattle.nts_model.proofs.Tables.AliasLabels.{region_closed, region_kind}
 use Rattle.nts_model.proofs.Tables.Fitting.{region_label, Fits-inst, IsClosed-inst}
 use Rattle.nts_variance_model.proofs.Variances.Leaving.{refuses_over, refuses_forms, refuses_labels}

@@ -11,7 +11,7 @@ use Rattle.nts_model.specs.Lists.{Among}
 use Rattle.nts_model.specs.Derivations.Proving.{recorded_as}
 use Rattle.nts_variance_model.specs.Variances.Judging.{Judging, Settles}
 use Rattle.nts_variance_model.specs.Variances.Relations.{Relating as Pair}
-use Rattle.nts_variance_model.specs.Variances.Leaving.{judging_of, Refuses}
+use Rattle.nts_variance_model.specs.Variances.Leaving.{judging_of}
 use Rattle.nts_model.proofs.Tables.Held.{AreOne-continues}
 use Rattle.nts_model.proofs.Tables.Kept.{kind_of-resolved}
 use Rattle.nts_store.specs.declared.nodes.NodeId.{NodeId}

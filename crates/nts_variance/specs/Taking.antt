@@ -12,7 +12,7 @@ use Rattle.nts_model.specs.Derivations.Related.{IsAlias}
 use Rattle.nts_model.specs.Tables.Measuring.{closed_aliases}
 use Rattle.nts_model.specs.Tables.Holding.{Continues}
 use Rattle.nts_model.specs.declared.labels.Label.{Label}
-use Rattle.nts_model.specs.Tables.Passing.{TreePasses, TablePasses}
+use Rattle.nts_model.specs.Tables.Passing.{TablePasses}
 use Rattle.nts_variance_model.specs.Variances.Relations.{Relating as Pair}
 use Rattle.nts_variance_model.specs.Variances.Leaving.{Leaves}
 use Rattle.nts_variance_model.specs.Variances.AnsweredGoals.{AllAnswered, RelatedUnder, AllRelatedUnder, RelatesBy}

@@ -11,7 +11,6 @@ use Rattle.nts_model.specs.declared.labels.Label.TheVariants as label
 use Rattle.nts_model.specs.Terms.Trees.{Tree, empty, more, node, kind_of}
 use Rattle.nts_model.specs.Tables.Contents.{Content}
 use Rattle.nts_model.specs.Tables.Resolving.{deeply_resolved, resolved}
-use Rattle.nts_model.specs.Tables.Worlds.{World, Solves}
 use Rattle.nts_model.specs.Tables.Equations.{AreRelated, AreUnrelated}
 use Rattle.nts_model.specs.Derivations.Related.{pair, unbound, alias, IsAlias}
 use Rattle.nts_model.specs.Lists.{Among}
@@ -25,17 +24,9 @@ use Rattle.nts_model.specs.Canonical.Inputs.{Input, PositionKind, canonical_of, 
 use Rattle.nts_model.specs.Terms.Substitutions.{leaf_tree, filled}
 use Rattle.nts_model.specs.Answers.Applying.{IsNew}
 use Rattle.nts_model.specs.Answers.Responses.{Response, Applies, RefusesResponse}
-use Rattle.nts_variance_model.specs.Variances.Relations.{Relating, AllSettleIn, IsJudgedBy, IsSettledWorld}
-use Rattle.nts_variance_model.specs.Variances.AnsweredGoals.{RelatesBy}
-use Rattle.nts_variance_model.specs.Variances.Leaving.{Judge, judging_of, LeavesBy}
-
--- relating the pairs leaves goals alone; or no settled solution relates them
-pub record LeavesGoals (declared : ℕ → List Variance) (c d : Content) (ps gs : List Relating) : Type 0 where
-  pub relates : RelatesBy declared d ps [] gs
-  pub leaves : (j : Judge declared) → LeavesBy (judging_of declared j) c d ps [] gs
-
-abbrev pub IsRefusedPair : (ℕ → List Variance) → Content → List Relating → Type 0
-IsRefusedPair declared c ps = (j : Judge declared) (w : World) → Solves c w → IsJudgedBy (judging_of declared j) w → IsSettledWorld (judging_of declared j) c w → AllSettleIn (judging_of declared j) w ps → ⊥
+use Rattle.nts_variance_model.specs.Variances.Relations.{Relating}
+use Rattle.nts_variance_model.specs.Variances.Leaving.{Refuses}
+use Rattle.nts_theory.specs.Subtyping.{LeavesGoals}
 
 -- new variables in place of the outermost closed aliases of a premise: the table afterwards, and the goals that are added, the premise last
 pub data PutsVariables (k : GoalKind) (p : Premise) : Content → Tree → Content → Tree → List Premise → Type 0 where
@@ -59,7 +50,7 @@ module _ (h : Handler) (V : ℕ → List Variance) (mode : Mode) (first : List P
     equates_alike : {c d i : Content} {a b : Tree} {qs : List Equation} {gs : List Premise} → AreRelated c d (filled vs a) (filled vs b) → Equates k e vs d qs i gs → Equates k e vs c (alike a b ∷ qs) i gs
 
   pub data FailsToEquate (k : GoalKind) (e : Tree) (vs : List Tree) : Content → List Equation → Type 0 where
-    fails_related : {c : Content} {a b : Tree} {qs : List Equation} → IsRefusedPair V c (record { variance = variance.Invariant; left = filled vs a; right = filled vs b } ∷ []) → FailsToEquate k e vs c (related a b ∷ qs)
+    fails_related : {c : Content} {a b : Tree} {qs : List Equation} → Refuses V c (record { variance = variance.Invariant; left = filled vs a; right = filled vs b } ∷ []) → FailsToEquate k e vs c (related a b ∷ qs)
     fails_alike : {c : Content} {a b : Tree} {qs : List Equation} → AreUnrelated c (filled vs a) (filled vs b) → FailsToEquate k e vs c (alike a b ∷ qs)
     fails_later : {c d : Content} {q : Equation} {qs : List Equation} {gs : List Premise} → Equates k e vs c (q ∷ []) d gs → FailsToEquate k e vs d qs → FailsToEquate k e vs c (q ∷ qs)
 
@@ -110,10 +101,10 @@ module _ (h : Handler) (V : ℕ → List Variance) (mode : Mode) (first : List P
           → RelatesResults e (variance_of o) j r s k rs → Reaches other_goal k (ls ++ rs) f us → RunsTo c e (unbound (node (label.Predicate (predicate.AliasRelate o)) (pair a b))) f us
 
     pub data FailsToRun : Content → Tree → Tree → Type 0 where
-      sides_refused : {c : Content} {e : Tree} (x : Bool) (a b : Tree) → IsRefusedPair V c (record { variance = variance.Covariant; left = a; right = b } ∷ []) → FailsToRun c e (unbound (node (label.Predicate (predicate.Subtype x)) (pair a b)))
+      sides_refused : {c : Content} {e : Tree} (x : Bool) (a b : Tree) → Refuses V c (record { variance = variance.Covariant; left = a; right = b } ∷ []) → FailsToRun c e (unbound (node (label.Predicate (predicate.Subtype x)) (pair a b)))
       normal_refused : {c d i : Content} {e : Tree} {gs hs : List Premise} (o : AliasRelationDirection) (a b r s : Tree) → Normalizes e c a d r gs → Normalizes e d b i s hs → RefusesOne other_goal i (gs ++ hs) → FailsToRun c e (unbound (node (label.Predicate (predicate.AliasRelate o)) (pair a b)))
       results_refused : {c d i j : Content} {e : Tree} {gs hs ls : List Premise} (o : AliasRelationDirection) (a b r s : Tree) → Normalizes e c a d r gs → Normalizes e d b i s hs → Reaches other_goal i (gs ++ hs) j ls
-          → IsRefusedPair V j (record { variance = variance_of o; left = r; right = s } ∷ []) → FailsToRun c e (unbound (node (label.Predicate (predicate.AliasRelate o)) (pair a b)))
+          → Refuses V j (record { variance = variance_of o; left = r; right = s } ∷ []) → FailsToRun c e (unbound (node (label.Predicate (predicate.AliasRelate o)) (pair a b)))
       goal_refused : {c d i j k : Content} {e : Tree} {gs hs ls rs : List Premise} (o : AliasRelationDirection) (a b r s : Tree) → Normalizes e c a d r gs → Normalizes e d b i s hs → Reaches other_goal i (gs ++ hs) j ls
           → RelatesResults e (variance_of o) j r s k rs → RefusesOne other_goal k (ls ++ rs) → FailsToRun c e (unbound (node (label.Predicate (predicate.AliasRelate o)) (pair a b)))
 

@@ -23,7 +23,8 @@ use Rattle.nts_model.specs.Answers.Responses.{Response}
 use Rattle.nts_model.specs.Terms.Substitutions.{leaf_tree}
 use Rattle.nts_theory.proofs.Refutation.Agreeing.{nothing_is_identity}
 use Rattle.nts_theory.proofs.Refutation.Affirming.{denied_no_handlers, way_no_handlers}
-use Rattle.nts_theory.specs.Telling.{Verdict, Queries, IsReady, SaysNothing, ChangesNothing, StandsForAll, goals_with, Refutes, all_fail, is_denied, own_fails, Outcomes, no_outcome, then_fails, then_replies, Fails, is_unmet, is_refused, is_leaky, RefusesOne, refuses_one, cuts_one}
+use Rattle.nts_theory.proofs.Refutation.Subtyping.{subtyping_no_handlers}
+use Rattle.nts_theory.specs.Telling.{Verdict, Queries, IsReady, SaysNothing, ChangesNothing, StandsForAll, goals_with, Refutes, all_fail, is_denied, own_fails, is_no_subtype, subtype_refused, Outcomes, no_outcome, then_fails, then_replies, Fails, is_unmet, is_refused, is_leaky, RefusesOne, refuses_one, cuts_one}
 
 -- the answer without constraints says nothing, in each universe
 unconstrained_says_nothing : (ks : List PositionKind) → SaysNothing ks (unconstrained ks)
@@ -78,6 +79,8 @@ pub fact_is_not_refuted : (Q : Queries) (h : Handler) (mode : Mode) (c : Content
     → IsHandlers (statement_of (opened_in c g)) → Refutes Q h mode c e g qs → ⊥
 fact_is_not_refuted Q h mode c e g qs x tight offered met constraints goals is (is_denied d) = denied_no_handlers h.judges (statement_of (opened_in c g)) d is
 fact_is_not_refuted Q h mode c e g qs x tight offered met constraints goals is (own_fails y own fails) = (let z = own.way in way_no_handlers h.judges e z.statement y z.way (subst (λ v. IsHandlers (statement_of v)) z.binds_nothing is))
+fact_is_not_refuted Q h mode c e g qs x tight offered met constraints goals is (is_no_subtype outside n) = subtyping_no_handlers (opened_in c g) n.left n.right n.is is
+fact_is_not_refuted Q h mode c e g qs x tight offered met constraints goals is (subtype_refused ps there outside l refused) = subtyping_no_handlers (opened_in c g) l.left l.right l.is is
 fact_is_not_refuted Q h mode c e g qs x tight offered met constraints goals is (all_fail ready all) = fact_never_fails Q h mode (entered_table c g) x tight met constraints goals (all_failed all refl x offered)
 
 -- and it refutes one for which nothing is offered

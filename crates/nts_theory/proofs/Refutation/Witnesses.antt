@@ -30,7 +30,7 @@ use Rattle.nts_theory.proofs.Refutation.Recording.{recorded_true}
 use Rattle.nts_theory.proofs.Refutation.Readying.{some_begins}
 use Rattle.nts_theory.proofs.Refutation.Affirming.{denied_inst, denied_before}
 use Rattle.nts_theory.proofs.Refutation.Stating.{own_begins}
-use Rattle.nts_theory.specs.Telling.{Verdict, Queries, AreTermsOfKinds, StandsForAll, SaysOf, IsFound, without_constraints, IsPlainResponse, goals_with, Tells, tells_nothing, says_nothing, tells_one, tells_outlives, tells_affirmed, tells_own, Refutes, all_fail, is_denied, own_fails, Outcomes, no_outcome, then_fails, then_replies, Replies, replies, Fails, is_unmet, is_refused, is_leaky, Reaches, asks_nothing, then_asks, RefusesOne, refuses_one, cuts_one, Asked, asked_by, Refused, by_query, by_response}
+use Rattle.nts_theory.specs.Telling.{Verdict, Queries, AreTermsOfKinds, StandsForAll, SaysOf, IsFound, without_constraints, IsPlainResponse, goals_with, Tells, tells_nothing, says_nothing, tells_one, tells_outlives, tells_affirmed, tells_own, tells_subtype, Refutes, all_fail, is_denied, own_fails, is_no_subtype, subtype_refused, Outcomes, no_outcome, then_fails, then_replies, Replies, replies, Fails, is_unmet, is_refused, is_leaky, Reaches, asks_nothing, then_asks, RefusesOne, refuses_one, cuts_one, Asked, asked_by, Refused, by_query, by_response}
 use Rattle.nts_theory.proofs.Refutation.Queried.{BeginsEach, Leads, Reached, IsSolved, IsQuery, first_query, IsTried, tried, tried_knows, found_table, solution_without, entered_solution, says_contains, says_long}
 use Rattle.nts_theory.proofs.Refutation.Begun.{asked_from, BegunAt, begun_at, asks_more, goal_known, goal_there}
 use Rattle.nts_theory.proofs.Refutation.QueryLabels.{entered_query, query_without}
@@ -111,6 +111,7 @@ module _ (Q : Queries) (begins : BeginsEach Q) (h : Handler) (truth : Truth) (Pr
     tells_contain {ks} {c} {e} {g} {qs} {v} (tells_own x own reply) q ts w s =
         let begins = own_begins h truth Proves theory lawful law c e g w s.solution q.current q.knows s.proved x own.way own.environment own.knows in
         subst (ContainsSolution truth v.response) s.images (replies_contain reply (tried ks c e g qs q) w (entered_solution truth c g w s.solution) begins)
+    tells_contain (tells_subtype ps met found outside related reach is says) q ts w s = absurd (outside refl)
 
     pub refutes_none : {ks : List PositionKind} {c : Content} {e g : Tree} {qs : List Tree} → Refutes Q h coherence c e g qs → IsQuery ks c e g qs → (ts : List Tree) (w : World) → IsSolved truth Proves ks c e g qs ts w → ⊥
     refutes_none {ks} {c} {e} {g} {qs} (all_fail ready all) q ts w s =
@@ -120,6 +121,8 @@ module _ (Q : Queries) (begins : BeginsEach Q) (h : Handler) (truth : Truth) (Pr
     refutes_none {ks} {c} {e} {g} {qs} (is_denied d) q ts w s = theory.denies (inst w e) (inst w g) s.proved (denied_inst h.judges w g (denied_before h.judges c g d))
     refutes_none {ks} {c} {e} {g} {qs} (own_fails x own fails) q ts w s =
         fails_never fails w (entered_solution truth c g w s.solution) (own_begins h truth Proves theory lawful law c e g w s.solution q.current q.knows s.proved x own.way own.environment own.knows)
+    refutes_none (is_no_subtype outside none) q ts w s = outside refl
+    refutes_none (subtype_refused ps met outside related refused) q ts w s = outside refl
 
     outcomes_contain : {ks : List PositionKind} {c : Content} {e g : Tree} {qs : List Tree} {xs : List Candidate} {vs : List Verdict} → Outcomes Q h coherence c e g qs xs vs → IsTried ks c e g qs
         → (w : World) → IsSolution truth 0 c w → (x : Candidate) → Among xs x → CanBegin truth Proves c w x → OneContains truth vs (map (inst w) qs)

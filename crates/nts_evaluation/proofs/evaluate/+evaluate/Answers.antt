@@ -18,7 +18,7 @@ use Rattle.nts_candidates.proofs.Results.{IfOk-map, OnOk-map}
 use Rattle.nts_canonical.specs.Building.{kinds_of}
 use Rattle.nts_canonical.specs.Forms.{trees_of, form_of}
 use Rattle.nts_response.specs.Forms.{response_at}
-use Rattle.nts_meaning.specs.Meant.{Since, meaning_since, IsProvedNow, IsNestedSince}
+use Rattle.nts_meaning.specs.Meant.{ruling_since, Since, meaning_since, IsProvedNow, IsNestedSince}
 use Rattle.nts_trying.specs.Stepping.{AreLeft, AreSettled, bound_of, none_left}
 use Rattle.nts_theory.specs.Telling.Reaches.{asks_nothing}
 use Rattle.nts_meaning.proofs.TraitsAsked.{IsAskedGoal-extended, kind_asked}
@@ -36,7 +36,7 @@ use Rattle.nts_store.specs.Kept.{map-kept, AllIn-kept}
 use Rattle.nts_theory.specs.Telling.{IsPlainResponse, SaysNothing}
 use Rattle.nts_theory.specs.Telling.Tells.{tells_nothing, says_nothing}
 use Rattle.nts_theory.specs.Telling.Fails.{is_unmet}
-use Rattle.nts_trying.proofs.Opened.{told_through, told_offered, refuted_through, nothing_through, labels_through, labels_entered, proved_through, opened_holds, outlives_told, outlives_through}
+use Rattle.nts_trying.proofs.Opened.{told_through, told_offered, refuted_through, nothing_through, labels_through, labels_entered, proved_through, opened_holds, outlives_told, outlives_through, subtype_told, subtype_refuted, subtype_through}
 use Rattle.nts_decisions.proofs.OpenedStatements.{trait_outlives_nothing}
 use Rattle.nts_trying.proofs.Probed.{found_in, found_still, found_fits, found_derived, went_in, plain_of, doubtful, not_kept, says_found, says_before, run_replies}
 use Rattle.nts_trying.proofs.Outcomes.{found_earlier, founds_more, founds_with, outcomes_first, outcomes_more, found_merged, told_merged, failed_of}
@@ -148,16 +148,16 @@ compute_goal-returns-in-Unanswered g t c =
       grows = search rules;
       searches = Searches-refl c.args.depth c.requires.search (grown c.in_ok-opened.ensures.grows c.in_ok-response-in-Unanswered.ensures.grows);
       found = found_in c.in_ok-response-in-Unanswered.response.value _ o.goes c.terms_are_formed.ensures r.grows.extends (labels_entered c.requires.posed (rw c.in-Unanswered.ensures.0 at o.opened) o.grows.extends) c.requires.values r.certainty r.says r.holds (record { no_hidden = r.nothing.0; no_goals = r.nothing.1 }) (λ y. absurd (doubtful _ y));
-      told = λ s tells. nothing_through c.requires.posed (rw c.in-Unanswered.ensures.0 at o.opened) o.grows.extends (g.H.GoalHandler.handler s.base c.args.handler.now) c.args.table.now.mode c.args.values.now _ c.in_ok-response-in-Unanswered.response.value trees (ap is_yes r.certainty) plain;
+      told = λ s tells. nothing_through c.requires.posed (rw c.in-Unanswered.ensures.0 at o.opened) o.grows.extends (ruling_since (λ ts. g.H.GoalHandler.handler ts c.args.handler.now) s) c.args.table.now.mode c.args.values.now _ c.in_ok-response-in-Unanswered.response.value trees (ap is_yes r.certainty) plain;
       refuted = search rules;
       decided = λ s n b d can.
           ⊎_elim
-          (λ asked. absurd (c.in-Unanswered.ensures.1 asked))
-          (λ w. absurd (⊎_elim (λ y. c.in-Unanswered.ensures.2 _ (outlives_in y.says)) (λ v. c.in-Unanswered.ensures.3 (⊎_elim (λ y. states_own y) (λ y. way_states_own y) v)) w))
+          (λ asked. absurd (c.in-Unanswered.ensures.1.not_asked asked))
+          (λ w. absurd (⊎_elim (λ y. c.in-Unanswered.ensures.1.no_outlives _ (outlives_in y.says)) (λ v. c.in-Unanswered.ensures.1.not_own (⊎_elim (λ y. states_own y) (λ y. way_states_own y) v)) w))
           (is_asked_here (g.H.GoalHandler.handler s.base c.args.handler.now) (g.met.H.GoalHandler.lawful s.base c.args.handler.now s.formed s.is_ready) (mode_of c.args.table.now.mode) n b c.args.goal c.args.values.now d.0 d.1 c.requires.posed c.terms_are_formed.ensures o.grows.extends _ (rw c.in-Unanswered.ensures.0 at o.opened) (rw c.in-Unanswered.ensures.0 at o.posed));
       facts = λ s tells f can.
           let settled = f.settled in
-          absurd (c.in-Unanswered.ensures.1 (fact_asked (g.H.GoalHandler.handler s.base c.args.handler.now) (mode_of c.args.table.now.mode) c.args.cx.now.nodes c.enter_forall.new.cx.nodes c.args.table.now c.enter_forall.new.table c.args.goal _ (rw c.in-Unanswered.ensures.0 at o.opened) settled c.requires.posed (rw c.in-Unanswered.ensures.0 at o.posed) o.grows.extends));
+          absurd (c.in-Unanswered.ensures.1.not_asked (fact_asked (g.H.GoalHandler.handler s.base c.args.handler.now) (mode_of c.args.table.now.mode) c.args.cx.now.nodes c.enter_forall.new.cx.nodes c.args.table.now c.enter_forall.new.table c.args.goal _ (rw c.in-Unanswered.ensures.0 at o.opened) settled c.requires.posed (rw c.in-Unanswered.ensures.0 at o.posed) o.grows.extends));
     }
 
 pub compute_goal-answer_outlives-requires-clause-posed : goal.compute_goal-answer_outlives-requires-clause-posed
@@ -199,7 +199,7 @@ compute_goal-returns-in-Outlives g t c =
         no_more = f.no_more;
         sure = λ y s. outlives_through c.requires.posed opened o.grows.extends (meaning (g.H.GoalHandler.handler s.base c.args.handler.now) s.variances) (mode_of c.args.table.now.mode) (assumed_in c.answer_outlives.new.cx.nodes c.args.graph.now) c.in-Outlives.outlives posed says f.goes (let z = Goes-trans o.goes f.goes in z.continues) f.formed (f.sure y);
       };
-      told = λ s tells. outlives_told c.requires.posed opened o.grows.extends c.in-Outlives.outlives says (g.H.GoalHandler.handler s.base c.args.handler.now) c.args.table.now.mode c.args.values.now _ c.in_ok-response-in-Outlives.response.value trees r.told;
+      told = λ s tells. outlives_told c.requires.posed opened o.grows.extends c.in-Outlives.outlives says (ruling_since (λ ts. g.H.GoalHandler.handler ts c.args.handler.now) s) c.args.table.now.mode c.args.values.now _ c.in_ok-response-in-Outlives.response.value trees r.told;
       refuted = search rules;
       decided = λ s n b d can.
           ⊎_elim
@@ -210,6 +210,59 @@ compute_goal-returns-in-Outlives g t c =
           let settled = f.settled in
           let asked = fact_asked (g.H.GoalHandler.handler s.base c.args.handler.now) (mode_of c.args.table.now.mode) c.args.cx.now.nodes c.enter_forall.new.cx.nodes c.args.table.now c.enter_forall.new.table c.args.goal _ opened settled c.requires.posed posed o.grows.extends in
           absurd (trait_outlives_nothing _ _ (let z = asked.trait_goal in z.statement) (let z = says.is in z.says));
+    }
+
+pub compute_goal-answer_subtype-requires-clause-posed : goal.compute_goal-answer_subtype-requires-clause-posed
+compute_goal-answer_subtype-requires-clause-posed g t c = rw c.in-Subtype.ensures.0 at c.in_ok-opened.ensures.posed
+
+pub compute_goal-answer_subtype-requires-clause-types : goal.compute_goal-answer_subtype-requires-clause-types
+compute_goal-answer_subtype-requires-clause-types g t c = c.in-Subtype.ensures.1
+
+pub compute_goal-answer_subtype-requires-clause-values : goal.compute_goal-answer_subtype-requires-clause-values
+compute_goal-answer_subtype-requires-clause-values g t c =
+    let o = c.in_ok-opened.ensures in
+    args_later c.args.cx.now.nodes c.enter_forall.new.cx.nodes c.args.table.now.entries c.enter_forall.new.table.entries c.args.values.now o.goes.extends o.goes.continues c.requires.values
+
+pub compute_goal-returns-in-Subtype : goal.compute_goal-returns-in-Subtype
+compute_goal-returns-in-Subtype g t c =
+    let o = c.in_ok-opened.ensures in
+    let r = c.answer_subtype.ensures in
+    let opened = rw c.in-Subtype.ensures.0 at o.opened in
+    let posed = rw c.in-Subtype.ensures.0 at o.posed in
+    let says = c.in-Subtype.ensures.1 in
+    let before = c.in-Subtype.ensures.2 in
+    let trees = trees_kept c.args.cx.now.nodes c.enter_forall.new.cx.nodes c.args.table.now.entries c.args.values.now o.grows.extends c.requires.values in
+    record {
+      grows = search rules;
+      searches = Searches-refl c.args.depth c.requires.search (grown o.grows r.grows);
+      found =
+          IfOk-map c.answer_subtype.result
+          (λ x f. record {
+            store = f.store;
+            after = f.after;
+            formed = f.formed;
+            goes = Goes-trans o.goes f.goes;
+            labels = labels_through c.requires.posed opened o.grows.extends f.labels;
+            extends = f.extends;
+            says = rw trees at f.says;
+            holds = f.holds;
+            no_more = f.no_more;
+            sure = λ y s. subtype_through c.requires.posed opened o.grows.extends (meaning (g.H.GoalHandler.handler s.base c.args.handler.now) s.variances) (mode_of c.args.table.now.mode) (assumed_in c.answer_subtype.new.cx.nodes c.args.graph.now) c.in-Subtype.types posed says f.goes (let z = Goes-trans o.goes f.goes in z.continues) f.formed
+                (rw (← (let k = Since-later o.grows s in k.declared)) at (f.sure y));
+          }) r.found;
+      told = λ s tells. IfOk-map c.answer_subtype.result
+          (λ x f. subtype_told c.requires.posed opened o.grows.extends (ruling_since (λ ts. g.H.GoalHandler.handler ts c.args.handler.now) s) c.args.table.now.mode c.args.values.now _ x.value trees (rw (o.goes.mode, ← (let k = Since-later o.grows s in k.declared)) at f)) r.told;
+      refuted = λ s tells n.
+          let x = rw (o.goes.mode, ← (let k = Since-later o.grows s in k.declared)) at (r.no n) in
+          subtype_refuted c.requires.posed opened o.grows.extends (ruling_since (λ ts. g.H.GoalHandler.handler ts c.args.handler.now) s) c.args.table.now.mode c.args.values.now x.0 x.1;
+      decided = λ s n b d can.
+          ⊎_elim
+          (λ asked. absurd (before.not_asked asked))
+          (λ w. absurd (⊎_elim (λ y. before.no_outlives _ (outlives_in y.says)) (λ v. before.not_own (⊎_elim (λ y. states_own y) (λ y. way_states_own y) v)) w))
+          (is_asked_here (g.H.GoalHandler.handler s.base c.args.handler.now) (g.met.H.GoalHandler.lawful s.base c.args.handler.now s.formed s.is_ready) (mode_of c.args.table.now.mode) n b c.args.goal c.args.values.now d.0 d.1 c.requires.posed c.terms_are_formed.ensures o.grows.extends _ opened posed);
+      facts = λ s tells f can.
+          let settled = f.settled in
+          absurd (before.not_asked (fact_asked (g.H.GoalHandler.handler s.base c.args.handler.now) (mode_of c.args.table.now.mode) c.args.cx.now.nodes c.enter_forall.new.cx.nodes c.args.table.now c.enter_forall.new.table c.args.goal _ opened settled c.requires.posed posed o.grows.extends));
     }
 
 pub compute_goal-evaluate_own-response-requires : goal.compute_goal-evaluate_own-response-requires
@@ -302,7 +355,7 @@ evaluate_candidates-returns g t c =
       grows = search rules;
       searches = let i = c.loop-candidate.invariant in search_grown c.args.depth c.requires.search i.searches c.merge_responses.ensures.grows;
       found = IfOk-map c.merge_responses.result (λ r f. found_merged c.loop-candidate.responses.items r.value i.grows.extends k.grows.extends c.terms_are_formed.ensures c.requires.posed.table c.requires.values (founds_with c.loop-candidate.responses.items (λ b u w s offered. served_more covers (w s offered)) i.found) f) (rw i.same at k.merged);
-      told = λ s tells. IfOk-map c.merge_responses.result (λ r f. told_merged (g.H.GoalHandler.handler s.base c.args.handler.now) c.args.table.now.mode c.args.candidates.now c.loop-candidate.responses.items r.value i.grows.extends k.grows.extends c.requires.posed.table c.requires.values i.found (rw all at (i.told s tells)) f) (rw i.same at k.merged);
+      told = λ s tells. IfOk-map c.merge_responses.result (λ r f. told_merged (ruling_since (λ ts. g.H.GoalHandler.handler ts c.args.handler.now) s) c.args.table.now.mode c.args.candidates.now c.loop-candidate.responses.items r.value i.grows.extends k.grows.extends c.requires.posed.table c.requires.values i.found (rw all at (i.told s tells)) f) (rw i.same at k.merged);
       refuted = search rules;
       decided = λ s n b d can.
           let goes = goes-back c.requires.posed.table i.grows.extends i.same in
@@ -351,7 +404,7 @@ evaluate_goal-returns-in_err-answer g t c =
       proved = λ s. IfOk-from_err c.from_residual-in_err-answer.result _ fails;
       told = λ s tells. IfOk-from_err c.from_residual-in_err-answer.result _ fails;
       refuted = λ s tells n.
-          let h = g.H.GoalHandler.handler s.base c.args.handler.now in
+          let h = ruling_since (λ ts. g.H.GoalHandler.handler ts c.args.handler.now) s in
           let refused : c.search.result ≡ Err EvalError.NoSolution = search rules in
           query_cut c.requires.posed q.query q.grows.extends c.search.ensures.grows.extends c.requires.search.stack c.requires.search.heads (c.search.ensures.refuted (Since-later q.grows s) (tell_grown h (c.args.depth + 1) c.requires.search q.grows tells) refused);
       decided = λ s n b d can.
@@ -359,7 +412,7 @@ evaluate_goal-returns-in_err-answer g t c =
           (c.search.ensures.decided (Since-later q.grows s) n b (as_query c.args.goal c.in_ok-originals.input.value n b q.query d) (decides_grown c.requires.search q.grows can));
       facts = λ s tells f never empty can.
           decides_error c.search.result c.from_residual-in_err-answer.result fails (λ no. (search rules)) (λ no. no)
-          (c.search.ensures.facts (Since-later q.grows s) (tell_grown (g.H.GoalHandler.handler s.base c.args.handler.now) (c.args.depth + 1) c.requires.search q.grows tells) (fact_query c.args.goal c.in_ok-originals.input.value q.query f) (nothing_stands _ c.args.graph.now c.in_ok-originals.input.value empty) (decides_grown c.requires.search q.grows can));
+          (c.search.ensures.facts (Since-later q.grows s) (tell_grown (ruling_since (λ ts. g.H.GoalHandler.handler ts c.args.handler.now) s) (c.args.depth + 1) c.requires.search q.grows tells) (fact_query c.args.goal c.in_ok-originals.input.value q.query f) (nothing_stands _ c.args.graph.now c.in_ok-originals.input.value empty) (decides_grown c.requires.search q.grows can));
     }
 
 pub evaluate_goal-returns-in_err-originals : goal.evaluate_goal-returns-in_err-originals
@@ -686,8 +739,8 @@ search-returns-in-Some g t c =
       counted = λ none limit answered. absurd (input_stands c.args.cx.now.nodes c.args.graph.now c.args.input.value c.in-Some.head none (rw c.deref.ensures at c.in-Some.ensures.found));
       fits = search rules;
       proved = λ s. ok_two c.answer_cycle.result (λ r fits usable sure. cycle_derived (meaning_since (λ ts. g.H.GoalHandler.handler ts c.args.handler.now) s) (mode_of c.args.input.value.typing_mode) (passed (path_kind_of c.args.step) (assumed_in c.answer_cycle.new.cx.nodes c.answer_cycle.new.graph)) c.args.cx.now.nodes c.answer_cycle.new.cx.nodes c.args.input.value r.value c.requires.input fits (usable sure)) (rw c.deref-in-Some.ensures at c.answer_cycle.ensures.fits) (rw c.deref-in-Some.ensures at c.answer_cycle.ensures.usable);
-      told = λ s tells. IfOk-map c.answer_cycle.result (λ r x. cycle_told (g.H.GoalHandler.handler s.base c.args.handler.now) c.in-Some.head (c.args.depth + 1) c.args.input.value c.requires.search c.answer_cycle.ensures.grows (rw c.deref.ensures at c.in-Some.ensures.found) tells r.value x) (rw c.deref-in-Some.ensures at c.answer_cycle.ensures.some);
-      refuted = λ s tells no. cycle_refuted (g.H.GoalHandler.handler s.base c.args.handler.now) c.in-Some.head (c.args.depth + 1) c.args.input.value c.requires.search c.answer_cycle.ensures.grows (rw c.deref.ensures at c.in-Some.ensures.found) tells (rw c.deref-in-Some.ensures at (c.answer_cycle.ensures.none no));
+      told = λ s tells. IfOk-map c.answer_cycle.result (λ r x. cycle_told (ruling_since (λ ts. g.H.GoalHandler.handler ts c.args.handler.now) s) c.in-Some.head (c.args.depth + 1) c.args.input.value c.requires.search c.answer_cycle.ensures.grows (rw c.deref.ensures at c.in-Some.ensures.found) tells r.value x) (rw c.deref-in-Some.ensures at c.answer_cycle.ensures.some);
+      refuted = λ s tells no. cycle_refuted (ruling_since (λ ts. g.H.GoalHandler.handler ts c.args.handler.now) s) c.in-Some.head (c.args.depth + 1) c.args.input.value c.requires.search c.answer_cycle.ensures.grows (rw c.deref.ensures at c.in-Some.ensures.found) tells (rw c.deref-in-Some.ensures at (c.answer_cycle.ensures.none no));
       decided = λ s n b d can. absurd (stands_high (g.H.GoalHandler.handler s.base c.args.handler.now) c.args.cx.now.nodes n b c.args.graph.now c.args.input.value c.in-Some.head can.above (rw c.deref.ensures at c.in-Some.ensures.found) d);
       facts = λ s tells f none can. absurd (input_stands c.args.cx.now.nodes c.args.graph.now c.args.input.value c.in-Some.head none (rw c.deref.ensures at c.in-Some.ensures.found));
     }

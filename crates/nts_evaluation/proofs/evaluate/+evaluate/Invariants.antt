@@ -72,7 +72,7 @@ invariant-evaluate_rounds-loop-round g l = record {
   first : l.round ≡ 0 → IsAsBefore l.fn.graph l.graph;
   decided : Always (rules_of g.H.GoalHandler.ready g.H.GoalHandler.handler l.handler) l.fn.cx (λ s. (n : ℕ) (b : Bool) → IsBelow n (λ m. IsQueryDecided (g.H.GoalHandler.handler s.base l.handler) (mode_of l.fn.input.value.typing_mode) m (form_of l.fn.cx.nodes l.fn.input.value) b)
       → CanDecide (g.H.GoalHandler.handler s.base l.handler) l.fn.cx l.fn.graph n (l.fn.depth + 1) → l.round ≡ 0);
-  facts : WhereTold (rules_of g.H.GoalHandler.ready g.H.GoalHandler.handler l.handler) l.fn.cx l.fn.graph (λ m. IsFactForm m (mode_of l.fn.input.value.typing_mode) (form_of l.fn.cx.nodes l.fn.input.value) → CanDecide m l.fn.cx l.fn.graph 0 (l.fn.depth + 1) → l.round ≡ 0);
+  facts : WhereTold (rules_of g.H.GoalHandler.ready g.H.GoalHandler.handler l.handler) l.fn.cx l.fn.graph (λ m. IsFactForm m.handler (mode_of l.fn.input.value.typing_mode) (form_of l.fn.cx.nodes l.fn.input.value) → CanDecide m.handler l.fn.cx l.fn.graph 0 (l.fn.depth + 1) → l.round ≡ 0);
 }
 
 -- the first candidates have these responses, and the table is as before
@@ -86,9 +86,9 @@ invariant-evaluate_candidates-loop-candidate g l = record {
   decided : Always (rules_of g.H.GoalHandler.ready g.H.GoalHandler.handler l.handler) l.fn.cx (λ s. (n : ℕ) (b : Bool) → AreRootValues l.fn.cx.nodes l.values × CandidatesSettled (g.H.GoalHandler.handler s.base l.handler) l.fn.table.mode n l.fn.cx.nodes l.fn.table l.candidates b
       → CanDecide (g.H.GoalHandler.handler s.base l.handler) l.fn.cx l.fn.graph n l.depth
       → AreSoFar Anything (g.H.GoalHandler.handler s.base l.handler) l.fn.table.mode n l.fn.cx.nodes l.fn.table (drop l.candidate-index l.candidates) b l.responses.items × IsAsBefore l.fn.graph l.graph);
-  facts : WhereTold (rules_of g.H.GoalHandler.ready g.H.GoalHandler.handler l.handler) l.fn.cx l.fn.graph (λ m. IsQueryAtFirst l.fn.cx.nodes l.fn.table l.goal l.values → CandidatesSettled m l.fn.table.mode 0 l.fn.cx.nodes l.fn.table l.candidates true → ArePlainCandidates l.fn.cx.nodes l.fn.table l.goal l.candidates
-      → CanDecide m l.fn.cx l.fn.graph 0 l.depth
-      → AreSoFar (IsOverIfSilent l.cx.nodes (trees_of l.fn.cx.nodes l.values)) m l.fn.table.mode 0 l.fn.cx.nodes l.fn.table (drop l.candidate-index l.candidates) true l.responses.items × IsAsBefore l.fn.graph l.graph);
+  facts : WhereTold (rules_of g.H.GoalHandler.ready g.H.GoalHandler.handler l.handler) l.fn.cx l.fn.graph (λ m. IsQueryAtFirst l.fn.cx.nodes l.fn.table l.goal l.values → CandidatesSettled m.handler l.fn.table.mode 0 l.fn.cx.nodes l.fn.table l.candidates true → ArePlainCandidates l.fn.cx.nodes l.fn.table l.goal l.candidates
+      → CanDecide m.handler l.fn.cx l.fn.graph 0 l.depth
+      → AreSoFar (IsOverIfSilent l.cx.nodes (trees_of l.fn.cx.nodes l.values)) m.handler l.fn.table.mode 0 l.fn.cx.nodes l.fn.table (drop l.candidate-index l.candidates) true l.responses.items × IsAsBefore l.fn.graph l.graph);
 }
 
 -- the goals that are left, after the first steps

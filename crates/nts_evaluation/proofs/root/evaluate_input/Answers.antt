@@ -9,6 +9,7 @@ use Rattle.nts_terms.specs.Signatures.{variances_in}
 use Rattle.nts_canonical.specs.Forms.{form_of}
 use Rattle.nts_response.specs.Forms.{response_at}
 use Rattle.nts_candidates.specs.Offered.{path_kind_of}
+use Rattle.nts_meaning.specs.Meant.{ruling_in}
 use Rattle.nts_meaning.proofs.Evaluating.{Since-now}
 use Rattle.nts_meaning.proofs.Searching.{nothing_stands}
 use Rattle.nts_meaning.proofs.Rounds.{empty_stack, tell_begun, nothing_left, never_cut}
@@ -26,13 +27,13 @@ returns-in-Ok-clause-proved g c = rw c.into_inner.ensures (λ sure.
 pub returns-in-Ok-clause-told : goal.returns-in-Ok-clause-told
 returns-in-Ok-clause-told g c =
     let none = empty_stack c.args.graph.now c.requires.search in
-    rw c.into_inner.ensures (rw c.in_ok-input.ensures.ok at (c.in-Ok.ensures.told (Since-now c.terms_are_formed.ensures c.requires.ready) (tell_begun c.args.graph.now (g.H.GoalHandler.handler c.args.cx.now.nodes c.args.handler.now) c.args.cx.now.nodes none)))
+    rw c.into_inner.ensures (rw c.in_ok-input.ensures.ok at (c.in-Ok.ensures.told (Since-now c.terms_are_formed.ensures c.requires.ready) (tell_begun c.args.graph.now (ruling_in g.H.GoalHandler.handler c.args.cx.now c.args.handler.now) c.args.cx.now.nodes none)))
 
 pub returns-in-Err-NoSolution-clause-refuted : goal.returns-in-Err-NoSolution-clause-refuted
 returns-in-Err-NoSolution-clause-refuted g c = λ q.
     let none = empty_stack c.args.graph.now c.requires.search in
     let refused : c.search.result ≡ Err EvalError.NoSolution = search rules in
-    never_cut c.args.graph.now none (rw c.in_ok-input.ensures.ok at (c.search.ensures.refuted (Since-now c.terms_are_formed.ensures c.requires.ready) (tell_begun c.args.graph.now (g.H.GoalHandler.handler c.args.cx.now.nodes c.args.handler.now) c.args.cx.now.nodes none) refused))
+    never_cut c.args.graph.now none (rw c.in_ok-input.ensures.ok at (c.search.ensures.refuted (Since-now c.terms_are_formed.ensures c.requires.ready) (tell_begun c.args.graph.now (ruling_in g.H.GoalHandler.handler c.args.cx.now c.args.handler.now) c.args.cx.now.nodes none) refused))
 
 pub returns-in-Ok-clause-fits : goal.returns-in-Ok-clause-fits
 returns-in-Ok-clause-fits g c = rw c.into_inner.ensures (rw c.in_ok-input.ensures.ok at c.in-Ok.ensures.fits)

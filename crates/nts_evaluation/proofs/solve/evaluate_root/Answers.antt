@@ -7,7 +7,7 @@ use Rattle.nts_meaning.proofs.AskedGoals.{evaluates_at}
 use Rattle.std.proofs.Common.{subst}
 use Rattle.nts_certainty.specs.declared.sources.PathKind.TheVariants as path
 use Rattle.nts_candidates.specs.Offered.{path_kind_of}
-use Rattle.nts_meaning.specs.Meant.{IsProvedFromSince}
+use Rattle.nts_meaning.specs.Meant.{ruling_since, IsProvedFromSince}
 use Rattle.nts_meaning.proofs.Rounds.{search_begun, tell_begun, nothing_left, not_cut}
 use Rattle.nts_evaluation.proofs.Deciding.{fault_is_decided, decides_error, begun_decides}
 use Rattle.nts_evaluation.proofs.FactRoots.{fact_form, never_refused, resolved_fact, begun_facts}
@@ -32,7 +32,7 @@ returns-clause-runs g c =
 pub returns-clause-evaluates : goal.returns-clause-evaluates
 returns-clause-evaluates g c = λ s.
     let k = c.in_ok-asked.ensures in
-    let told = c.in_ok-evaluated.ensures.told (Since-later k.grows s) (tell_begun c.new-graph.result (g.H.GoalHandler.handler s.base c.args.handler.now) c.asked_goal.new.cx.nodes c.new-graph.ensures.empty) in
+    let told = c.in_ok-evaluated.ensures.told (Since-later k.grows s) (tell_begun c.new-graph.result (ruling_since (λ ts. g.H.GoalHandler.handler ts c.args.handler.now) s) c.asked_goal.new.cx.nodes c.new-graph.ensures.empty) in
     evaluates_at (content_of-extended k.grows.extends c.requires.posed.table.now) (rw (k.env, k.predicate) at told)
 
 pub returns-clause-proved : goal.returns-clause-proved
@@ -52,7 +52,7 @@ returns-in_err-evaluated-clause-refuted g c = λ s q.
     let k = c.in_ok-asked.ensures in
     let here = content_of-extended k.grows.extends c.requires.posed.table.now in
     let refused : c.evaluate_goal.result ≡ Err EvalError.NoSolution = search rules in
-    not_cut c.new-graph.result c.new-graph.ensures.empty (rw (here, k.env, k.predicate) at (c.evaluate_goal.ensures.refuted (Since-later k.grows s) (tell_begun c.new-graph.result (g.H.GoalHandler.handler s.base c.args.handler.now) c.asked_goal.new.cx.nodes c.new-graph.ensures.empty) refused))
+    not_cut c.new-graph.result c.new-graph.ensures.empty (rw (here, k.env, k.predicate) at (c.evaluate_goal.ensures.refuted (Since-later k.grows s) (tell_begun c.new-graph.result (ruling_since (λ ts. g.H.GoalHandler.handler ts c.args.handler.now) s) c.asked_goal.new.cx.nodes c.new-graph.ensures.empty) refused))
 
 pub returns-in_err-asked-clause-decided : goal.returns-in_err-asked-clause-decided
 returns-in_err-asked-clause-decided g c = λ s b d may. fault_is_decided b c.from_residual.result _ (search rules) (search rules)
@@ -79,9 +79,9 @@ returns-in_err-evaluated-clause-only_fact g c = λ s f may.
     let h = g.H.GoalHandler.handler s.base c.args.handler.now in
     let law = g.met.H.GoalHandler.lawful s.base c.args.handler.now s.formed s.is_ready in
     let fact = resolved_fact h c.args.table.now.mode c.args.cx.now.nodes c.asked_goal.new.cx.nodes c.args.table.now c.args.goal c.in_ok-asked.asked.goal (content_of-extended k.grows.extends c.requires.posed.table.now) k.env k.predicate f in
-    let x = c.evaluate_goal.ensures.facts (Since-later k.grows s) (tell_begun c.new-graph.result h c.asked_goal.new.cx.nodes c.new-graph.ensures.empty)
+    let x = c.evaluate_goal.ensures.facts (Since-later k.grows s) (tell_begun c.new-graph.result (ruling_since (λ ts. g.H.GoalHandler.handler ts c.args.handler.now) s) c.asked_goal.new.cx.nodes c.new-graph.ensures.empty)
     (fact_form h law (mode_of c.args.table.now.mode) c.asked_goal.new.cx.nodes c.args.table.now c.in_ok-asked.asked.goal k.posed fact)
-    (never_refused h law (mode_of c.args.table.now.mode) c.asked_goal.new.cx.nodes c.args.table.now c.in_ok-asked.asked.goal k.posed fact may.tight c.args.table.now.mode refl)
+    (never_refused h law (mode_of c.args.table.now.mode) c.asked_goal.new.cx.nodes c.args.table.now c.in_ok-asked.asked.goal k.posed fact may.tight s.variances c.args.table.now.mode refl)
     c.new-graph.ensures.empty (begun_facts c.args.depth k.grows may c.new-graph.ensures.overflowed) in
     let y = decides_error c.evaluate_goal.result c.from_residual-in_err-evaluated.result (search rules) (λ no. (search rules)) (λ no. no) x in
     y.answer
@@ -92,9 +92,9 @@ returns-clause-only_fact g c = λ s f may.
     let h = g.H.GoalHandler.handler s.base c.args.handler.now in
     let law = g.met.H.GoalHandler.lawful s.base c.args.handler.now s.formed s.is_ready in
     let fact = resolved_fact h c.args.table.now.mode c.args.cx.now.nodes c.asked_goal.new.cx.nodes c.args.table.now c.args.goal c.in_ok-asked.asked.goal (content_of-extended k.grows.extends c.requires.posed.table.now) k.env k.predicate f in
-    let x = c.in_ok-evaluated.ensures.facts (Since-later k.grows s) (tell_begun c.new-graph.result h c.asked_goal.new.cx.nodes c.new-graph.ensures.empty)
+    let x = c.in_ok-evaluated.ensures.facts (Since-later k.grows s) (tell_begun c.new-graph.result (ruling_since (λ ts. g.H.GoalHandler.handler ts c.args.handler.now) s) c.asked_goal.new.cx.nodes c.new-graph.ensures.empty)
     (fact_form h law (mode_of c.args.table.now.mode) c.asked_goal.new.cx.nodes c.args.table.now c.in_ok-asked.asked.goal k.posed fact)
-    (never_refused h law (mode_of c.args.table.now.mode) c.asked_goal.new.cx.nodes c.args.table.now c.in_ok-asked.asked.goal k.posed fact may.tight c.args.table.now.mode refl)
+    (never_refused h law (mode_of c.args.table.now.mode) c.asked_goal.new.cx.nodes c.args.table.now c.in_ok-asked.asked.goal k.posed fact may.tight s.variances c.args.table.now.mode refl)
     c.new-graph.ensures.empty (begun_facts c.args.depth k.grows may c.new-graph.ensures.overflowed) in
     x.answer
 

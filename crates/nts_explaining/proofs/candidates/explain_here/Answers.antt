@@ -25,10 +25,15 @@ returns-in-Own-clause-reasons g c =
     let o = c.in_ok-opened.ensures in
     unasked_reasons _ (search rules) c.enter_forall.new.cx.nodes c.enter_forall.new.table _ (rw c.in-Own.ensures.0 at o.opened) (λ asked. own_is_no_trait c.enter_forall.new.cx.nodes _ _ c.in-Own.ensures.1 (let t = asked.trait_goal in t.statement))
 
+pub returns-in-Subtype-clause-reasons : goal.returns-in-Subtype-clause-reasons
+returns-in-Subtype-clause-reasons g c =
+    let o = c.in_ok-opened.ensures in
+    unasked_reasons _ (search rules) c.enter_forall.new.cx.nodes c.enter_forall.new.table _ (rw c.in-Subtype.ensures.0 at o.opened) (let none = c.in-Subtype.ensures.2 in none.not_asked)
+
 pub returns-in-Unanswered-clause-reasons : goal.returns-in-Unanswered-clause-reasons
 returns-in-Unanswered-clause-reasons g c =
     let o = c.in_ok-opened.ensures in
-    unasked_reasons _ (search rules) c.enter_forall.new.cx.nodes c.enter_forall.new.table _ (rw c.in-Unanswered.ensures.0 at o.opened) c.in-Unanswered.ensures.1
+    unasked_reasons _ (search rules) c.enter_forall.new.cx.nodes c.enter_forall.new.table _ (rw c.in-Unanswered.ensures.0 at o.opened) (let none = c.in-Unanswered.ensures.1 in none.not_asked)
 
 pub returns-in_err-candidates-clause-goes : goal.returns-in_err-candidates-clause-goes
 returns-in_err-candidates-clause-goes g c = (let o = c.in_ok-opened.ensures in Goes-trans o.goes (Goes-extends o.goes.table c.candidates.ensures.grows.extends))

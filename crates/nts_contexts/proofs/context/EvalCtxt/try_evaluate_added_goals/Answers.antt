@@ -1,3 +1,4 @@
+use Rattle.nts_evaluation.specs.nts_meaning.specs.Meant.{ruling_since}
 use Rattle.std.proofs.Common.{◌≡◌, Err, ap, sym, subst, rules}
 use Rattle.std.proofs.lemmas.Result.{IfOk-from_err}
 use Rattle.nts_contexts.specs.declared.state.EvalState.{EvalState}
@@ -48,7 +49,7 @@ pub returns-clause-refuted : goal.returns-clause-refuted
 returns-clause-refuted g c = λ s no.
     let run = c.try_evaluate_goals-evaluated.ensures in
     let refused : c.try_evaluate_goals-evaluated.result ≡ Err EvalError.NoSolution = search rules in
-    let told = tell_begun c.new-graph.result (g.H.GoalHandler.handler s.base c.args.self.now.handler.now) c.args.self.now.cx.now.nodes c.new-graph.ensures.empty in
+    let told = tell_begun c.new-graph.result (ruling_since (λ ts. g.H.GoalHandler.handler ts c.args.self.now.handler.now) s) c.args.self.now.cx.now.nodes c.new-graph.ensures.empty in
     let self = c.args.self.now in
-    subst (RefusesAmong (g.H.GoalHandler.handler s.base self.handler.now) self.table.now.mode self.cx.now.nodes (content_of self.cx.now.nodes self.table.now.entries)) c.take_goals-goals.ensures.goals
+    subst (RefusesAmong (ruling_since (λ ts. g.H.GoalHandler.handler ts self.handler.now) s) self.table.now.mode self.cx.now.nodes (content_of self.cx.now.nodes self.table.now.entries)) c.take_goals-goals.ensures.goals
     (stopped_root c.new-graph.result kinds.Misc c.new-graph.ensures.empty (run.refuted s told refused))

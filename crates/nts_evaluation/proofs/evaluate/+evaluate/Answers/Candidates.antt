@@ -13,7 +13,7 @@ use Rattle.nts_delegate.specs.Candidates.{IsCandidate}
 use Rattle.nts_candidates.specs.Offered.{certainty_of, candidate_of, premise_of, candidates_of}
 use Rattle.nts_candidates.proofs.Results.{IfOk-map}
 use Rattle.nts_canonical.specs.Forms.{trees_of}
-use Rattle.nts_meaning.specs.Meant.{Since, rules_of}
+use Rattle.nts_meaning.specs.Meant.{ruling_since, Since, rules_of}
 use Rattle.nts_evaluation.proofs.Leaking.{checked}
 use Rattle.nts_meaning.proofs.TraitsAsked.{none-extended, kind_asked}
 use Rattle.nts_meaning.proofs.AskedGoals.{trees_kept}
@@ -128,7 +128,7 @@ compute_goal-returns g t c =
           (rw c.deref.ensures.value at c.evaluate_candidates-response.ensures.found);
       told = λ s tells.
           let both = trees_kept c.args.cx.now.nodes c.relevant_candidates.new.cx.nodes c.args.table.now.entries c.args.values.now up c.requires.values in
-          let h = g.H.GoalHandler.handler s.base c.args.handler.now in
+          let h = ruling_since (λ ts. g.H.GoalHandler.handler ts c.args.handler.now) s in
           let same = g.met.H.GoalHandler.handler_kept s.base c.relevant_candidates.new.cx.nodes c.args.handler.now s.is_ready (Extends-trans s.extends up) in
           let offered = subst (λ os. LeavesOut os (candidates_of c.relevant_candidates.new.cx.nodes c.in_ok-candidates.candidates.items)) (ap (λ m. (g.H.GoalHandler.handler c.relevant_candidates.new.cx.nodes c.args.handler.now).offers (mode_of m) (tree_at c.relevant_candidates.new.cx.nodes c.in-Candidates.opened.param_env.node) (tree_at c.relevant_candidates.new.cx.nodes c.in-Candidates.opened.predicate.node)) c.typing_mode.ensures ∙ same.offers _ _ _) e.offered in
           let run = rw c.deref.ensures.value at (c.evaluate_candidates-response.ensures.told (Since-later (grown o.grows e.grows) s) (tell_grown h c.args.depth c.requires.search (grown o.grows e.grows) tells)) in
@@ -136,7 +136,7 @@ compute_goal-returns g t c =
           (λ r f. told_through c.requires.posed opened o.grows.extends posed c.in-Candidates.ensures.1 h c.args.table.now.mode c.args.values.now c.evaluate_candidates-response.new.cx.nodes r.value trees
           (rw (o.goes.mode) at (told_offered h c.enter_forall.new.table.mode c.enter_forall.new.table c.in-Candidates.opened c.args.values.now c.in_ok-candidates.candidates.items c.evaluate_candidates-response.new.cx.nodes r.value e.grows.extends o.goes.table posed.holds (both ∙ sym trees) offered f))) run;
       refuted = λ s tells n.
-          let h = g.H.GoalHandler.handler s.base c.args.handler.now in
+          let h = ruling_since (λ ts. g.H.GoalHandler.handler ts c.args.handler.now) s in
           let same = g.met.H.GoalHandler.handler_kept s.base c.relevant_candidates.new.cx.nodes c.args.handler.now s.is_ready (Extends-trans s.extends up) in
           let offered = subst (λ os. LeavesOut os (candidates_of c.relevant_candidates.new.cx.nodes c.in_ok-candidates.candidates.items)) (ap (λ m. (g.H.GoalHandler.handler c.relevant_candidates.new.cx.nodes c.args.handler.now).offers (mode_of m) (tree_at c.relevant_candidates.new.cx.nodes c.in-Candidates.opened.param_env.node) (tree_at c.relevant_candidates.new.cx.nodes c.in-Candidates.opened.predicate.node)) c.typing_mode.ensures ∙ same.offers _ _ _) e.offered in
           let run = rw c.deref.ensures.value at (c.evaluate_candidates-response.ensures.refuted (Since-later (grown o.grows e.grows) s) (tell_grown h c.args.depth c.requires.search (grown o.grows e.grows) tells) n) in
@@ -144,7 +144,7 @@ compute_goal-returns g t c =
           let environment = e.grows.extends.kept c.in-Candidates.opened.param_env.node posed.holds.env.within in
           let predicate = e.grows.extends.kept c.in-Candidates.opened.predicate.node posed.holds.predicate.within in
           refuted_through c.requires.posed opened o.grows.extends posed c.in-Candidates.ensures.1 h c.args.table.now.mode c.args.values.now
-          (rw (here, o.goes.mode, both, offers-kept h (mode_of c.args.table.now.mode) e.grows.extends posed.holds, environment, predicate) at (all_outcomes offered _ _ refl run));
+          (rw (here, o.goes.mode, both, offers-kept (g.H.GoalHandler.handler s.base c.args.handler.now) (mode_of c.args.table.now.mode) e.grows.extends posed.holds, environment, predicate) at (all_outcomes offered _ _ refl run));
       decided = λ s n b d can.
           let h = g.H.GoalHandler.handler s.base c.args.handler.now in
           let law = g.met.H.GoalHandler.lawful s.base c.args.handler.now s.formed s.is_ready in
@@ -159,6 +159,7 @@ compute_goal-returns g t c =
           c.evaluate_candidates-response.ensures.decided (Since-later (grown o.grows e.grows) s) n b (values, rw (o.goes.mode, c.deref.ensures.value) settled) (decides_grown c.requires.search (grown o.grows e.grows) can);
       facts = λ s tells f can.
           let h = g.H.GoalHandler.handler s.base c.args.handler.now in
+          let ruled = ruling_since (λ ts. g.H.GoalHandler.handler ts c.args.handler.now) s in
           let law = g.met.H.GoalHandler.lawful s.base c.args.handler.now s.formed s.is_ready in
           let same = g.met.H.GoalHandler.handler_kept s.base c.relevant_candidates.new.cx.nodes c.args.handler.now s.is_ready (Extends-trans s.extends up) in
           let offered = subst (λ os. LeavesOut os (candidates_of c.relevant_candidates.new.cx.nodes c.in_ok-candidates.candidates.items)) (ap (λ m. (g.H.GoalHandler.handler c.relevant_candidates.new.cx.nodes c.args.handler.now).offers (mode_of m) (tree_at c.relevant_candidates.new.cx.nodes c.in-Candidates.opened.param_env.node) (tree_at c.relevant_candidates.new.cx.nodes c.in-Candidates.opened.predicate.node)) c.typing_mode.ensures ∙ same.offers _ _ _) e.offered in
@@ -170,7 +171,7 @@ compute_goal-returns g t c =
           let values = trees_kept c.args.cx.now.nodes c.relevant_candidates.new.cx.nodes c.args.table.now.entries c.args.values.now up c.requires.values in
           let query = query_later c.args.cx.now.nodes c.relevant_candidates.new.cx.nodes c.args.table.now c.enter_forall.new.table c.args.goal c.in-Candidates.opened c.args.values.now table environment predicate values f.query in
           let kept = facts_kept h law c.args.table.now.mode c.relevant_candidates.new.cx.nodes c.enter_forall.new.table c.in-Candidates.opened c.in_ok-candidates.candidates.items (rw (table, environment, predicate) settled) (rw o.goes.mode at offered) in
-          c.evaluate_candidates-response.ensures.facts (Since-later (grown o.grows e.grows) s) (tell_grown h c.args.depth c.requires.search (grown o.grows e.grows) tells) query (rw c.deref.ensures.value (subst (λ m. CandidatesSettled h m 0 c.relevant_candidates.new.cx.nodes c.enter_forall.new.table c.in_ok-candidates.candidates.items true) (sym o.goes.mode) kept.0)) (rw c.deref.ensures.value kept.1) (decides_grown c.requires.search (grown o.grows e.grows) can);
+          c.evaluate_candidates-response.ensures.facts (Since-later (grown o.grows e.grows) s) (tell_grown ruled c.args.depth c.requires.search (grown o.grows e.grows) tells) query (rw c.deref.ensures.value (subst (λ m. CandidatesSettled h m 0 c.relevant_candidates.new.cx.nodes c.enter_forall.new.table c.in_ok-candidates.candidates.items true) (sym o.goes.mode) kept.0)) (rw c.deref.ensures.value kept.1) (decides_grown c.requires.search (grown o.grows e.grows) can);
     }
 
 pub evaluate_candidates-loop-candidate-init : goal.evaluate_candidates-loop-candidate-init
@@ -179,7 +180,7 @@ evaluate_candidates-loop-candidate-init g t c = record {
   grows = record { extends = Extends-refl _; rest = KeepsRest-refl _ };
   searches = Searches-refl c.args.depth c.requires.search (record { extends = Extends-refl _; rest = KeepsRest-refl _ });
   found = λ k d l. absurd (omega (arith, l, ap (length {A = Canonical Response}) c.new-responses.ensures.items));
-  told = λ s tells. outcomes_first c.args.cx.now.nodes c.args.cx.now.nodes c.args.table.now c.args.goal (g.H.GoalHandler.handler s.base c.args.handler.now) c.args.table.now.mode c.args.values.now c.args.candidates.now c.new-responses.result.items c.new-responses.ensures.items;
+  told = λ s tells. outcomes_first c.args.cx.now.nodes c.args.cx.now.nodes c.args.table.now c.args.goal (ruling_since (λ ts. g.H.GoalHandler.handler ts c.args.handler.now) s) c.args.table.now.mode c.args.values.now c.args.candidates.now c.new-responses.result.items c.new-responses.ensures.items;
   decided = λ s n b d can. (let fares = d.1 in (subst (AreSoFar Anything (g.H.GoalHandler.handler s.base c.args.handler.now) c.args.table.now.mode n c.args.cx.now.nodes c.args.table.now c.args.candidates.now b) (sym c.new-responses.ensures.items) (none_held fares.fares), same_search _));
   facts = λ s tells q settled plain can. (subst (AreSoFar (IsOverIfSilent c.args.cx.now.nodes (trees_of c.args.cx.now.nodes c.args.values.now)) (g.H.GoalHandler.handler s.base c.args.handler.now) c.args.table.now.mode 0 c.args.cx.now.nodes c.args.table.now c.args.candidates.now true) (sym c.new-responses.ensures.items) (none_held settled.fares), same_search _);
 }
@@ -199,7 +200,7 @@ evaluate_candidates-loop-candidate-preserved g t c =
     let mode = c.args.table.now.mode in
     let now = search_later c.args.depth c.args.depth (omega arith) c.requires.search i.searches in
     let covers = search_covers c.args.depth now p.grows.extends p.searches in
-    let later = λ (s : Since (λ ts. g.H.GoalHandler.ready ts c.args.handler.now) c.args.cx.now) (tells : HeadsTell (g.H.GoalHandler.handler s.base c.args.handler.now) c.args.cx.now.nodes c.args.graph.now). heads_tell_later (g.H.GoalHandler.handler s.base c.args.handler.now) c.args.depth c.requires.search i.grows.extends i.searches tells in
+    let later = λ (s : Since (λ ts. g.H.GoalHandler.ready ts c.args.handler.now) c.args.cx.now) (tells : HeadsTell (ruling_since (λ ts. g.H.GoalHandler.handler ts c.args.handler.now) s) c.args.cx.now.nodes c.args.graph.now). heads_tell_later (ruling_since (λ ts. g.H.GoalHandler.handler ts c.args.handler.now) s) c.args.depth c.requires.search i.grows.extends i.searches tells in
     record {
       same = p.same ∙ i.same;
       grows = record { extends = Extends-trans i.grows.extends p.grows.extends; rest = KeepsRest-trans i.grows.rest p.grows.rest };
@@ -210,7 +211,7 @@ evaluate_candidates-loop-candidate-preserved g t c =
           (found_of r.value (λ b u later f s offered. served_by (g.H.GoalHandler.handler s.base c.args.handler.now) (meaning (g.H.GoalHandler.handler s.base c.args.handler.now) s.variances) mode _ c.loop-candidate.cx.nodes b u c.args.goal _ later (HoldsGoal-extended i.grows.extends holds)
           (rw (offers-kept (g.H.GoalHandler.handler s.base c.args.handler.now) (mode_of mode) i.grows.extends holds) (offered_there _ c.args.goal _ cs c.loop-candidate.candidate-index c.candidate-item.is at c.requires.candidates i.grows.extends offered)) (f (Since-later i.grows s))) f))
           (rw i.same at p.found)) m.kept;
-      told = λ s tells. outcomes_more (g.H.GoalHandler.handler s.base c.args.handler.now) mode cs c.loop-candidate.candidate-index x x rs new c.probe_candidate-answer.result at c.candidate-item.is i.grows.extends p.grows.extends w c.requires.values (candidate_at c.args.cx.now.nodes c.args.goal cs c.loop-candidate.candidate-index x c.requires.candidates at) i.found m.kept holds
+      told = λ s tells. outcomes_more (ruling_since (λ ts. g.H.GoalHandler.handler ts c.args.handler.now) s) mode cs c.loop-candidate.candidate-index x x rs new c.probe_candidate-answer.result at c.candidate-item.is i.grows.extends p.grows.extends w c.requires.values (candidate_at c.args.cx.now.nodes c.args.goal cs c.loop-candidate.candidate-index x c.requires.candidates at) i.found m.kept holds
           (rw i.same at (p.told (Since-later i.grows s) (later s tells)))
           (failed_of c.probe_candidate-answer.result m.dropped (λ n. rw i.same at (p.refuted (Since-later i.grows s) (later s tells) n))) (i.told s tells);
       decided = λ s n b d can.
@@ -301,7 +302,7 @@ probe_candidate-returns g t c =
       searches = search_grown c.args.depth c.requires.search c.in-Ok.ensures.searches c.boxed_response.ensures.grows;
       found = found_still c.in_ok-response-2.response.value c.in-Ok.certainty p.table r.runs.goes.extends c.terms_are_formed.ensures m.grows.extends c.requires.values m.certainty (not_kept (sym c.keeps_constraints.ensures ∙ c.if-keeps_constraints.false)) (rw back at m.says) m.holds (record { no_hidden = m.nothing.0; no_goals = m.nothing.1 });
       told = λ s tells.
-          let h = g.H.GoalHandler.handler s.base c.args.handler.now in
+          let h = ruling_since (λ ts. g.H.GoalHandler.handler ts c.args.handler.now) s in
           run_replies c.start_snapshot.new.self c.args.table.now c.run_candidate.new.table h c.args.table.now.mode c.args.candidate.now c.args.goal (trees_of c.args.cx.now.nodes c.args.values.now) _ (r.told s tells) o.mode o.entries c.terms_are_formed.ensures r.runs.goes.table r.labels
           (says_before c.in-Ok.certainty (content_of c.args.cx.now.nodes c.start_snapshot.new.self.entries) (content_of c.run_candidate.new.cx.nodes c.run_candidate.new.table.entries) (trees_of c.args.cx.now.nodes c.args.values.now) (verdict_at c.boxed_response.new.cx.nodes c.in_ok-response-2.response.value) (ap is_yes m.certainty) unsure (rw o.entries (plain_of c.in-Ok.certainty _ _ _ (rw (back, still, trees) at m.says) unsure)));
       refuted = search rules;
@@ -329,7 +330,7 @@ probe_candidate-returns-then-keeps_constraints g t c =
           found_in c.in_ok-response.field-0.value c.in-Ok.certainty went c.terms_are_formed.ensures m.grows.extends (rw o.entries at r.labels) c.requires.values m.certainty m.says m.holds (record { no_hidden = m.nothing.0; no_goals = m.nothing.1 })
           (λ y s. held_more covers (rw o.mode at (r.proved s (ap Ok y))));
       told = λ s tells.
-          let h = g.H.GoalHandler.handler s.base c.args.handler.now in
+          let h = ruling_since (λ ts. g.H.GoalHandler.handler ts c.args.handler.now) s in
           run_replies c.start_snapshot.new.self c.args.table.now c.run_candidate.new.table h c.args.table.now.mode c.args.candidate.now c.args.goal (trees_of c.args.cx.now.nodes c.args.values.now) _ (r.told s tells) o.mode o.entries c.terms_are_formed.ensures r.runs.goes.table r.labels
           (says_found c.in-Ok.certainty (content_of c.args.cx.now.nodes c.start_snapshot.new.self.entries) (content_of c.run_candidate.new.cx.nodes c.run_candidate.new.table.entries) (trees_of c.args.cx.now.nodes c.args.values.now) (verdict_at c.boxed_response-response.new.cx.nodes c.in_ok-response.field-0.value) (ap is_yes m.certainty) (rw trees at m.says));
       refuted = search rules;
@@ -337,8 +338,8 @@ probe_candidate-returns-then-keeps_constraints g t c =
           let x = r.decided s n b (record { fares = rw (o.mode, o.entries) d.fares; sure = d.sure }) can in
           record { answer = (x.answer.0, m.certainty ∙ x.answer.1); search = x.search };
       facts = λ s tells q plain ts up silent.
-          let h = g.H.GoalHandler.handler s.base c.args.handler.now in
-          over_after h c.start_snapshot.new.self c.args.table.now c.run_candidate.new.table c.boxed_response-response.new.cx.nodes c.args.candidate.now c.args.goal c.args.values.now c.in_ok-response.field-0.value (r.told s tells) o.entries r.runs.goes.continues c.terms_are_formed.ensures r.runs.goes.table q plain
+          let ruled = ruling_since (λ ts. g.H.GoalHandler.handler ts c.args.handler.now) s in
+          over_after ruled c.start_snapshot.new.self c.args.table.now c.run_candidate.new.table c.boxed_response-response.new.cx.nodes c.args.candidate.now c.args.goal c.args.values.now c.in_ok-response.field-0.value (r.told s tells) o.entries r.runs.goes.continues c.terms_are_formed.ensures r.runs.goes.table q plain
           (rw trees at (subst (λ z. IsResponseOf (told_in z (content_of c.run_candidate.new.cx.nodes c.run_candidate.new.table.entries)) (trees_of c.run_candidate.new.cx.nodes c.args.values.now) (response_at c.boxed_response-response.new.cx.nodes c.in_ok-response.field-0.value)) (sym m.certainty ∙ silent.0) m.says)) m.holds ts up silent;
     }
 
@@ -394,7 +395,7 @@ try_candidate-returns g t c =
           } in
           has_run (meaning h s.variances) (mode_of mode) A here seen (map (tree_at z) vs) (tree_at c.args.cx.now.nodes c.args.goal.predicate.node) (term_table c.terms_are_formed-2.ensures e.runs.goes.table) run;
       told = λ s tells.
-          let h = g.H.GoalHandler.handler s.base c.args.handler.now in
+          let h = ruling_since (λ ts. g.H.GoalHandler.handler ts c.args.handler.now) s in
           let since = Since-later (grown (ran there) n.grows) s in
           ran_to {t = c.args.table.now} {u = c.equate.new.table} {v = c.record_constraints.new.table} h mode c.args.goal x vs gs (rw c.deref-2.ensures.value v.equated) (rw (c.deref-3.ensures.value) at k.added) constraints c.requires.candidate.goals v.runs.goes.extends k.runs.goes.extends there.goes.extends n.grows.extends k.runs.goes.table within (rw c.deref-4.ensures.value at n.added.goals) c.try_evaluate_goals.new.cx.nodes c.try_evaluate_goals.new.table (rw upto.goes.mode at (c.in_ok-certainty.ensures.told since (tell_grown h c.args.depth c.requires.search (grown (ran c.in_ok-values.ensures.runs) (grown (ran c.in_ok-record_constraints.ensures.runs) c.in_ok-goals.ensures.grows)) tells)));
       refuted = search rules;
@@ -427,10 +428,10 @@ try_candidate-returns-in_err-certainty g t c =
       proved = search rules;
       told = search rules;
       refuted = λ s tells no.
-          let h = g.H.GoalHandler.handler s.base c.args.handler.now in
+          let h = ruling_since (λ ts. g.H.GoalHandler.handler ts c.args.handler.now) s in
           let since = Since-later (grown (ran there) n.grows) s in
           let refused : c.try_evaluate_goals.result ≡ Err EvalError.NoSolution = search rules in
-          ran_refused {t = c.args.table.now} {u = c.equate.new.table} {v = c.record_constraints.new.table} h mode c.args.goal x vs gs (rw c.deref-2.ensures.value v.equated) (rw (c.deref-3.ensures.value) at k.added) constraints c.requires.candidate.goals v.runs.goes.extends k.runs.goes.extends there.goes.extends n.grows.extends k.runs.goes.table within (rw c.deref-4.ensures.value at n.added.goals) (rw upto.goes.mode at (stopped_refused c.record_constraints.new.table _ c.goal_kind-kind.result (kind_asked c.args.cx.now.nodes c.args.goal c.goal_kind-kind.result (meaning h s.variances) (c.goal_kind-kind.ensures.kind s.base s.variances) c.requires.kind) (c.try_evaluate_goals.ensures.refuted since (tell_grown h c.args.depth c.requires.search (grown (ran c.in_ok-values.ensures.runs) (grown (ran c.in_ok-record_constraints.ensures.runs) c.in_ok-goals.ensures.grows)) tells) refused)));
+          ran_refused {t = c.args.table.now} {u = c.equate.new.table} {v = c.record_constraints.new.table} h mode c.args.goal x vs gs (rw c.deref-2.ensures.value v.equated) (rw (c.deref-3.ensures.value) at k.added) constraints c.requires.candidate.goals v.runs.goes.extends k.runs.goes.extends there.goes.extends n.grows.extends k.runs.goes.table within (rw c.deref-4.ensures.value at n.added.goals) (rw upto.goes.mode at (stopped_refused c.record_constraints.new.table _ c.goal_kind-kind.result (kind_asked c.args.cx.now.nodes c.args.goal c.goal_kind-kind.result (meaning (g.H.GoalHandler.handler s.base c.args.handler.now) s.variances) (c.goal_kind-kind.ensures.kind s.base s.variances) c.requires.kind) (c.try_evaluate_goals.ensures.refuted since (tell_grown h c.args.depth c.requires.search (grown (ran c.in_ok-values.ensures.runs) (grown (ran c.in_ok-record_constraints.ensures.runs) c.in_ok-goals.ensures.grows)) tells) refused)));
       decided = λ s i b d can.
           let h = g.H.GoalHandler.handler s.base c.args.handler.now in
           let since = Since-later (grown (ran there) n.grows) s in

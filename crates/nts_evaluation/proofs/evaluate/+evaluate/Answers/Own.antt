@@ -1,4 +1,5 @@
 -- Goals of the engine's own kinds.
+use Rattle.nts_meaning.specs.Meant.{ruling_since}
 use Rattle.std.proofs.Common.{inl, inr, ⊎_elim, arith, rules, refl, ap, subst}
 use Rattle.nts_model.specs.Derivations.Handlers.{meaning}
 use Rattle.nts_model.specs.Derivations.Rules.{statement_of}
@@ -84,11 +85,11 @@ compute_goal-returns-in-Own g t c =
                 (g.met.H.GoalHandler.lawful s.base c.args.handler.now s.formed s.is_ready) (rw o.goes.mode at (f.sure y (Since-later o.grows s)));
           }) r.found;
       told = λ s tells.
-          let h = g.H.GoalHandler.handler s.base c.args.handler.now in
+          let h = ruling_since (λ ts. g.H.GoalHandler.handler ts c.args.handler.now) s in
           IfOk-map c.evaluate_own-response.result (λ x f. own_says c.requires.posed opened o.grows.extends posed c.in-Own.own says c.terms_are_formed.ensures h c.args.table.now.mode c.args.values.now c.evaluate_own-response.new.cx.nodes x.value trees (rw o.goes.mode at f))
           (r.told (Since-later o.grows s) (tell_grown h c.args.depth c.requires.search o.grows tells));
       refuted = λ s tells n.
-          let h = g.H.GoalHandler.handler s.base c.args.handler.now in
+          let h = ruling_since (λ ts. g.H.GoalHandler.handler ts c.args.handler.now) s in
           own_none c.requires.posed opened o.grows.extends posed c.in-Own.own says c.terms_are_formed.ensures h c.args.table.now.mode c.args.values.now (rw o.goes.mode at (r.refuted (Since-later o.grows s) (tell_grown h c.args.depth c.requires.search o.grows tells) n));
       decided = λ s n b d can.
           ⊎_elim
@@ -253,13 +254,13 @@ evaluate_own-returns-in-Way g t c =
           )) f)
           (rw c.deref.ensures at r.found);
       told = λ s tells.
-          let h = g.H.GoalHandler.handler s.base c.args.handler.now in
+          let h = ruling_since (λ ts. g.H.GoalHandler.handler ts c.args.handler.now) s in
           let same = g.met.H.GoalHandler.handler_kept s.base c.judge.new.cx.nodes c.args.handler.now s.is_ready (Extends-trans s.extends up) in
           IfOk-map c.probe_candidate-response.result
           (λ y f. inr (inl (x, judged_before (λ z e p. HasOwnWay z e p x) same up holds known.0, rw (here, trees, environment, predicate) at f)))
           (rw c.deref.ensures at (r.told (Since-later j.grows s) (tell_grown h c.args.depth c.requires.search j.grows tells)));
       refuted = λ s tells n.
-          let h = g.H.GoalHandler.handler s.base c.args.handler.now in
+          let h = ruling_since (λ ts. g.H.GoalHandler.handler ts c.args.handler.now) s in
           let same = g.met.H.GoalHandler.handler_kept s.base c.judge.new.cx.nodes c.args.handler.now s.is_ready (Extends-trans s.extends up) in
           inr (x, judged_before (λ z e p. HasOwnWay z e p x) same up holds known.0, rw (here, c.deref.ensures) at (r.refuted (Since-later j.grows s) (tell_grown h c.args.depth c.requires.search j.grows tells) n));
       decided = λ s n b d can.

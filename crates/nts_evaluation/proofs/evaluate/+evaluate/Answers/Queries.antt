@@ -12,7 +12,7 @@ use Rattle.nts_candidates.proofs.Results.{IfOk-map, OnOk-map}
 use Rattle.nts_canonical.specs.Building.{kinds_of}
 use Rattle.nts_canonical.specs.Forms.{form_of}
 use Rattle.nts_response.specs.Forms.{response_at}
-use Rattle.nts_meaning.specs.Meant.{Since, meaning_since, IsProvedNow}
+use Rattle.nts_meaning.specs.Meant.{ruling_since, Since, meaning_since, IsProvedNow}
 use Rattle.nts_meaning.proofs.AskedGoals.{ok_both, ok_two, evaluates, asked_stays, asked_labels, response_refused, ok_three}
 use Rattle.nts_meaning.proofs.Evaluating.{Runs-trans, Runs-extends, Since-later}
 use Rattle.nts_trying.proofs.Probed.{found_fits, found_derived}
@@ -63,11 +63,11 @@ evaluate_goal-returns g t c =
           (rw q.query.mode at (k.proved (Since-later q.grows s) (sym is ∙ y))))))
           (rw c.deref-2.ensures at e.certainty) (rw (c.deref.ensures.value, c.deref-2.ensures) at e.applied);
       told = λ s tells.
-          let told = k.told (Since-later q.grows s) (tell_grown (g.H.GoalHandler.handler s.base c.args.handler.now) (c.args.depth + 1) c.requires.search q.grows tells) in
+          let told = k.told (Since-later q.grows s) (tell_grown (ruling_since (λ ts. g.H.GoalHandler.handler ts c.args.handler.now) s) (c.args.depth + 1) c.requires.search q.grows tells) in
           ok_three c.apply_answer-evaluated.result
-          (λ x sure same applied. evaluates c.requires.posed q.query q.grows.extends k.grows.extends c.apply_answer-evaluated.new.table c.in_ok-answer.answer.value applied (g.H.GoalHandler.handler s.base c.args.handler.now) c.args.table.now.mode k.fits (rw q.query.mode at told) x.certainty sure x.has_changed same)
+          (λ x sure same applied. evaluates c.requires.posed q.query q.grows.extends k.grows.extends c.apply_answer-evaluated.new.table c.in_ok-answer.answer.value applied (ruling_since (λ ts. g.H.GoalHandler.handler ts c.args.handler.now) s) c.args.table.now.mode k.fits (rw q.query.mode at told) x.certainty sure x.has_changed same)
           (rw c.deref-2.ensures at e.certainty) (rw c.deref-2.ensures at e.changed) (rw (c.deref.ensures.value, c.deref-2.ensures) at e.applied);
-      refuted = λ s tells n. inl (response_refused c.requires.posed q.query q.grows.extends k.grows.extends c.in_ok-answer.answer.value k.fits (rw q.query.mode at (k.told (Since-later q.grows s) (tell_grown (g.H.GoalHandler.handler s.base c.args.handler.now) (c.args.depth + 1) c.requires.search q.grows tells))) (rw (c.deref.ensures.value, c.deref-2.ensures) at (c.apply_answer-evaluated.ensures.no n)));
+      refuted = λ s tells n. inl (response_refused c.requires.posed q.query q.grows.extends k.grows.extends c.in_ok-answer.answer.value k.fits (rw q.query.mode at (k.told (Since-later q.grows s) (tell_grown (ruling_since (λ ts. g.H.GoalHandler.handler ts c.args.handler.now) s) (c.args.depth + 1) c.requires.search q.grows tells))) (rw (c.deref.ensures.value, c.deref-2.ensures) at (c.apply_answer-evaluated.ensures.no n)));
       decided = λ s n b d can.
           let x = k.decided (Since-later q.grows s) n b (as_query c.args.goal c.in_ok-originals.input.value n b q.query d) (decides_grown c.requires.search q.grows can) in
           let yes = x.answer in
@@ -79,7 +79,8 @@ evaluate_goal-returns g t c =
           (λ no. own_granted _ _ _ now.sound proper.solvable (own.own _ (originals_long _ c.args.goal c.in_ok-originals.input.value q.query)) (rw (c.deref.ensures.value, c.deref-2.ensures) at (c.apply_answer-evaluated.ensures.no no))) x.search;
       facts = λ s tells f never empty can.
           let h = g.H.GoalHandler.handler s.base c.args.handler.now in
-          let later = tell_grown h (c.args.depth + 1) c.requires.search q.grows tells in
+          let ruled = ruling_since (λ ts. g.H.GoalHandler.handler ts c.args.handler.now) s in
+          let later = tell_grown ruled (c.args.depth + 1) c.requires.search q.grows tells in
           let x = k.facts (Since-later q.grows s) later (fact_query c.args.goal c.in_ok-originals.input.value q.query f) (nothing_stands _ c.args.graph.now c.in_ok-originals.input.value empty) (decides_grown c.requires.search q.grows can) in
           let yes = x.answer in
           applied_fact c.apply_answer-evaluated.result (IfOk-map c.apply_answer-evaluated.result (λ y e. e ∙ yes.1) (rw c.deref-2.ensures at e.certainty))
@@ -172,8 +173,8 @@ evaluate_round-returns g t c =
           (found_derived a b z table asked ks input c.in_ok-table.values.items r.value found over.input.kinds refl over.environment over.predicate x.first x.environment x.predicate x.posed.holds x.args x.values h (mode_of input.typing_mode) A y there)))
           (λ no. tt)) off.2 c.end_round.ensures.answer;
       told = λ s tells told.
-          let h = g.H.GoalHandler.handler s.base c.args.handler.now in
-          let before = (tell_pushed c.push_query.new.graph (g.H.GoalHandler.handler s.base c.args.handler.now) (c.args.depth + 1) c.args.asked.value.input c.args.step c.args.asked.value.provisional c.requires.search k.grows c.requires.input c.requires.provisional c.in_ok-push_query.ensures.pushed tells told) in
+          let h = ruling_since (λ ts. g.H.GoalHandler.handler ts c.args.handler.now) s in
+          let before = (tell_pushed c.push_query.new.graph (ruling_since (λ ts. g.H.GoalHandler.handler ts c.args.handler.now) s) (c.args.depth + 1) c.args.asked.value.input c.args.step c.args.asked.value.provisional c.requires.search k.grows c.requires.input c.requires.provisional c.in_ok-push_query.ensures.pushed tells told) in
           IfOk-map c.end_round.result
           (λ w ends. round_ends (IsAnswerTold h mode c.compute_goal-response.new.cx.nodes f) c.compute_goal-response.result w.value.answer ends
           (λ r is. rw (x.first, x.environment, x.predicate, x.values, x.mode) at ((rw (c.deref_mut.ensures.value, c.deref-2.ensures.value, is) at (c.compute_goal-response.ensures.told (Since-later k.grows s) before)) (kinds_of c.args.asked.value.input)))
@@ -195,7 +196,8 @@ evaluate_round-returns g t c =
           (IfOk-map c.compute_goal-response.result (λ r f. own_there _ _ ks (response_at z r.value) (its_kinds h law mode d.0 j a b input table asked c.in_ok-table.values.items over x formed d.2) (x.values) (f.says)) (rw (c.deref_mut.ensures.value, c.deref-2.ensures.value) at c.compute_goal-response.ensures.found)) y;
       facts = λ s tells told f can.
           let h = g.H.GoalHandler.handler s.base c.args.handler.now in
-          let before = (tell_pushed c.push_query.new.graph (g.H.GoalHandler.handler s.base c.args.handler.now) (c.args.depth + 1) c.args.asked.value.input c.args.step c.args.asked.value.provisional c.requires.search k.grows c.requires.input c.requires.provisional c.in_ok-push_query.ensures.pushed tells told) in
+          let ruled = ruling_since (λ ts. g.H.GoalHandler.handler ts c.args.handler.now) s in
+          let before = (tell_pushed c.push_query.new.graph ruled (c.args.depth + 1) c.args.asked.value.input c.args.step c.args.asked.value.provisional c.requires.search k.grows c.requires.input c.requires.provisional c.in_ok-push_query.ensures.pushed tells told) in
           let rest = c.push_query.ensures.rest in
           let up = decides_grown c.requires.search k.grows can in
           let ready : CanDecide h c.query_table.new.cx c.push_query.new.graph 0 c.args.depth = record { deep = omega arith; above = nothing_above h b c.push_query.new.graph; unmarked = rest.has_overflowed ∙ up.unmarked; steps = up.steps; rounds = up.rounds; tight = up.tight; fair = up.fair } in
@@ -237,7 +239,7 @@ evaluate_rounds-loop-round-init g t c =
       counted = λ some. absurd (omega (arith, some));
       input = first.input;
       fits = first_fits c.first_round.new.cx.nodes c.args.input.value c.in_ok-asked.asked.value first;
-      told = λ s tells. first_told (g.H.GoalHandler.handler s.base c.args.handler.now) (mode_of c.args.input.value.typing_mode) c.first_round.new.cx.nodes (form_of c.args.cx.now.nodes c.args.input.value) c.args.input.value c.in_ok-asked.asked.value refl first;
+      told = λ s tells. first_told (ruling_since (λ ts. g.H.GoalHandler.handler ts c.args.handler.now) s) (mode_of c.args.input.value.typing_mode) c.first_round.new.cx.nodes (form_of c.args.cx.now.nodes c.args.input.value) c.args.input.value c.in_ok-asked.asked.value refl first;
       first = λ e. same_search _;
       decided = λ s n b d can. refl;
       facts = λ s tells f can. refl;
@@ -261,7 +263,7 @@ evaluate_rounds-loop-round-preserved g t c =
       input = ap (λ (y : Round). y.input) next ∙ e.entry.0 ∙ i.input;
       fits = subst (λ (y : Round). IsHeadAnswer c.evaluate_round.new.cx.nodes (kinds_of c.args.input.value) y.provisional) (sym next) fits;
       told = λ s tells.
-          let h = g.H.GoalHandler.handler s.base c.args.handler.now in
+          let h = ruling_since (λ ts. g.H.GoalHandler.handler ts c.args.handler.now) s in
           let mode = mode_of c.args.input.value.typing_mode in
           let later = heads_tell_later h (c.args.depth + 1) c.requires.search i.grows.extends noted tells in
           let before = round_told h c.loop-round.cx.nodes c.args.input.value c.loop-round.asked.value.input (form_of c.args.cx.now.nodes c.args.input.value) (form_of c.loop-round.cx.nodes c.loop-round.asked.value.input) c.loop-round.asked.value.provisional (sym i.input) (sym form) (i.told s tells) in
@@ -275,10 +277,11 @@ evaluate_rounds-loop-round-preserved g t c =
           absurd (let last = c.round_is_last.ensures.1 (inl (rw c.deref.ensures ended.0)) in let more = c.if-round_is_last.false in cc (last, more));
       facts = λ s tells f can.
           let h = g.H.GoalHandler.handler s.base c.args.handler.now in
+          let ruled = ruling_since (λ ts. g.H.GoalHandler.handler ts c.args.handler.now) s in
           let first = i.first (i.facts s tells f can) in
           let same = then_same first (only_counted c.note_round.ensures) in
-          let later = heads_tell_later h (c.args.depth + 1) c.requires.search i.grows.extends noted tells in
-          let before = round_told h c.loop-round.cx.nodes c.args.input.value c.loop-round.asked.value.input (form_of c.args.cx.now.nodes c.args.input.value) (form_of c.loop-round.cx.nodes c.loop-round.asked.value.input) c.loop-round.asked.value.provisional (sym i.input) (sym form) (i.told s tells) in
+          let later = heads_tell_later ruled (c.args.depth + 1) c.requires.search i.grows.extends noted tells in
+          let before = round_told ruled c.loop-round.cx.nodes c.args.input.value c.loop-round.asked.value.input (form_of c.args.cx.now.nodes c.args.input.value) (form_of c.loop-round.cx.nodes c.loop-round.asked.value.input) c.loop-round.asked.value.provisional (sym i.input) (sym form) (i.told s tells) in
           let ended = e.facts (Since-later i.grows s) later before (round_fact h c.args.cx.now.nodes c.loop-round.cx.nodes c.args.input.value c.loop-round.asked.value.input i.input form f) (decides_later 0 (c.args.depth + 1) c.requires.search i.grows same (omega arith) can.deep can) in
           absurd (let last = c.round_is_last.ensures.1 (inl (rw c.deref.ensures ended.0)) in let more = c.if-round_is_last.false in cc (last, more));
     }
@@ -308,13 +311,13 @@ evaluate_rounds-returns-then-round_is_last g t c =
           round_closes m (mode_of c.args.input.value.typing_mode) z c.evaluate_round.new.graph x c.args.input.value c.args.step (form_of c.args.cx.now.nodes c.args.input.value) r (e.entry.0 ∙ i.input) e.entry.1
           (form_later c.args.cx.now.nodes z c.args.input.value (Extends-trans i.grows.extends e.grows.extends) c.requires.input) last sure derived);
       told = λ s tells.
-          let h = g.H.GoalHandler.handler s.base c.args.handler.now in
+          let h = ruling_since (λ ts. g.H.GoalHandler.handler ts c.args.handler.now) s in
           let later = heads_tell_later h (c.args.depth + 1) c.requires.search i.grows.extends noted tells in
           let before = round_told h c.loop-round.cx.nodes c.args.input.value c.loop-round.asked.value.input (form_of c.args.cx.now.nodes c.args.input.value) (form_of c.loop-round.cx.nodes c.loop-round.asked.value.input) c.loop-round.asked.value.provisional (sym i.input) (sym form) (i.told s tells) in
           let told = round_told h z c.loop-round.asked.value.input c.args.input.value (form_of c.loop-round.cx.nodes c.loop-round.asked.value.input) (form_of c.args.cx.now.nodes c.args.input.value) c.in_ok-ended.ended.value.answer i.input form (e.told (Since-later i.grows s) later before) in
           last_told c.in_ok-ended.ended.value.answer c.last_answer.result c.last_answer.ensures.some c.last_answer.ensures.none h mode z (form_of c.args.cx.now.nodes c.args.input.value) told;
       refuted = λ s tells no.
-          let h = g.H.GoalHandler.handler s.base c.args.handler.now in
+          let h = ruling_since (λ ts. g.H.GoalHandler.handler ts c.args.handler.now) s in
           let later = heads_tell_later h (c.args.depth + 1) c.requires.search i.grows.extends noted tells in
           let before = round_told h c.loop-round.cx.nodes c.args.input.value c.loop-round.asked.value.input (form_of c.args.cx.now.nodes c.args.input.value) (form_of c.loop-round.cx.nodes c.loop-round.asked.value.input) c.loop-round.asked.value.provisional (sym i.input) (sym form) (i.told s tells) in
           let told = round_told h z c.loop-round.asked.value.input c.args.input.value (form_of c.loop-round.cx.nodes c.loop-round.asked.value.input) (form_of c.args.cx.now.nodes c.args.input.value) c.in_ok-ended.ended.value.answer i.input form (e.told (Since-later i.grows s) later before) in
@@ -327,10 +330,11 @@ evaluate_rounds-returns-then-round_is_last g t c =
           (subst (λ w. IsRoundDecided b z (kinds_of w) c.in_ok-ended.ended.value.answer) i.input ended.1) (then_same same ended.2);
       facts = λ s tells f none can.
           let h = g.H.GoalHandler.handler s.base c.args.handler.now in
+          let ruled = ruling_since (λ ts. g.H.GoalHandler.handler ts c.args.handler.now) s in
           let first = i.first (i.facts s tells f can) in
           let same = then_same first (only_counted c.note_round.ensures) in
-          let later = heads_tell_later h (c.args.depth + 1) c.requires.search i.grows.extends noted tells in
-          let before = round_told h c.loop-round.cx.nodes c.args.input.value c.loop-round.asked.value.input (form_of c.args.cx.now.nodes c.args.input.value) (form_of c.loop-round.cx.nodes c.loop-round.asked.value.input) c.loop-round.asked.value.provisional (sym i.input) (sym form) (i.told s tells) in
+          let later = heads_tell_later ruled (c.args.depth + 1) c.requires.search i.grows.extends noted tells in
+          let before = round_told ruled c.loop-round.cx.nodes c.args.input.value c.loop-round.asked.value.input (form_of c.args.cx.now.nodes c.args.input.value) (form_of c.loop-round.cx.nodes c.loop-round.asked.value.input) c.loop-round.asked.value.provisional (sym i.input) (sym form) (i.told s tells) in
           let ended = e.facts (Since-later i.grows s) later before (round_fact h c.args.cx.now.nodes c.loop-round.cx.nodes c.args.input.value c.loop-round.asked.value.input i.input form f) (decides_later 0 (c.args.depth + 1) c.requires.search i.grows same (omega arith) can.deep can) in
           last_fact c.in_ok-ended.ended.value.answer c.last_answer.result c.last_answer.ensures.some ended.1 (then_same same ended.2);
     }

@@ -11,7 +11,7 @@ use Rattle.nts_terms.specs.declared.handles.Goal.{Goal}
 use Rattle.nts_terms.proofs.Moved.{KeepsRest-refl}
 use Rattle.nts_unify.specs.Lawful.{content_of-extended}
 use Rattle.nts_candidates.proofs.Results.{IfOk-map, OnOk-map}
-use Rattle.nts_meaning.specs.Meant.{IsNestedSince}
+use Rattle.nts_meaning.specs.Meant.{ruling_since, IsNestedSince}
 use Rattle.nts_trying.specs.Stepping.{AreLeft, AreSettled, bound_of, none_left}
 use Rattle.nts_theory.specs.Telling.Reaches.{asks_nothing}
 use Rattle.nts_meaning.proofs.AskedGoals.{evaluates_at}
@@ -135,8 +135,8 @@ evaluate_added-returns-in-Some-next g t c =
           rw (all.extends.kept c.args.goal.param_env.node p.holds.env.within, all.extends.kept c.args.goal.predicate.node p.holds.predicate.within)
           (unread _ _ _ _ all env predicate p.knows.env p.knows.predicate (f y))) (e.proved (Since-later k.grows s));
       marks = λ s e. (let less : c.in-Some-next.below + 1 ≤ bound_of c.args.depth = omega (arith, c.in-Some-next.ensures.within) in absurd (omega (arith, e, less)));
-      told = λ s tells. IfOk-map c.evaluate_goal.result (λ x f. inl (evaluates_at same (rw (k.env, k.predicate) at f))) (c.evaluate_goal.ensures.told (Since-later k.grows s) (tell_grown (g.H.GoalHandler.handler s.base c.args.handler.now) (bound_of c.args.depth) c.requires.search k.grows tells));
-      refuted = λ s tells n. goal_cut_earlier k.grows.extends c.requires.search.stack c.requires.search.heads (rw (same, k.env, k.predicate) at (c.evaluate_goal.ensures.refuted (Since-later k.grows s) (tell_grown (g.H.GoalHandler.handler s.base c.args.handler.now) (bound_of c.args.depth) c.requires.search k.grows tells) n));
+      told = λ s tells. IfOk-map c.evaluate_goal.result (λ x f. inl (evaluates_at same (rw (k.env, k.predicate) at f))) (c.evaluate_goal.ensures.told (Since-later k.grows s) (tell_grown (ruling_since (λ ts. g.H.GoalHandler.handler ts c.args.handler.now) s) (bound_of c.args.depth) c.requires.search k.grows tells));
+      refuted = λ s tells n. goal_cut_earlier k.grows.extends c.requires.search.stack c.requires.search.heads (rw (same, k.env, k.predicate) at (c.evaluate_goal.ensures.refuted (Since-later k.grows s) (tell_grown (ruling_since (λ ts. g.H.GoalHandler.handler ts c.args.handler.now) s) (bound_of c.args.depth) c.requires.search k.grows tells) n));
       decided = λ s n b d can.
           let depth : c.in-Some-next.below + 1 ≡ bound_of c.args.depth = c.in-Some-next.ensures.whole can.unmarked in
           c.evaluate_goal.ensures.decided (Since-later k.grows s) n b (d.0, d.1, rw (k.env, k.predicate) d.2) (decides_later n (c.in-Some-next.below + 1) c.requires.search k.grows (same_search _) (omega arith) (omega (arith, depth, can.deep)) can);
@@ -190,7 +190,7 @@ evaluate_step-loop-added-preserved g t c =
           subst (AreSettled (IsNestedSince (λ ts. g.H.GoalHandler.handler ts c.args.handler.now) s c.args.table.now.mode (goal_kind_of c.args.kind) (assumed_in c.evaluate_added.new.cx.nodes c.evaluate_added.new.graph) c.evaluate_added.new.cx.nodes c.evaluate_added.new.table) (take (c.loop-added.added-index + 1) gs)) (sym n.left)
           (settled_proved (assumed_in c.loop-added.cx.nodes c.loop-added.graph) (assumed_in c.evaluate_added.new.cx.nodes c.evaluate_added.new.graph) (λ ts. g.H.GoalHandler.handler ts c.args.handler.now) s c.args.table.now.mode (goal_kind_of c.args.kind) gs c.loop-added.step.left.items c.loop-added.added-index d c.in_ok-answer.answer.certainty at c.requires.posed i.runs.goes.extends e.runs.goes covers (rw (i.runs.goes.mode, c.step_kind_for_source-kind.ensures) at (e.proved (Since-later (ran i.runs) s))) (i.proved s));
       sure = λ y. n.left ∙ sure_more c.loop-added.step.certainty c.in_ok-answer.answer.certainty c.loop-added.step.left.items (get_or gs c.loop-added.added-index d) i.sure (sym n.certainty ∙ y);
-      told = λ s tells. reach_more c.loop-added.table (g.H.GoalHandler.handler s.base c.args.handler.now) c.args.table.now.mode gs (get_or gs c.loop-added.added-index d) c.requires.posed there i.runs.goes.extends (i.told s tells) c.evaluate_added.new.table i.runs.goes.table e.runs.goes.extends (rw i.runs.goes.mode at (e.told (Since-later (ran i.runs) s) (heads_tell_later (g.H.GoalHandler.handler s.base c.args.handler.now) (bound_of c.args.depth) c.requires.search i.runs.goes.extends i.searches tells)));
+      told = λ s tells. reach_more c.loop-added.table (ruling_since (λ ts. g.H.GoalHandler.handler ts c.args.handler.now) s) c.args.table.now.mode gs (get_or gs c.loop-added.added-index d) c.requires.posed there i.runs.goes.extends (i.told s tells) c.evaluate_added.new.table i.runs.goes.table e.runs.goes.extends (rw i.runs.goes.mode at (e.told (Since-later (ran i.runs) s) (heads_tell_later (ruling_since (λ ts. g.H.GoalHandler.handler ts c.args.handler.now) s) (bound_of c.args.depth) c.requires.search i.runs.goes.extends i.searches tells)));
       decided = λ s m b here can.
           let before = i.decided s m b here can in
           let next = next_goal (g.H.GoalHandler.handler s.base c.args.handler.now) m gs b c.loop-added.added-index d i.runs.goes c.requires.posed here at before.rest in
@@ -234,9 +234,9 @@ evaluate_step-returns-in_err-answer g t c =
       labels = IfOk-from_err c.from_residual.result _ fails;
       proved = λ s. IfOk-from_err c.from_residual.result _ fails;
       sure = IfOk-from_err c.from_residual.result _ fails;
-      told = λ s tells. reach_still c.args.cx.now.nodes c.args.table.now c.loop-added.table (g.H.GoalHandler.handler s.base c.args.handler.now) c.args.table.now.mode c.args.goals.now c.evaluate_added.ensures.runs.goes.extends i.runs.goes.table (after_error c.evaluate_added.result c.evaluate_added.ensures.err (search rules)) (i.told s tells);
+      told = λ s tells. reach_still c.args.cx.now.nodes c.args.table.now c.loop-added.table (ruling_since (λ ts. g.H.GoalHandler.handler ts c.args.handler.now) s) c.args.table.now.mode c.args.goals.now c.evaluate_added.ensures.runs.goes.extends i.runs.goes.table (after_error c.evaluate_added.result c.evaluate_added.ensures.err (search rules)) (i.told s tells);
       refuted = λ s tells n.
-          let h = g.H.GoalHandler.handler s.base c.args.handler.now in
+          let h = ruling_since (λ ts. g.H.GoalHandler.handler ts c.args.handler.now) s in
           let refused : c.evaluate_added.result ≡ Err EvalError.NoSolution = search rules in
           let later = heads_tell_later h (bound_of c.args.depth) c.requires.search i.runs.goes.extends i.searches tells in
           stop_more c.loop-added.table h c.args.table.now.mode c.args.goals.now _ c.requires.posed (among_get c.args.goals.now c.loop-added.added-index _ c.loop-added-test.true) i.runs.goes.extends (i.told s tells) i.runs.goes.table c.args.kind _ c.step_kind_for_source-kind.ensures c.args.graph.now
@@ -262,7 +262,7 @@ evaluate_step-returns-in_err-note g t c =
       told = λ s tells.
           let i = c.loop-added.invariant in
           let e = c.in_ok-answer.ensures in
-          reach_more c.loop-added.table (g.H.GoalHandler.handler s.base c.args.handler.now) c.args.table.now.mode c.args.goals.now _ c.requires.posed (among_get c.args.goals.now c.loop-added.added-index _ c.loop-added-test.true) i.runs.goes.extends (i.told s tells) c.evaluate_added.new.table i.runs.goes.table e.runs.goes.extends (rw i.runs.goes.mode at (e.told (Since-later (ran i.runs) s) (heads_tell_later (g.H.GoalHandler.handler s.base c.args.handler.now) (bound_of c.args.depth) c.requires.search i.runs.goes.extends i.searches tells)));
+          reach_more c.loop-added.table (ruling_since (λ ts. g.H.GoalHandler.handler ts c.args.handler.now) s) c.args.table.now.mode c.args.goals.now _ c.requires.posed (among_get c.args.goals.now c.loop-added.added-index _ c.loop-added-test.true) i.runs.goes.extends (i.told s tells) c.evaluate_added.new.table i.runs.goes.table e.runs.goes.extends (rw i.runs.goes.mode at (e.told (Since-later (ran i.runs) s) (heads_tell_later (ruling_since (λ ts. g.H.GoalHandler.handler ts c.args.handler.now) s) (bound_of c.args.depth) c.requires.search i.runs.goes.extends i.searches tells)));
       refuted = search rules;
       decided = λ s m b here can. decides_fault c.from_residual-in_err-note.result fails (search rules);
     }
@@ -321,7 +321,7 @@ try_evaluate_goals-loop-step-preserved g t c =
       told = λ s tells.
           let i = c.loop-step.invariant in
           let e = c.in_ok-stepped.ensures in
-          reach_step c.loop-step.table (g.H.GoalHandler.handler s.base c.args.handler.now) c.args.table.now.mode c.args.goals.now.items c.loop-step.goals.items c.requires.posed i.left i.runs.goes.extends (i.told s tells) c.evaluate_step.new.cx.nodes c.evaluate_step.new.table (rw (i.runs.goes.mode, c.deref.ensures.value) at (e.told (Since-later (ran i.runs) s) (heads_tell_later (g.H.GoalHandler.handler s.base c.args.handler.now) (bound_of c.args.depth) c.requires.search i.runs.goes.extends i.searches tells)));
+          reach_step c.loop-step.table (ruling_since (λ ts. g.H.GoalHandler.handler ts c.args.handler.now) s) c.args.table.now.mode c.args.goals.now.items c.loop-step.goals.items c.requires.posed i.left i.runs.goes.extends (i.told s tells) c.evaluate_step.new.cx.nodes c.evaluate_step.new.table (rw (i.runs.goes.mode, c.deref.ensures.value) at (e.told (Since-later (ran i.runs) s) (heads_tell_later (ruling_since (λ ts. g.H.GoalHandler.handler ts c.args.handler.now) s) (bound_of c.args.depth) c.requires.search i.runs.goes.extends i.searches tells)));
       first = λ e. absurd (omega (arith, e));
       decided = λ s n b d can.
           let first = i.first (i.decided s n b d can) in
@@ -361,13 +361,13 @@ try_evaluate_goals-returns-in_err-stepped g t c =
       labels = IfOk-from_err c.from_residual.result _ fails;
       proved = λ s. IfOk-from_err c.from_residual.result _ fails;
       sure = search rules;
-      told = λ s tells. reach_step c.loop-step.table (g.H.GoalHandler.handler s.base c.args.handler.now) c.args.table.now.mode c.args.goals.now.items c.loop-step.goals.items c.requires.posed i.left i.runs.goes.extends (i.told s tells) c.evaluate_step.new.cx.nodes c.evaluate_step.new.table (rw (i.runs.goes.mode, c.deref.ensures.value) at (c.evaluate_step.ensures.told (Since-later (ran i.runs) s) (heads_tell_later (g.H.GoalHandler.handler s.base c.args.handler.now) (bound_of c.args.depth) c.requires.search i.runs.goes.extends i.searches tells)));
+      told = λ s tells. reach_step c.loop-step.table (ruling_since (λ ts. g.H.GoalHandler.handler ts c.args.handler.now) s) c.args.table.now.mode c.args.goals.now.items c.loop-step.goals.items c.requires.posed i.left i.runs.goes.extends (i.told s tells) c.evaluate_step.new.cx.nodes c.evaluate_step.new.table (rw (i.runs.goes.mode, c.deref.ensures.value) at (c.evaluate_step.ensures.told (Since-later (ran i.runs) s) (heads_tell_later (ruling_since (λ ts. g.H.GoalHandler.handler ts c.args.handler.now) s) (bound_of c.args.depth) c.requires.search i.runs.goes.extends i.searches tells)));
       refuted = λ s tells n.
-          let h = g.H.GoalHandler.handler s.base c.args.handler.now in
+          let h = ruling_since (λ ts. g.H.GoalHandler.handler ts c.args.handler.now) s in
           let refused : c.evaluate_step.result ≡ Err EvalError.NoSolution = search rules in
           let search = c.requires.search in
           stop_step c.loop-step.table h c.args.table.now.mode c.args.goals.now.items c.loop-step.goals.items c.requires.posed i.left i.runs.goes.extends (i.told s tells) c.args.graph.now c.loop-step.graph c.args.kind search.stack search.heads (let y = i.searches in y.later)
-          (rw (i.runs.goes.mode, c.deref.ensures.value) at (c.evaluate_step.ensures.refuted (Since-later (ran i.runs) s) (heads_tell_later (g.H.GoalHandler.handler s.base c.args.handler.now) (bound_of c.args.depth) c.requires.search i.runs.goes.extends i.searches tells) refused));
+          (rw (i.runs.goes.mode, c.deref.ensures.value) at (c.evaluate_step.ensures.refuted (Since-later (ran i.runs) s) (heads_tell_later (ruling_since (λ ts. g.H.GoalHandler.handler ts c.args.handler.now) s) (bound_of c.args.depth) c.requires.search i.runs.goes.extends i.searches tells) refused));
       decided = λ s n b d can.
           let first = i.first (i.decided s n b d can) in
           let x = step_decided (g.H.GoalHandler.handler s.base c.args.handler.now) n b first.0 first.1 first.2 (rw c.deref.ensures.value first.3) d can (c.evaluate_step.ensures.decided (Since-later (ran i.runs) s) n b) in
@@ -388,7 +388,7 @@ try_evaluate_goals-returns-then-not-stepped g t c =
       labels = only-trans i.labels (only_left c.args.goals.now.items c.loop-step.goals.items i.runs.goes.extends c.requires.posed i.left (rw c.deref.ensures.value at c.in_ok-stepped.ensures.labels));
       proved = λ s. settled_step (assumed_in c.loop-step.cx.nodes c.loop-step.graph) (assumed_in c.evaluate_step.new.cx.nodes c.evaluate_step.new.graph) (λ ts. g.H.GoalHandler.handler ts c.args.handler.now) s c.args.table.now.mode (goal_kind_of c.args.kind) c.args.goals.now.items c.loop-step.goals.items c.in_ok-stepped.stepped.left.items c.requires.posed i.runs.goes.extends e.runs.goes (search_covers (bound_of c.args.depth) (search_later (bound_of c.args.depth) (bound_of c.args.depth) (omega arith) c.requires.search i.searches) e.runs.goes.extends e.searches) (i.proved s) (rw (i.runs.goes.mode, c.deref.ensures.value) at (e.proved (Since-later (ran i.runs) s)));
       sure = search rules;
-      told = λ s tells. reach_step c.loop-step.table (g.H.GoalHandler.handler s.base c.args.handler.now) c.args.table.now.mode c.args.goals.now.items c.loop-step.goals.items c.requires.posed i.left i.runs.goes.extends (i.told s tells) c.evaluate_step.new.cx.nodes c.evaluate_step.new.table (rw (i.runs.goes.mode, c.deref.ensures.value) at (e.told (Since-later (ran i.runs) s) (heads_tell_later (g.H.GoalHandler.handler s.base c.args.handler.now) (bound_of c.args.depth) c.requires.search i.runs.goes.extends i.searches tells)));
+      told = λ s tells. reach_step c.loop-step.table (ruling_since (λ ts. g.H.GoalHandler.handler ts c.args.handler.now) s) c.args.table.now.mode c.args.goals.now.items c.loop-step.goals.items c.requires.posed i.left i.runs.goes.extends (i.told s tells) c.evaluate_step.new.cx.nodes c.evaluate_step.new.table (rw (i.runs.goes.mode, c.deref.ensures.value) at (e.told (Since-later (ran i.runs) s) (heads_tell_later (ruling_since (λ ts. g.H.GoalHandler.handler ts c.args.handler.now) s) (bound_of c.args.depth) c.requires.search i.runs.goes.extends i.searches tells)));
       refuted = search rules;
       decided = λ s n b d can.
           let first = i.first (i.decided s n b d can) in
