@@ -84,7 +84,7 @@ step_line line old new (lines.Type name params) (commands.Type n given) d s f h 
     (f.0 ∙ ap (λ ps. record old.cx { declarations = with_ctor old.cx.declarations (map (λ p. p.sort) ps.items) (map (λ p. p.variance) ps.items) }) s.1) h
 step_line line old new (lines.Trait name sorts w) (commands.Trait n true) d s f h = step_trait old new (bytes_of line name) sorts.items n d s.0 f.0 h
 step_line line old new (lines.Trait name sorts w) (commands.Trait n false) d s f h = step_trait old new (bytes_of line name) sorts.items n d s.0 f.0 h
-step_line line old new (lines.Impl a b) (commands.Impl head body) d s f h = step_same old new d f.3.rest.declarations h
+step_line line old new (lines.Impl a b) (commands.Impl head body) d s f h = step_same old new d f.4.rest.declarations h
 step_line line old new (lines.Goal ns) (commands.Goal nodes) d s f h = step_same old new d (ap (λ c. c.declarations) f.0) h
 step_line line old new (lines.Env ns) (commands.Env nodes) d s f h = step_same old new d f.1.rest.declarations h
 step_line line old new _ _ d s f h = absurd s

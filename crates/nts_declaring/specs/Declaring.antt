@@ -17,6 +17,7 @@ use Rattle.nts_text.specs.declared.parser.Mode.TheVariants as modes
 use Rattle.nts_text.specs.declared.parser.Param.{Param}
 use Rattle.nts_text.specs.declared.resolver.Resolved.{Resolved}
 use Rattle.nts_declaring.specs.declared.program.Program.{Program}
+use Rattle.nts_wording.specs.Fitting.{HeadFits}
 use Rattle.nts_wording.specs.Meaning.{IsRuleOf, IsEnvironmentFor}
 
 -- a program that was told nothing: there are no terms, declarations, rules, names or parameters, and
@@ -71,6 +72,6 @@ HasDeclared old new (commands.Trait n true) =
 HasDeclared old new (commands.Trait n false) = DeclaresTrait (trait_sorts new.names n) old.cx new.cx × KeepsRules old new
 HasDeclared old new (commands.Impl head body) =
     (c : Clause) × AddsClause old.clauses new.clauses c × IsRuleOf new.cx.nodes head.items body.items c
-    × Grows old.cx new.cx × (new.mode ≡ old.mode) × (new.env ≡ old.env)
+    × HeadFits new.cx.declarations new.cx.nodes c.trait_id.number c × Grows old.cx new.cx × (new.mode ≡ old.mode) × (new.env ≡ old.env)
 HasDeclared old new (commands.Goal nodes) = (new.cx ≡ old.cx) × KeepsRules old new
 HasDeclared old new (commands.Env nodes) = AssumesNodes nodes.items new × Grows old.cx new.cx × (new.clauses ≡ old.clauses) × (new.mode ≡ old.mode)

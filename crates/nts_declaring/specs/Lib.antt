@@ -1,4 +1,5 @@
 pub mod Declaring
+pub mod Heads
 pub mod Held
 pub mod ImplLines
 pub mod Origins

@@ -6,6 +6,7 @@ ghost use Rattle.nts_table.specs.Tables.{IsTable};
 ghost use Rattle.nts_meaning.specs.Evaluation.{AreOfSorts};
 ghost use Rattle.nts_declaring.specs.Posing.{IsTypingMode, IsPosedLine};
 ghost use Rattle.nts_wording.specs.Found.{IsKnownValue};
+ghost use Rattle.nts_wording.specs.Fitting.{IsDeclaredPredicate};
 ghost use Rattle.nts_wording.specs.Meaning.{AreVariablesFrom};
 ghost use Rattle.nts_store.specs.Growth.{tree_at};
 ghost use Rattle.nts_terms.specs.Rest.{Grows};
@@ -52,6 +53,8 @@ pub fn pose(
     nodes: &[Resolved],
 ) -> Result<Posed, Stop>
     ensures posed { IfOk result (IsPosedLine mode env nodes.now cx.new.nodes) }
+    ensures declared { IfOk result (λ p. IsDeclaredPredicate cx.new.declarations
+        (tree_at cx.new.nodes p.goal.predicate.node)) }
     ensures grows { Grows cx.old cx.new }
 {
     let mut variables = LineVariables::new(cx.alloc);

@@ -4,10 +4,12 @@ ghost use Rattle.nts_delegate.specs.Adding.{AddsClause, MakesCoinductive};
 ghost use Rattle.nts_delegate.specs.Clauses.{AreClausesReady};
 ghost use Rattle.nts_delegate.specs.declared.clauses.Clause.{Clause};
 ghost use Rattle.nts_text.specs.Resolution.{trait_sorts};
+ghost use Rattle.nts_wording.specs.Fitting.{HeadFits};
 ghost use Rattle.nts_wording.specs.Meaning.{IsRuleOf};
 ghost use Rattle.nts_wording.specs.Answers.{IsAnswerPut};
 ghost use Rattle.nts_wording.specs.Growing.{Begins};
 ghost use Rattle.nts_wording.specs.Statuses.{is_refusal};
+ghost use Rattle.nts_declaring.specs.Heads.{HeadsFit};
 ghost use Rattle.nts_declaring.specs.Declaring.{IsNewProgram, DeclaresType, DeclaresTrait, HasDeclared, KeepsRules, AssumesNodes, IsInStep};
 ghost use Rattle.nts_terms.specs.Rest.{Grows};
 
@@ -37,10 +39,12 @@ pub struct Program {
 
 impl Program {
     /// Nothing said. It takes no memory.
+    #[tactic(auto, using(crate::proofs::HeadsKept::heads_none))]
     pub fn new(alloc: Global) -> Self
         ensures ready { AreClausesReady result.cx.nodes result.clauses }
         ensures new { IsNewProgram result }
         ensures step { IsInStep result }
+        ensures heads { HeadsFit result.cx result.clauses }
     {
         Program {
             alloc,
@@ -150,7 +154,8 @@ impl Program {
         requires ready { AreClausesReady self.old.cx.nodes self.old.clauses }
         ensures ready { OnOk result (AreClausesReady self.new.cx.nodes self.new.clauses) }
         ensures added { OnOk result ((c : Clause) × AddsClause self.old.clauses self.new.clauses c
-            × IsRuleOf self.new.cx.nodes head.now body.now c) }
+            × IsRuleOf self.new.cx.nodes head.now body.now c
+            × HeadFits self.new.cx.declarations self.new.cx.nodes c.trait_id.number c) }
         ensures grows { OnOk result (Grows self.old.cx self.new.cx) }
         ensures mode { self.new.mode ≡ self.old.mode }
         ensures env { self.new.env ≡ self.old.env }

@@ -1,5 +1,5 @@
 -- What a line does, by its command.
-use Rattle.std.proofs.Common.{◌≡◌, ℕ, true, false, List, Option, Result, Ok, Err, inl, inr, ap}
+use Rattle.std.proofs.Common.{◌≡◌, ℕ, true, false, List, Option, Result, Ok, Err, inl, inr, sym, ap, subst}
 use Rattle.std.specs.Prelude.{IfOk, OnOk, OnErr}
 use Rattle.nts_wording.specs.declared.answer.Answer.{Answer}
 use Rattle.nts_text.specs.Commands.{IsCommandOf, IsMeant, Declares}
@@ -12,6 +12,8 @@ use Rattle.nts_text.specs.declared.parser.Line.{Line}
 use Rattle.nts_text.specs.declared.parser.Line.TheVariants as lines
 use Rattle.nts_declaring.specs.declared.program.Program.{Program}
 use Rattle.nts_declaring.specs.Declaring.{IsInStep}
+use Rattle.nts_declaring.specs.Heads.{HeadsFit}
+use Rattle.nts_declaring.proofs.HeadsKept.{heads_declared, heads_grown, heads_same}
 use Rattle.nts_declaring.proofs.Reading.{once_read, rules_from, declared_from}
 use Rattle.nts_declaring.proofs.Steps.{step_same, step_line}
 use Rattle.nts_program.specs.Obeying.{Follows, IsObeyed}
@@ -44,6 +46,17 @@ pub step_kept : {E : Type 0} (r : Result (Option Answer) E) (line : List ℕ) (o
 step_kept (Err e) line old new h = tt
 step_kept (Ok o) line old new (inl h) = step_same old new h.names (ap (λ c. c.declarations) h.cx)
 step_kept (Ok o) line old new (inr h) = step_followed line old new h.is.parsed h.command o h.is.declares h.is.means h.follows
+
+-- a command that is followed keeps the heads of clauses as their traits are declared
+pub heads_followed : (old new : Program) (command : Command) (o : Option Answer) → Follows old new command o → HeadsFit old.cx old.clauses → HeadsFit new.cx new.clauses
+heads_followed old new (commands.Goal nodes) o f h = subst (HeadsFit new.cx) (sym f.4.clauses) (heads_grown old.cx new.cx old.clauses f.3 h)
+heads_followed old new c o f h = heads_declared old new c f.1 h
+
+-- .. and so does a line that is obeyed
+pub heads_kept : {E : Type 0} (r : Result (Option Answer) E) (line : List ℕ) (old new : Program) → IfOk r (IsObeyed line old new) → OnOk r (HeadsFit old.cx old.clauses → HeadsFit new.cx new.clauses)
+heads_kept (Err e) line old new h = tt
+heads_kept (Ok o) line old new (inl h) = heads_same old.cx new.cx old.clauses new.clauses h.cx h.rules.clauses
+heads_kept (Ok o) line old new (inr h) = heads_followed old new h.command o h.follows
 
 -- what does not come about
 pub never : {T E A : Type 0} (B : Type 0) (r : Result T E) → (A → true ≡ false) → OnOk r (A → B)

@@ -2,6 +2,7 @@
 ghost use Rattle.std.specs.Prelude.{◌≡◌, IsNone, IfOk, OnOk, OnErr};
 ghost use Rattle.nts_delegate.specs.Clauses.{AreClausesReady};
 ghost use Rattle.nts_declaring.specs.Declaring.{IsInStep};
+ghost use Rattle.nts_declaring.specs.Heads.{HeadsFit};
 ghost use Rattle.nts_text.specs.Lines.{IsPassedOver};
 ghost use Rattle.nts_program.specs.Obeying.{Follows, IsObeyed};
 
@@ -18,6 +19,8 @@ pub fn obey(program: &mut Program, line: &[u8]) -> Result<Option<Answer>, Stop>
     ensures refused { OnErr result (IsPassedOver line.now → ⊥) }
     ensures obeyed { IfOk result (IsObeyed line.now program.old program.new) }
     ensures step { OnOk result (IsInStep program.old → IsInStep program.new) }
+    ensures heads { OnOk result (HeadsFit program.old.cx program.old.clauses →
+        HeadsFit program.new.cx program.new.clauses) }
 {
     match read_command(program.alloc, line, &mut program.names, &mut program.scope)? {
         Some(command) => follow(program, &command),

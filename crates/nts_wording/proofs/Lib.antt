@@ -1,4 +1,5 @@
 pub mod Stores
+pub mod Fitted
 pub mod Meant
 pub mod Places
 pub mod Rules
@@ -7,5 +8,6 @@ pub mod Printed
 pub mod Writing
 mod Answered
 mod MeaningExamples
+mod FittingExamples
 pub mod Lines
 pub mod Telling

@@ -1,4 +1,5 @@
 pub mod Answers
+pub mod Fitting
 pub mod Found
 pub mod Growing
 pub mod Meaning

@@ -5,6 +5,7 @@ ghost use Rattle.nts_store.specs.Growth.{Extends, tree_at};
 ghost use Rattle.nts_terms.specs.Kinds.{tree_of_ty, ClauseFits};
 ghost use Rattle.nts_terms.specs.Signatures.{StatementIsDeclared};
 ghost use Rattle.nts_terms.specs.declared.kinds.TyKind.TheVariants as ty;
+ghost use Rattle.nts_wording.specs.Fitting.{IsDeclaredPredicate};
 ghost use Rattle.nts_wording.specs.Meaning.{tree_at_place, BindsFirst, TakesArguments, TakesLast, MakesArgument, MakesStatement, AreSaid, States, AreClausePositions};
 ghost use Rattle.nts_terms.specs.Handles.{HoldsArg, HoldsArgs, HoldsPredicate};
 ghost use Rattle.nts_terms.specs.Rest.{Grows};
@@ -265,7 +266,7 @@ fn in_order(alloc: Global, binds: &[Sort]) -> Result<Vec<Sort>, AllocError>
 }
 
 /// Whether a statement is of this store, and a trait's arguments are of the sorts that were declared.
-fn clause_fits(cx: &Cx, clause: ClauseKind) -> bool
+pub fn clause_fits(cx: &Cx, clause: ClauseKind) -> bool
     ensures parts { IsTrue result → ClauseFits cx.now.nodes clause }
     ensures declared { IsTrue result → StatementIsDeclared cx.now.declarations cx.now.nodes
         (PredicateKind.Clause clause) }
@@ -286,6 +287,8 @@ fn clause_fits(cx: &Cx, clause: ClauseKind) -> bool
 pub fn predicate_of(cx: &mut Cx, bound: &BoundClause) -> Result<Predicate, Stop>
     ensures states { IfOk result (States cx.new.nodes bound.now) }
     ensures holds { IfOk result (λ p. HoldsPredicate cx.new.nodes p) }
+    ensures declared { IfOk result (λ p. IsDeclaredPredicate cx.new.declarations
+        (tree_at cx.new.nodes p.node)) }
     ensures grows { Grows cx.old cx.new }
 {
     let sorts = in_order(cx.alloc, &bound.binds)?;

@@ -1,12 +1,13 @@
 //! What a whole line says: the goal that it asks, or the rule that it adds.
 ghost use Rattle.std.specs.Prelude.{All, IfOk, IsTrue, List};
 ghost use Rattle.nts_model.specs.Terms.Trees.{Tree};
-ghost use Rattle.nts_store.specs.Growth.{Extends};
+ghost use Rattle.nts_store.specs.Growth.{Extends, tree_at};
 ghost use Rattle.nts_terms.specs.Handles.{HoldsEnv, HoldsGoal, HoldsPredicate};
 ghost use Rattle.nts_terms.specs.Rest.{Grows};
+ghost use Rattle.nts_wording.specs.Fitting.{HeadFits, IsDeclaredPredicate};
 ghost use Rattle.nts_wording.specs.Meaning.{AreConditions, IsGivenEnvironment, IsEnvironmentFor, IsGoalFor, IsRuleFor};
 
-use crate::build::{MISFIT, Terms, bound_clauses, positions, predicate_of};
+use crate::build::{MISFIT, Terms, bound_clauses, clause_fits, positions, predicate_of};
 use crate::status::Stop;
 use crate::variables::LineVariables;
 use nts_delegate::Clause;
@@ -24,6 +25,8 @@ pub fn goal_of(
     ensures asks { IfOk result (IsGoalFor cx.new.nodes env terms.entry.variables.now
         terms.entry.values.now nodes.now) }
     ensures holds { IfOk result (λ g. HoldsGoal cx.new.nodes g) }
+    ensures declared { IfOk result (λ g. IsDeclaredPredicate cx.new.declarations
+        (tree_at cx.new.nodes g.predicate.node)) }
     ensures grows { Grows cx.old cx.new }
 {
     let found = bound_clauses(cx, nodes, terms)?;
@@ -85,6 +88,8 @@ pub fn environment_of(cx: &mut Cx, nodes: &[Resolved]) -> Result<ParamEnv, Stop>
 #[tactic(auto, using(crate::proofs::Stores::growing))]
 pub fn clause_of(cx: &mut Cx, head: &[Resolved], body: &[Resolved]) -> Result<Clause, Stop>
     ensures rule { IfOk result (IsRuleFor cx.new.nodes head.now body.now) }
+    ensures fits { IfOk result (λ c. HeadFits cx.new.declarations cx.new.nodes
+        c.trait_id.number c) }
     ensures grows { Grows cx.old cx.new }
 {
     let mut variables = LineVariables::new(cx.alloc);
@@ -100,6 +105,9 @@ pub fn clause_of(cx: &mut Cx, head: &[Resolved], body: &[Resolved]) -> Result<Cl
         return Err(MISFIT);
     };
     if !head.binds.is_empty() {
+        return Err(MISFIT);
+    }
+    if !clause_fits(cx, head.clause) {
         return Err(MISFIT);
     }
     let ClauseKind::Trait(trait_ref) = head.clause else {

@@ -1,4 +1,4 @@
-use Rattle.nts_program.proofs.Obeyed.{obeyed, step_kept, never_passed, on_error}
+use Rattle.nts_program.proofs.Obeyed.{obeyed, step_kept, heads_kept, never_passed, on_error}
 use Rattle.nts_program.proofs.obeying.obey.Goals as goal
 
 pub returns-in-Some-clause-passed : goal.returns-in-Some-clause-passed
@@ -15,3 +15,6 @@ returns-in-Some-clause-obeyed c =
 
 pub returns-in-Some-clause-step : goal.returns-in-Some-clause-step
 returns-in-Some-clause-step c = step_kept c.follow.result c.args.line.now c.args.program.now c.follow.new.program (returns-in-Some-clause-obeyed c)
+
+pub returns-in-Some-clause-heads : goal.returns-in-Some-clause-heads
+returns-in-Some-clause-heads c = heads_kept c.follow.result c.args.line.now c.args.program.now c.follow.new.program (returns-in-Some-clause-obeyed c)

@@ -3,4 +3,4 @@ use Rattle.nts_declaring.proofs.program.Program.add_impl.Goals as goal
 
 -- the clause that the line says is the one that is added
 pub returns-clause-added : goal.returns-clause-added
-returns-clause-added c = (c.in_ok-clause.clause, c.in_ok-add_clause.ensures.added, c.in_ok-clause.ensures.rule _ (Extends-refl _))
+returns-clause-added c = (c.in_ok-clause.clause, c.in_ok-add_clause.ensures.added, c.in_ok-clause.ensures.rule _ (Extends-refl _), c.in_ok-clause.ensures.fits)

@@ -10,4 +10,4 @@ pub returns-in-Impl-clause-declares : goal.returns-in-Impl-clause-declares
 returns-in-Impl-clause-declares c =
     let e = c.add_impl.ensures in
     both_ok c.add_impl.result e.added e.grows
-    (λ a g. rw c.in-Impl.is (a.0, a.1, rw (c.deref-in-Impl.ensures.value, c.deref-in-Impl-2.ensures.value) at a.2, g, e.mode, e.env))
+    (λ a g. rw c.in-Impl.is (a.0, a.1, rw (c.deref-in-Impl.ensures.value, c.deref-in-Impl-2.ensures.value) at a.2, a.3, g, e.mode, e.env))
