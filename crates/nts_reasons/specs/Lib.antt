@@ -1,2 +1,3 @@
 pub mod Obeying
+pub mod Offering
 pub mod Running

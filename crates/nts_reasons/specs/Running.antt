@@ -1,5 +1,5 @@
 -- What a run does.
-use Rattle.std.specs.Prelude.{◌≡◌, ℕ, ◌+◌, Bool, true, false, List, [], ◌∷◌, ◌++◌, length, Option, None, Some, IfSome}
+use Rattle.std.specs.Prelude.{◌≡◌, ◌⊎◌, ◌≤◌, ℕ, ◌+◌, Bool, true, false, List, [], ◌∷◌, ◌++◌, length, Option, None, Some, IfSome}
 use Rattle.std.specs.Io.KnownBytes.{Appends}
 use Rattle.nts_model.specs.Terms.Trees.{Tree}
 use Rattle.nts_store.specs.Growth.{Extends}
@@ -22,6 +22,7 @@ use Rattle.nts_program.specs.Proving.{rules_with}
 use Rattle.nts_program.specs.nts_declaring.specs.declared.posing.Posed.{Posed}
 use Rattle.nts_program.specs.nts_declaring.specs.declared.program.Program.{Program}
 use Rattle.nts_reasons.specs.Obeying.{trait_of, lines_for, IsNewExplainer, IsObeyed}
+use Rattle.nts_reasons.specs.Offering.{rules_of_each}
 use Rattle.nts_program.specs.nts_declaring.specs.Reasons.{IsReasonsText}
 use Rattle.nts_reasons.specs.declared.explainer.Asked.{Asked}
 use Rattle.nts_reasons.specs.declared.explainer.Explainer.{Explainer}
@@ -31,11 +32,13 @@ pub record HasMoreTerms (old new : Explainer) : Type 0 where
   pub terms : Grows old.program.cx new.program.cx
   pub rest : new ≡ record old { program = record old.program { cx = new.program.cx } }
 
--- these are the reasons of a goal, by its environment and these clauses, in a store that has all terms of this one
+-- these are the reasons of a goal, by its environment and these clauses, in a store that has all terms of this one; there is one of each
+-- clause of the goal's trait, so that none is left out
 pub record HasReasons (ts : List Tree) (clauses : Clauses) (table : Table) (g : Goal) (reasons : List Reason) : Type 0 where
   pub store : List Tree
   pub extends : Extends ts store
   pub gives : GivesReasons (rules_with store clauses) table.mode store table g reasons
+  pub each : GivesReasons (rules_of_each store clauses) table.mode store table g reasons
 
 -- the goal that nodes say is posed again, in a table of its own, and these are its reasons by the rules of the program
 pub record AreReasonsOf (p : Program) (rs : List Resolved) (reasons : List Reason) : Type 0 where
@@ -45,10 +48,12 @@ pub record AreReasonsOf (p : Program) (rs : List Resolved) (reasons : List Reaso
   pub poses : IsPosedLine p.mode p.env rs posed_in posed
   pub has : HasReasons posed_in p.clauses posed.table posed.goal reasons
 
--- a line is written for each of the reasons of the goal that nodes say
+-- a line is written for each of the reasons of the goal that nodes say; where no candidate answers such a goal there is none, and else
+-- no line of an impl of its trait is without its reason
 pub record IsReasoned (e : Explainer) (rs : List Resolved) (text : List ℕ) : Type 0 where
   pub reasons : List Reason
   pub are : AreReasonsOf e.program rs reasons
+  pub all : (reasons ≡ []) ⊎ (length (lines_for e.lines (trait_of rs)) ≤ length reasons)
   pub worded : IsReasonsText (lines_for e.lines (trait_of rs)) reasons text
 
 -- that is written

@@ -3,11 +3,14 @@ ghost use Rattle.std.specs.Prelude.{◌≡◌, false, All, IsNone, IfOk, IfErr, 
 ghost use Rattle.nts_delegate.specs.Clauses.{AreClausesReady};
 ghost use Rattle.nts_candidates.specs.HeldReasons.{HoldsReason};
 ghost use Rattle.nts_table.specs.Tables.{IsTable};
+ghost use Rattle.nts_store.specs.Growth.{tree_at};
 ghost use Rattle.nts_terms.specs.Handles.{HoldsGoal};
 ghost use Rattle.nts_terms.specs.Rest.{Grows};
 ghost use Rattle.nts_text.specs.Lines.{IsPassedOver};
+ghost use Rattle.nts_wording.specs.Fitting.{IsDeclaredPredicate};
 ghost use Rattle.nts_wording.specs.Growing.{Begins};
 ghost use Rattle.nts_wording.specs.Statuses.{is_refusal};
+ghost use Rattle.nts_program.specs.nts_declaring.specs.Heads.{HeadsFit};
 ghost use Rattle.nts_reasons.specs.Obeying.{trait_of, lines_for, IsNewExplainer, HasLines, DoesCommand, IsObeyed, Notes};
 ghost use Rattle.nts_reasons.specs.Running.{is_yes, HasMoreTerms, HasReasons, AreReasonsOf, IsReasonedPut, IsTold};
 
@@ -44,6 +47,7 @@ impl Explainer {
         ensures ready { AreClausesReady result.program.cx.nodes result.program.clauses }
         ensures new { IsNewExplainer result }
         ensures lines { HasLines result }
+        ensures heads { HeadsFit result.program.cx result.program.clauses }
     {
         Explainer {
             program: Program::new(alloc),
@@ -60,6 +64,8 @@ impl Explainer {
         ensures refused { OnErr result (IsPassedOver line.now → ⊥) }
         ensures obeyed { IfOk result (IsObeyed number line.now self.old self.new) }
         ensures lines { OnOk result (HasLines self.old → HasLines self.new) }
+        ensures heads { OnOk result (HeadsFit self.old.program.cx self.old.program.clauses →
+            HeadsFit self.new.program.cx self.new.program.clauses) }
     {
         let program = &mut self.program;
         match read_command(program.alloc, line, &mut program.names, &mut program.scope)? {
@@ -107,6 +113,8 @@ impl Explainer {
     #[tactic(auto, using(nts_wording::proofs::Growths::writes))]
     pub fn tell<W: Write>(&mut self, output: &mut W, asked: &Asked) -> Result<(), Stop>
         requires ready { AreClausesReady self.old.program.cx.nodes self.old.program.clauses }
+        requires heads { HeadsFit self.old.program.cx self.old.program.clauses }
+        requires lines { HasLines self.old }
         ensures ready { AreClausesReady self.new.program.cx.nodes self.new.program.clauses }
         ensures told { OnOk result (IsTold self.old asked.now (W.contents output.old)
             (W.contents output.new)) }
@@ -122,9 +130,11 @@ impl Explainer {
     }
 
     /// Writes what the candidates for the goal that these nodes say come to.
-    #[tactic(auto, using(nts_wording::proofs::Growths::writes))]
+    #[tactic(auto, using(nts_wording::proofs::Growths::writes, crate::proofs::Lining::line_reasons))]
     fn tell_reasons<W: Write>(&mut self, output: &mut W, nodes: &[Resolved]) -> Result<(), Stop>
         requires ready { AreClausesReady self.old.program.cx.nodes self.old.program.clauses }
+        requires heads { HeadsFit self.old.program.cx self.old.program.clauses }
+        requires lines { HasLines self.old }
         ensures ready { AreClausesReady self.new.program.cx.nodes self.new.program.clauses }
         ensures reasoned { OnOk result (IsReasonedPut self.old nodes.now (W.contents output.old)
             (W.contents output.new)) }
@@ -171,9 +181,10 @@ struct Explained {
 }
 
 /// Poses the goal that these nodes say again, in a table of its own, and asks what its candidates come to.
-#[tactic(auto, using(nts_program::proofs::Asking::asking))]
+#[tactic(auto, using(nts_program::proofs::Asking::asking, crate::proofs::Staying::heads_later))]
 fn ask_again(program: &mut Program, nodes: &[Resolved]) -> Result<Explained, Stop>
     requires ready { AreClausesReady program.old.cx.nodes program.old.clauses }
+    requires heads { HeadsFit program.old.cx program.old.clauses }
     ensures reasons { IfOk result (λ e. AreReasonsOf program.old nodes.now e.reasons.items) }
     ensures holds { IfOk result (λ e. All (HoldsReason program.new.cx.nodes) e.reasons.items) }
     ensures ready { AreClausesReady program.new.cx.nodes program.new.clauses }
@@ -198,8 +209,11 @@ fn reasons_of(
     goal: Goal,
 ) -> Result<Vec<Reason>, Stop>
     requires ready { AreClausesReady cx.old.nodes clauses.now }
+    requires heads { HeadsFit cx.old clauses.now }
     requires table { IsTable cx.old.nodes table.old }
     requires goal { HoldsGoal cx.old.nodes goal }
+    requires declared { IsDeclaredPredicate cx.old.declarations
+        (tree_at cx.old.nodes goal.predicate.node) }
     ensures reasons { IfOk result (λ rs. HasReasons cx.old.nodes clauses.now table.old goal rs.items) }
     ensures holds { IfOk result (λ rs. All (HoldsReason cx.new.nodes) rs.items) }
     ensures grows { Grows cx.old cx.new }

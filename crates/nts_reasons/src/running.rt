@@ -5,6 +5,8 @@ ghost use Rattle.nts_text.specs.Lines.{IsPassedOver};
 ghost use Rattle.nts_wording.specs.Growing.{Begins, IsStopTold};
 ghost use Rattle.nts_wording.specs.Statuses.{status_of};
 ghost use Rattle.nts_wording.specs.declared.status.Status.TheVariants.{Done, Refused};
+ghost use Rattle.nts_program.specs.nts_declaring.specs.Heads.{HeadsFit};
+ghost use Rattle.nts_reasons.specs.Obeying.{HasLines};
 ghost use Rattle.nts_reasons.specs.Running.{IsToldLine, AnswersAll, StopsAtRefusal};
 
 use crate::explainer::Explainer;
@@ -78,8 +80,13 @@ fn handle_line<W: Write>(
     output: &mut W,
 ) -> Result<(), Stop>
     requires ready { AreClausesReady explainer.old.program.cx.nodes explainer.old.program.clauses }
+    requires heads { HeadsFit explainer.old.program.cx explainer.old.program.clauses }
+    requires lines { HasLines explainer.old }
     ensures ready { OnOk result (AreClausesReady explainer.new.program.cx.nodes
         explainer.new.program.clauses) }
+    ensures heads { OnOk result (HeadsFit explainer.new.program.cx
+        explainer.new.program.clauses) }
+    ensures lines { OnOk result (HasLines explainer.new) }
     ensures answered { OnOk result (IsToldLine number line.now explainer.old explainer.new
         (W.contents output.old) (W.contents output.new)) }
     ensures refused { IfErr result (λ s. status_of s ≡ Refused → IsPassedOver line.now → ⊥) }

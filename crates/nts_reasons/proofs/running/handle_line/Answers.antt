@@ -1,6 +1,7 @@
 use Rattle.std.proofs.Common.{[], None, refl}
 use Rattle.nts_program.proofs.Obeyed.{never}
 use Rattle.nts_wording.proofs.Growths.{Appends-none}
+use Rattle.nts_reasons.proofs.Staying.{heads_told, lines_told, on_any}
 use Rattle.nts_reasons.proofs.Telling.{told_where, terms-refl}
 use Rattle.nts_reasons.proofs.running.handle_line.Goals as goal
 
@@ -21,3 +22,9 @@ returns-in-Ok-None-clause-answered g c = record {
   terms = terms-refl c.obey.new.self;
   written = Appends-none _;
 }
+
+pub returns-in-Ok-Some-clause-heads : goal.returns-in-Ok-Some-clause-heads
+returns-in-Ok-Some-clause-heads g c = on_any _ c.tell.result (heads_told _ _ c.tell.ensures.terms (c.in-Ok-Some.ensures.heads c.requires.heads))
+
+pub returns-in-Ok-Some-clause-lines : goal.returns-in-Ok-Some-clause-lines
+returns-in-Ok-Some-clause-lines g c = on_any _ c.tell.result (lines_told _ _ c.tell.ensures.terms (c.in-Ok-Some.ensures.lines c.requires.lines))

@@ -6,6 +6,8 @@ use Rattle.nts_reasons.proofs.running.run_lines.Goals as goal
 pub lines-init : goal.lines-init
 lines-init g c = record {
   ready = c.new-explainer.ensures.ready;
+  heads = c.new-explainer.ensures.heads;
+  lined = c.new-explainer.ensures.lines;
   begins = Begins-refl;
   run = run_begins _ _ c.new-explainer.result c.new-explainer.ensures.new;
 }
@@ -31,6 +33,8 @@ lines-preserved g c =
     let e = c.in_ok-handle_line.ensures in
     record {
       ready = e.ready;
+      heads = e.heads;
+      lined = e.lines;
       begins = Begins-trans c.lines.invariant.begins e.begins;
       run = run_more c.deref.result.now c.lines.invariant.run (some_left _ c.in_ok-next_line.field-0 c.if-not-branch.false read.found)
           (rw c.deref.ensures.value read.line) read.rest e.answered;

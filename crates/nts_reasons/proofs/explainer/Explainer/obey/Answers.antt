@@ -2,6 +2,7 @@ use Rattle.std.proofs.Common.{refl, inl}
 use Rattle.nts_program.proofs.Obeyed.{never_passed, on_error}
 use Rattle.nts_reasons.proofs.Does.{obeyed}
 use Rattle.nts_reasons.proofs.Lining.{lines_kept}
+use Rattle.nts_reasons.proofs.Staying.{heads_kept}
 use Rattle.nts_reasons.proofs.explainer.Explainer.obey.Goals as goal
 
 pub returns-in-Some-clause-passed : goal.returns-in-Some-clause-passed
@@ -28,3 +29,6 @@ returns-in-None-clause-obeyed c =
 
 pub returns-in-Some-clause-lines : goal.returns-in-Some-clause-lines
 returns-in-Some-clause-lines c = lines_kept c.follow.result c.args.number c.args.line.now c.args.self.now c.follow.new.self (returns-in-Some-clause-obeyed c)
+
+pub returns-in-Some-clause-heads : goal.returns-in-Some-clause-heads
+returns-in-Some-clause-heads c = heads_kept c.follow.result c.args.number c.args.line.now c.args.self.now c.follow.new.self (returns-in-Some-clause-obeyed c)
