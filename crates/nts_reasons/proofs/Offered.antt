@@ -164,7 +164,7 @@ clause_reasons ts h mode t g n k x about count (of_candidates b u o opens asked 
     let here : trait_of p ≡ Some (n, y.0) = ap trait_of opens.predicate ∙ y.1 in
     let offers = offers_of_each (clauses_in_store ts h) e in
     let many : length (offers (trait_of p)) ≡ k =
-        ap (λ z. length (offers z)) here ∙ length-map (map (clause_tree ts) (clauses_of h n)) (offer_by e (children y.0)) ∙ length-map (clauses_of h n) (clause_tree ts) ∙ count in
+    ap (λ z. length (offers z)) here ∙ length-map (map (clause_tree ts) (clauses_of h n)) (offer_by e (children y.0)) ∙ length-map (clauses_of h n) (clause_tree ts) ∙ count in
     inr (enough _ (assumed_offers e (trait_of p)) (offers (trait_of p)) k (explained_length each) many)
 clause_reasons ts h mode t g n k x about count (is_unasked b u o opens unasked) = inl refl
 clause_reasons ts h mode t g n k x about count (is_unopened c) = inl refl

@@ -1,5 +1,5 @@
 -- What is as a trait is declared, and what is not.
-use Rattle.std.proofs.Common.{◌≡◌, ℕ, ◌<◌, [], ◌∷◌, length, get_or, Some, refl, sym, subst, arith}
+use Rattle.std.proofs.Common.{◌≡◌, ◌<◌, [], ◌∷◌, length, get_or, Some, refl, sym, subst, arith}
 use Rattle.nts_model.specs.declared.labels.FreeRegion.TheVariants as free
 use Rattle.nts_model.specs.declared.labels.Label.TheVariants as label
 use Rattle.nts_model.specs.declared.labels.Leaf.TheVariants as leaf
