@@ -1,6 +1,7 @@
 -- The heads of clauses stay as their traits are declared.
-use Rattle.std.proofs.Common.{◌≡◌, ℕ, zero, suc, ◌==◌, Bool, true, false, if◌then◌else◌, List, [], ◌∷◌, ◌++◌, Some, All, map, slice_get, get_or, eqb-true, refl, sym, ap, subst, ◌∙◌}
+use Rattle.std.proofs.Common.{◌≡◌, ℕ, zero, suc, ◌==◌, Bool, true, false, if◌then◌else◌, List, [], ◌∷◌, ◌++◌, Some, Result, Ok, Err, All, map, slice_get, get_or, eqb-true, refl, sym, ap, subst, ◌∙◌}
 use Rattle.std.proofs.lemmas.List.Elements.{All-nil, All-push}
+use Rattle.std.specs.Prelude.{OnOk}
 use Rattle.nts_model.specs.declared.labels.Sort.{Sort}
 use Rattle.nts_store.specs.Growth.{Extends}
 use Rattle.nts_store.proofs.Growing.{Extends-refl}
@@ -78,3 +79,7 @@ heads_declared old new (commands.Trait n false) f h =
 heads_declared old new (commands.Impl head body) f h = heads_added old.cx new.cx old.clauses new.clauses f.0 f.1 f.3 f.4 h
 heads_declared old new (commands.Goal nodes) f h = heads_same old.cx new.cx old.clauses new.clauses f.0 f.1.clauses h
 heads_declared old new (commands.Env nodes) f h = subst (HeadsFit new.cx) (sym f.2) (heads_grown old.cx new.cx old.clauses f.1 h)
+
+pub on_declared : {T E : Type 0} (r : Result T E) (old new : Program) (command : Command) → OnOk r (HasDeclared old new command) → OnOk r (HeadsFit old.cx old.clauses → HeadsFit new.cx new.clauses)
+on_declared (Ok x) old new command h = heads_declared old new command h
+on_declared (Err x) old new command h = tt

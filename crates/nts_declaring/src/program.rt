@@ -83,6 +83,8 @@ impl Program {
         ensures names { self.new.names ≡ self.old.names }
         ensures scope { self.new.scope ≡ self.old.scope }
         ensures declares { OnOk result (HasDeclared self.old self.new command.now) }
+        ensures heads { OnOk result (HeadsFit self.old.cx self.old.clauses →
+            HeadsFit self.new.cx self.new.clauses) }
     {
         match command {
             Command::Mode(mode) => {

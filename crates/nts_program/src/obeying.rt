@@ -29,12 +29,14 @@ pub fn obey(program: &mut Program, line: &[u8]) -> Result<Option<Answer>, Stop>
 }
 
 /// Does what a command says, likewise. Its names are those that are declared, and its variables those of the last line.
-#[tactic(auto, using(nts_declaring::proofs::Values::keeping))]
+#[tactic(auto, using(nts_declaring::proofs::Values::keeping, nts_declaring::proofs::HeadsKept::heads_grown))]
 pub fn follow(program: &mut Program, command: &Command) -> Result<Option<Answer>, Stop>
     requires ready { AreClausesReady program.old.cx.nodes program.old.clauses }
     ensures ready { OnOk result (AreClausesReady program.new.cx.nodes program.new.clauses) }
     ensures names { program.new.names ≡ program.old.names }
     ensures scope { program.new.scope ≡ program.old.scope }
+    ensures heads { OnOk result (HeadsFit program.old.cx program.old.clauses →
+        HeadsFit program.new.cx program.new.clauses) }
     ensures follows { IfOk result (Follows program.old program.new command.now) }
 {
     match command {

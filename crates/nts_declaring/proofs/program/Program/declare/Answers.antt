@@ -1,4 +1,5 @@
 use Rattle.std.specs.Prelude.{Result, Ok, Err, OnOk}
+use Rattle.nts_declaring.proofs.HeadsKept.{on_declared}
 use Rattle.nts_declaring.proofs.program.Program.declare.Goals as goal
 
 both_ok : {T E A B C : Type 0} (r : Result T E) → OnOk r A → OnOk r B → (A → B → C) → OnOk r C
@@ -11,3 +12,6 @@ returns-in-Impl-clause-declares c =
     let e = c.add_impl.ensures in
     both_ok c.add_impl.result e.added e.grows
     (λ a g. rw c.in-Impl.is (a.0, a.1, rw (c.deref-in-Impl.ensures.value, c.deref-in-Impl-2.ensures.value) at a.2, a.3, g, e.mode, e.env))
+
+pub returns-in-Impl-clause-heads : goal.returns-in-Impl-clause-heads
+returns-in-Impl-clause-heads c = on_declared c.add_impl.result c.args.self.now c.add_impl.new.self c.args.command.now (returns-in-Impl-clause-declares c)
