@@ -20,8 +20,9 @@ use Rattle.nts_search.specs.declared.stack.SearchGraph.{SearchGraph}
 use Rattle.nts_meaning.specs.Searching.{Searches}
 use Rattle.nts_model.specs.Derivations.Handlers.{Handler}
 use Rattle.nts_meaning.specs.Telling.{Ruling}
-use Rattle.nts_evaluation.specs.Promises.{IsAnswered, AnswersQuery, AnswersGoal, AnswersOwn, AnswersBy}
+use Rattle.nts_evaluation.specs.Promises.{IsAnswered, AnswersQuery, AnswersGoal, AnswersOwn, AnswersSubtype, AnswersBy}
 use Rattle.nts_meaning.specs.Meant.{Rules, ruling_since}
+use Rattle.nts_trying.specs.declared.subtypes.TypePair.{TypePair}
 use Rattle.nts_evaluation.proofs.Deciding.{decides_fault}
 
 -- an error that is not that there is no solution is no answer
@@ -43,3 +44,6 @@ try_failed {R = R} r fails other all same grows searches = record { same = same;
 
 pub own_failed : {R : Rules} {a b : Cx} {g h : SearchGraph} {t : Table} {goal : Goal} {values : List GenericArg} {depth : ℕ} (r : Result (Box (Canonical Response)) EvalError) → is_err r ≡ true → r ≢ Err error.NoSolution → Grows a b → Searches a b g h → AnswersOwn R a b g h t goal values depth r
 own_failed r fails other grows searches = record { grows = grows; searches = searches; found = IfOk-from_err r _ fails; told = λ s tells. IfOk-from_err r _ fails; refuted = λ s tells n. absurd (other n); decided = λ s n b d can. decides_fault r fails other }
+
+pub subtype_failed : {R : Rules} {a b : Cx} {g h : SearchGraph} {t : Table} {goal : Goal} {p : TypePair} {values : List GenericArg} (r : Result (Box (Canonical Response)) EvalError) → is_err r ≡ true → r ≢ Err error.NoSolution → Grows a b → Searches a b g h → AnswersSubtype R a b g h t goal p values r
+subtype_failed r fails other grows searches = record { grows = grows; searches = searches; found = IfOk-from_err r _ fails; told = λ s tells. IfOk-from_err r _ fails; refuted = λ s tells n. absurd (other n); joined = λ n m v outside. IfOk-from_err r _ fails }

@@ -19,3 +19,4 @@ mod DecidedExamples
 mod FactLeaves
 pub mod Skipped
 mod SkippedExamples
+mod SubtypesLeft

@@ -6,7 +6,7 @@ use Rattle.nts_model.specs.Tables.Contents.{Content}
 use Rattle.nts_model.specs.Derivations.Rules.{Meaning, Mode, statement_of}
 use Rattle.nts_model.specs.Derivations.Handlers.{Handler, Candidate}
 use Rattle.nts_theory.specs.Affirming.{SaysAffirmed, IsDenied, HasOwnWay}
-use Rattle.nts_theory.specs.Telling.{IsResponseOf, IsPlainResponse}
+use Rattle.nts_theory.specs.Telling.{IsResponseOf, IsPlainResponse, IsCutIn}
 use Rattle.nts_meaning.specs.Telling.{Ruling, Replies, Fails}
 use Rattle.nts_model.specs.Derivations.Proofs.{Assumed, passed}
 use Rattle.nts_model.specs.Searching.Stacks.{IsDerivedFrom, HoldsCandidateFrom, assumptions}
@@ -48,6 +48,8 @@ use Rattle.nts_trying.specs.Found.{Found}
 use Rattle.nts_evaluation.specs.Deciding.{IsQueryDecided, IsOwnSettled, CanDecide, IsBelow, IsAsBefore, Decides, IsYes, IsYesUnchanged, IsOwnYes, IsRoundDecided, IsRootQuery, AreRootValues, CandidatesSettled, IsSettled, GoalsSettled, IsQueryAtFirst, IsFactHere, IsPlainCandidate, ArePlainCandidates, IsOverIfSilent, IsFactForm, IsRoundYes}
 use Rattle.nts_decisions.specs.Deciding.{IsGoalDecided}
 use Rattle.nts_trying.specs.Stopping.{StopsIn}
+use Rattle.nts_trying.specs.Subtyping.{AreVariablesIn, AreSubtypesBy, SubtypesTold, SubtypesRefuted, IsJoinedAnswer}
+use Rattle.nts_trying.specs.declared.subtypes.TypePair.{TypePair}
 use Rattle.nts_trying.specs.Stepping.{ArePosed, AreLeft, AreSettled, terms_of, bound_of}
 use Rattle.nts_trying.specs.declared.steps.AvailableDepth.{AvailableDepth}
 use Rattle.nts_meaning.specs.Evaluation.{Runs, asked_terms}
@@ -185,6 +187,16 @@ pub record AnswersOwn (R : Rules) (a b : Cx) (g h : SearchGraph) (t : Table) (go
   pub refuted : WhereTold R a g (λ m. r ≡ Err error.NoSolution → OwnRefuted m t.mode a.nodes t goal)
   -- what the handler affirms or denies is answered so, and where the one way of the goal is decided, the goal is answered as it is
   pub decided : AnswersDecided R a g h depth (λ m n b. IsOwnSettled m t.mode n a.nodes t goal b) r (λ x. IsYes x.value.value.certainty)
+
+-- a goal that one type is a subtype of another is answered
+pub record AnswersSubtype (R : Rules) (a b : Cx) (g h : SearchGraph) (t : Table) (goal : Goal) (p : TypePair) (values : List GenericArg) (r : Result (Box (Canonical Response)) EvalError) : Type 0 where
+  pub grows : Grows a b
+  pub searches : Searches a b g h
+  pub found : IfAnswered r (Found (λ c v. Always R a (λ s. AreSubtypesBy (meaning_since R.handler s) (mode_of t.mode) (assumed_in b.nodes h) (content_of c v.entries) (tree_at a.nodes goal.param_env.node) (tree_at a.nodes p.sub.node) (tree_at a.nodes p.sup.node))) a.nodes b.nodes t goal values)
+  pub told : WhereTold R a g (λ m. IfAnswered r (λ x. SubtypesTold m (mode_of t.mode) (content_of a.nodes t.entries) (tree_at a.nodes goal.param_env.node) (tree_at a.nodes goal.predicate.node) (trees_of a.nodes values) (verdict_at b.nodes x)))
+  pub refuted : WhereTold R a g (λ m. r ≡ Err error.NoSolution → SubtypesRefuted m (mode_of t.mode) (content_of a.nodes t.entries) (tree_at a.nodes goal.param_env.node) (tree_at a.nodes goal.predicate.node))
+  -- two type variables are of one sub-unification class then, and nothing else is said of them
+  pub joined : (n m : ℕ) → AreVariablesIn a.nodes t p n m → IsCutIn (mode_of t.mode) → IfAnswered r (IsJoinedAnswer a.nodes b.nodes t (trees_of a.nodes values) n m)
 
 -- .. by candidates: what is proved where the answer is certain; what is told and refuted of them; how they fare where the goal is
 -- decided; and what is so where one of them decides it, which has no goals

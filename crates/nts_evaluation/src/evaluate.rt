@@ -8,9 +8,10 @@ ghost use Rattle.nts_trying.specs.Stepping.{ArePosed, bound_of};
 ghost use Rattle.nts_meaning.specs.Answering.{IsQueryInput};
 ghost use Rattle.nts_meaning.specs.Evaluation.{IsPosed, NormalizesNone};
 ghost use Rattle.nts_trying.specs.Owning.{IsOwnGoal};
+ghost use Rattle.nts_trying.specs.Subtyping.{IsSubtypeGoal};
 ghost use Rattle.nts_table.specs.Tables.{IsTable};
 ghost use Rattle.nts_meaning.specs.Meant.{rules_of};
-ghost use Rattle.nts_evaluation.specs.Promises.{AnswersQuery, AsksGoal, AsksAdded, EndsRound, AnswersGoal, AnswersOwn, TriesEach, TriesOne, RunsOne, StepsGoals, StepsOnce};
+ghost use Rattle.nts_evaluation.specs.Promises.{AnswersQuery, AsksGoal, AsksAdded, EndsRound, AnswersGoal, AnswersOwn, AnswersSubtype, TriesEach, TriesOne, RunsOne, StepsGoals, StepsOnce};
 
 use nts_asking::{
     answer_cycle, apply_answer, boxed_query, end_round, first_round, keeps_constraints,
@@ -26,9 +27,9 @@ use nts_store::EvalError;
 use nts_table::InferCtxt;
 use nts_terms::{Cx, GenericArg, Goal};
 use nts_trying::{
-    AvailableDepth, GoalRow, Judged, OwnGoal, Step, Trial, answer_outlives, answer_subtype,
-    check_leaks, enter_forall, equate, fast_answer, goal_kind, goal_row, judge, keep_response,
-    merge_responses, record_constraints,
+    AvailableDepth, GoalRow, Judged, OwnGoal, Step, Trial, TypePair, answer_outlives, check_leaks,
+    enter_forall, equate, fast_answer, goal_kind, goal_row, judge, keep_response, merge_responses,
+    record_constraints, relate_types, relevant_candidates,
 };
 
 /// Evaluates a goal in a query of its own: its leaves give place to positions, the search answers the query, and the response is
@@ -178,11 +179,15 @@ fn compute_goal<H: GoalHandler>(
             return response;
         }
         GoalRow::Subtype(opened, types) => {
-            return answer_subtype(table, cx, opened, types, values);
+            let response = evaluate_subtype(
+                table, cx, handler, graph, opened, types, values, depth,
+            );
+            cx.terms_are_formed();
+            return response;
         }
         GoalRow::Candidates(opened) => opened,
     };
-    let candidates = handler.relevant_candidates(cx, table.typing_mode(), opened)?;
+    let candidates = relevant_candidates(cx, handler, table.typing_mode(), opened)?;
     let response = evaluate_candidates(
         table,
         cx,
@@ -200,6 +205,7 @@ fn compute_goal<H: GoalHandler>(
 /// Answers a goal of the engine's own kinds: at once, by what is known of it, or by the one way in which it may hold. The table is
 /// as before.
 #[cycle(evaluate)]
+#[inline(never)]
 fn evaluate_own<H: GoalHandler>(
     table: &mut InferCtxt,
     cx: &mut Cx,
@@ -236,6 +242,56 @@ fn evaluate_own<H: GoalHandler>(
             response
         }
     }
+}
+
+/// Answers a goal that one type is a subtype of another: relates the two, asks the goals that this leaves, and answers what was found
+/// out. Where the goal is in doubt as it is, nothing is asked.
+#[cycle(evaluate)]
+#[inline(never)]
+fn evaluate_subtype<H: GoalHandler>(
+    table: &mut InferCtxt,
+    cx: &mut Cx,
+    handler: &H,
+    graph: &mut SearchGraph,
+    goal: Goal,
+    types: TypePair,
+    values: &[GenericArg],
+    depth: usize,
+) -> Result<Box<CanonicalResponse>, EvalError>
+    requires posed { IsPosed cx.old.nodes table.old goal }
+    requires types { IsSubtypeGoal cx.old.nodes goal types }
+    requires ready { H.ready cx.old.nodes handler.now }
+    requires values { All (IsArgOf cx.old.nodes table.old.entries) values.now }
+    requires search { IsSearch cx.old graph.old (depth) }
+    ensures { AnswersSubtype (rules_of H.ready H.handler handler.now) cx.old cx.new graph.old
+        graph.new table.old goal types values.now result }
+{
+    let snapshot = table.start_snapshot()?;
+    let left = relate_types(table, cx, goal, types)?;
+    cx.terms_are_formed();
+    let Some(mut goals) = left else {
+        let doubt = boxed_response(table, cx, values, Certainty::AMBIGUOUS)?;
+        return Ok(doubt);
+    };
+    let mut last_steps = 0;
+    let certainty = try_evaluate_goals(
+        table,
+        cx,
+        handler,
+        graph,
+        &mut goals,
+        CurrentGoalKind::Misc,
+        AvailableDepth::Below(depth),
+        &mut last_steps,
+    )?;
+    cx.terms_are_formed();
+    if keeps_constraints(certainty) {
+        let response = boxed_response(table, cx, values, certainty)?;
+        return Ok(response);
+    }
+    table.rollback_to(snapshot);
+    let response = boxed_response(table, cx, values, certainty)?;
+    Ok(response)
 }
 
 /// Asks each candidate to its end. Those that fail are dropped, and one response stands for those of the others; where none does,

@@ -61,6 +61,8 @@ pub enum Asked {
     Goal(Wanted, Answer),
     /// Two variables of types come into one sub-unification class.
     Joins(usize, usize),
+    /// The sub-unification class of the first variable has the second one as its root.
+    SubRoot(usize, usize),
     /// The first term, with values and roots in place of its variables, is the second one.
     Resolves(Name, Name),
     /// The term's value is a constructor over arguments.
@@ -115,6 +117,7 @@ fn ask<H: GoalHandler>(
             ask_goal(table, cx, handler, goal, kept, answer)
         }
         Asked::Joins(a, b) => joins(table, cx, *a, *b),
+        Asked::SubRoot(a, root) => Ok(has_sub_root(table, cx, *a, *root)),
         Asked::Resolves(x, y) => resolves(table, cx, names, x, y),
         Asked::Constructs(x) => constructs(table, cx, names, x),
         Asked::Variables(count) => Ok(table.variable_count() == *count),
@@ -360,6 +363,12 @@ fn joins(table: &mut InferCtxt, cx: &Cx, a: usize, b: usize) -> Result<bool, Eva
     }
     table.sub_unify_ty_vids_raw(a, b)?;
     Ok(true)
+}
+
+fn has_sub_root(table: &InferCtxt, cx: &Cx, a: usize, root: usize) -> bool
+    requires { IsTable cx.now.nodes table.now }
+{
+    a < table.variable_count() && table.sub_unification_table_root_var(a) == root
 }
 
 /// A term with values and roots in place of its variables.

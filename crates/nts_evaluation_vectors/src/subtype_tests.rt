@@ -1,6 +1,6 @@
-//! Goals that one type is a subtype of another, or can be coerced to it: what is recorded, what is refused, and what is left in doubt.
+//! Goals that one type is a subtype of another, or can be coerced to it: what is recorded, what is asked, refused, and left in doubt.
 use crate::asking::Answer::{Is, Refused};
-use crate::asking::Asked::{self, Constraints, Constructs, Goal, Resolves};
+use crate::asking::Asked::{self, Constraints, Constructs, Goal, Resolves, SubRoot, Variables};
 use crate::asking::DOUBT;
 use crate::asking::Wanted::{Coerce, Subtype};
 use crate::steps::Given::Let;
@@ -59,16 +59,86 @@ fn a_variable_becomes_a_subtype(rt: HostRuntime) {
     plays(&rt, rt.alloc(), TypingMode::PostAnalysis, REFERENCES, PARTS);
 }
 
-/// Goals that are left of two types aren't asked yet: of two variables, and of an alias.
+/// Of two type variables nothing is known. They are of one sub-unification class then, and still two variables.
 #[test]
-fn what_is_left_of_two_types_is_in_doubt(rt: HostRuntime) {
+fn two_variables_are_joined(rt: HostRuntime) {
     const ASKED: &[Asked] = &[
+        SubRoot(1, 1),
+        SubRoot(2, 2),
+        Goal(Subtype("x", "x"), Is(DOUBT, HasChanged::No)),
+        SubRoot(2, 2),
         Goal(Subtype("x", "y"), Is(DOUBT, HasChanged::No)),
-        Goal(Subtype("alias", "byte"), Is(DOUBT, HasChanged::No)),
+        SubRoot(1, 1),
+        SubRoot(2, 1),
+        Resolves("x", "x"),
+        Resolves("y", "y"),
         Constraints(0),
     ];
     const PARTS: &[Part] = &[Part(By::Clauses, &[], ASKED)];
     plays(&rt, rt.alloc(), TypingMode::PostAnalysis, REFERENCES, PARTS);
+}
+
+const PAIRS: &[Given] = &[
+    Let("static", Make::Region(RegionKind::ReStatic)),
+    Let("x", Make::Var(VariableKind::Ty)),
+    Let("y", Make::Var(VariableKind::Ty)),
+    Let("byte", BYTE),
+    Let("word", WORD),
+    Let("long", Make::Reference("static", "byte")),
+    Let("wide", Make::Reference("static", "word")),
+    Let("alias", Make::AliasOf("byte")),
+    Let("some", Make::Wrap("x")),
+    Let("other", Make::Wrap("y")),
+    Let("twice", Make::Pair("x", "x")),
+    Let("open", Make::Pair("y", "long")),
+    Let("left", Make::Pair("twice", "y")),
+    Let("right", Make::Pair("open", "wide")),
+];
+
+/// Relating pairs leaves the goal that one variable is a subtype of the other. It is asked when the second parts have told what the
+/// one is, and tells what the other is.
+#[test]
+fn what_is_left_of_two_types_is_asked(rt: HostRuntime) {
+    const ASKED: &[Asked] = &[
+        Goal(Subtype("twice", "open"), Is(YES, HasChanged::Yes)),
+        Constructs("x"),
+        Constructs("y"),
+        Goal(Subtype("twice", "open"), Is(YES, HasChanged::No)),
+    ];
+    const PARTS: &[Part] = &[Part(By::Clauses, &[], ASKED)];
+    plays(&rt, rt.alloc(), TypingMode::PostAnalysis, PAIRS, PARTS);
+}
+
+/// Types of which a goal is left that has no solution are not related, and the table is as before.
+#[test]
+fn what_is_left_of_two_types_is_refused(rt: HostRuntime) {
+    const ASKED: &[Asked] = &[
+        Goal(Subtype("left", "right"), Refused),
+        Resolves("x", "x"),
+        Resolves("y", "y"),
+        SubRoot(0, 0),
+        SubRoot(1, 1),
+        Constraints(0),
+        Variables(2),
+    ];
+    const PARTS: &[Part] = &[Part(By::Clauses, &[], ASKED)];
+    plays(&rt, rt.alloc(), TypingMode::PostAnalysis, PAIRS, PARTS);
+}
+
+/// What is left of two types is in doubt where it is of two variables. A type with an alias isn't related yet.
+#[test]
+fn what_is_left_of_two_types_is_in_doubt(rt: HostRuntime) {
+    const ASKED: &[Asked] = &[
+        Goal(Subtype("some", "other"), Is(DOUBT, HasChanged::No)),
+        SubRoot(0, 0),
+        SubRoot(1, 0),
+        Resolves("x", "x"),
+        Resolves("y", "y"),
+        Goal(Subtype("alias", "byte"), Is(DOUBT, HasChanged::No)),
+        Constraints(0),
+    ];
+    const PARTS: &[Part] = &[Part(By::Clauses, &[], ASKED)];
+    plays(&rt, rt.alloc(), TypingMode::PostAnalysis, PAIRS, PARTS);
 }
 
 /// In coherence two types are not related.

@@ -15,8 +15,11 @@ pub mod Instances
 pub mod Unasked
 pub mod Outliving
 pub mod SubtypeGoals
+mod AnsweredTypes
+pub mod JoinedTypes
 pub mod RelatedTypes
 pub mod Owning
 pub mod Judging
 mod OutlivesExamples
 mod OwningExamples
+mod SubtypeExamples

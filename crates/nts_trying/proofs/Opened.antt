@@ -47,22 +47,21 @@ use Rattle.nts_meaning.specs.Meant.{IsServed, offers_of, IsTold, IsRefuted, Cand
 use Rattle.nts_meaning.proofs.Evaluating.{Knows-goes, offers-kept}
 use Rattle.nts_meaning.proofs.Running.{term_table}
 use Rattle.nts_meaning.specs.Telling.{Ruling, Outcomes, Replies, Fails}
-use Rattle.nts_theory.specs.Telling.{IsCutIn, IsPlainResponse, Verdict, IsReady, IsTraitGoal, StandsForAll, SaysRecorded, IsTermTable, IsResponseOf, IsOwnWayIn}
+use Rattle.nts_theory.specs.Telling.{IsPlainResponse, Verdict, IsReady, IsTraitGoal, StandsForAll, SaysRecorded, IsTermTable, IsResponseOf, IsOwnWayIn}
 use Rattle.nts_theory.specs.Affirming.{SaysAffirmed, IsDenied, HasOwnWay}
 use Rattle.nts_theory.proofs.Aliases.ByEngine.{IsClosedThere, affirmed_proved}
 use Rattle.nts_theory.proofs.Aliases.ByOwnWay.{own_way_proved}
 use Rattle.nts_model.specs.Tables.Levels.{IsLevelled, AreRegionsLevelled}
 use Rattle.nts_model.specs.Derivations.Proving.{IsTermOf}
 use Rattle.nts_theory.specs.Telling.Tells.{tells_nothing, tells_one, tells_outlives, tells_affirmed, tells_own, tells_subtype}
-use Rattle.nts_theory.specs.Telling.Reaches.{asks_nothing}
 use Rattle.nts_theory.specs.Outliving.{IsOutlives}
-use Rattle.nts_trying.specs.Subtyping.{IsSubtypeGoal, AreSubtypesIn, SaysSubtypes, SubtypesTold}
+use Rattle.nts_trying.specs.Subtyping.{IsSubtypeGoal, AreSubtypesBy, SaysSubtypes, SubtypesTold, SubtypesStop, SubtypesRefuted}
 use Rattle.nts_trying.specs.declared.subtypes.TypePair.{TypePair}
 use Rattle.nts_trying.proofs.SubtypeGoals.{subtyping_proved}
 use Rattle.nts_trying.specs.Outliving.{IsClosedEnv, IsOutlivesGoal, constraint_at, HoldsIn}
 use Rattle.nts_trying.specs.declared.outlives.Outlives.{Outlives}
 use Rattle.nts_trying.proofs.Outliving.{outlives_proved}
-use Rattle.nts_theory.specs.Telling.Refutes.{all_fail, is_denied, own_fails, is_no_subtype}
+use Rattle.nts_theory.specs.Telling.Refutes.{all_fail, is_denied, own_fails, is_no_subtype, subtype_refused}
 use Rattle.nts_theory.specs.Subtyping.{IsSubtyping, IsNoSubtype}
 use Rattle.nts_meaning.specs.Answering.{is_yes, verdict_at}
 use Rattle.nts_model.specs.Answers.Applying.{IsProperContent}
@@ -314,33 +313,44 @@ module _ {a b : List Tree} {t u : Table} {g o : Goal} (posed : IsPosed a t g) (o
   pub own_refuted : IsPosed b u o → AreFormed b → (h : Ruling) (mode : TypingMode) (qs : List GenericArg) (x : Candidate) → HasOwnWay (let m = h.handler in m.judges) (tree_at b o.param_env.node) (tree_at b o.predicate.node) x → Fails h (mode_of mode) there x → IsRefuted h mode a t g qs
   own_refuted p formed h mode qs x way fails = own_fails x (way_there h.handler x p formed way) (subst (λ z. Fails h (mode_of mode) z x) opens.table fails)
 
-  -- where the types of the opened goal are related under the table, the goal is proved
-  pub subtype_through : (m : Meaning) (mode : Mode) (A : List Assumed) {d : List Tree} {v : Table} (p : TypePair) → IsPosed b u o → IsSubtypeGoal b o p → Goes b d u v → Continues before (content_of d v.entries) → AreFormed d → AreSubtypesIn m.variances b p d v
-      → IsProvedFrom m mode A (content_of d v.entries) (tree_at d g.param_env.node) (tree_at d g.predicate.node)
+  -- where one type of the opened goal is a subtype of the other under the table, the goal is proved
+  pub subtype_through : (m : Meaning) (mode : Mode) (A : List Assumed) {d : List Tree} {v : Table} (p : TypePair) → IsPosed b u o → IsSubtypeGoal b o p → Goes b d u v → Continues before (content_of d v.entries) → AreFormed d
+      → AreSubtypesBy m mode A (content_of d v.entries) (tree_at b o.param_env.node) (tree_at b p.sub.node) (tree_at b p.sup.node) → IsProvedFrom m mode A (content_of d v.entries) (tree_at d g.param_env.node) (tree_at d g.predicate.node)
   subtype_through m mode A {d} {v} p there_posed says goes later formed held =
       let t = through there_posed goes later formed in
       let terms = t.terms in
       let is = says.is in
       of_goal m mode A t
       (subtyping_proved m mode A (content_of d v.entries) terms.sound terms.values terms.constraints before (tree_at a g.param_env.node) (tree_at a g.predicate.node) (tree_at b p.sub.node) (tree_at b p.sup.node) posed.table.now.proper.current later t.levelled t.regions t.env_before t.goal_before t.env_now t.goal_now t.opened_now
-      (closed_there is.environment) opens.closed (subst (λ z. IsSubtyping z (tree_at b p.sub.node) (tree_at b p.sup.node)) opens.predicate is.says) held)
+      (closed_there is.environment) opens.closed (subst (λ z. IsSubtyping z (tree_at b p.sub.node) (tree_at b p.sup.node)) opens.predicate is.says)
+      (subst (λ z. AreSubtypesBy m mode A (content_of d v.entries) z (tree_at b p.sub.node) (tree_at b p.sup.node)) environment_same held))
 
   -- .. and what it is told and refuted by
+  abbrev Reading : (Content → Tree → Tree → Type 0) → Type 0
+  Reading P = P there (tree_at b o.param_env.node) (tree_at b o.predicate.node)
+
+  through_opening : (P : Content → Tree → Tree → Type 0) → Reading P → P (entered_table before (tree_at a g.predicate.node)) (tree_at a g.param_env.node) (opened_in before (tree_at a g.predicate.node))
+  through_opening P x =
+      let two : P there (tree_at a g.param_env.node) (tree_at b o.predicate.node) = subst (λ z. P there z (tree_at b o.predicate.node)) environment_same x in
+      let three : P there (tree_at a g.param_env.node) (opened_in before (tree_at a g.predicate.node)) = subst (λ z. P there (tree_at a g.param_env.node) z) opens.predicate two in
+      subst (λ z. P z (tree_at a g.param_env.node) (opened_in before (tree_at a g.predicate.node))) opens.table three
+
   pub subtype_told : (h : Ruling) (mode : TypingMode) (qs : List GenericArg) (e : List Tree) (r : Canonical Response) → trees_of b qs ≡ trees_of a qs
-      → SubtypesTold h.variances (mode_of mode) there (tree_at b o.param_env.node) (tree_at b o.predicate.node) (trees_of b qs) (verdict_at e r) → IsTold h mode a t g qs e r
+      → SubtypesTold h (mode_of mode) there (tree_at b o.param_env.node) (tree_at b o.predicate.node) (trees_of b qs) (verdict_at e r) → IsTold h mode a t g qs e r
   subtype_told h mode qs e r same (inl x) ks =
-      let says = SaysSubtypes h.variances (mode_of mode) in
       let v = verdict_at e r in
-      let one : says there (tree_at b o.param_env.node) (tree_at b o.predicate.node) (trees_of a qs) v = subst (λ z. says there (tree_at b o.param_env.node) (tree_at b o.predicate.node) z v) same x in
-      let two : says there (tree_at a g.param_env.node) (tree_at b o.predicate.node) (trees_of a qs) v = subst (λ z. says there z (tree_at b o.predicate.node) (trees_of a qs) v) environment_same one in
-      let three : says there (tree_at a g.param_env.node) (opened_in before (tree_at a g.predicate.node)) (trees_of a qs) v = subst (λ z. says there (tree_at a g.param_env.node) z (trees_of a qs) v) opens.predicate two in
-      let y : says (entered_table before (tree_at a g.predicate.node)) (tree_at a g.param_env.node) (opened_in before (tree_at a g.predicate.node)) (trees_of a qs) v = subst (λ z. says z (tree_at a g.param_env.node) (opened_in before (tree_at a g.predicate.node)) (trees_of a qs) v) opens.table three in
-      tells_subtype y.left y.met y.met y.outside y.leaves asks_nothing y.is_found y.says
+      let one = subst (λ z. Reading (λ c i j. SaysSubtypes h (mode_of mode) c i j z v)) same x in
+      let y = through_opening (λ c i j. SaysSubtypes h (mode_of mode) c i j (trees_of a qs) v) one in
+      let w = y.reached in
+      tells_subtype w.left w.met y.found w.outside w.leaves w.reaches y.is_found y.says
   subtype_told h mode qs e r same (inr (unsure, plain)) ks = nothing_through h mode qs e r same unsure plain ks
 
-  pub subtype_refuted : (h : Ruling) (mode : TypingMode) (qs : List GenericArg) → IsCutIn (mode_of mode) → IsNoSubtype h.variances there (tree_at b o.predicate.node) → IsRefuted h mode a t g qs
-  subtype_refuted h mode qs outside none =
-      is_no_subtype outside (subst (λ z. IsNoSubtype h.variances z (opened_in before (tree_at a g.predicate.node))) opens.table (subst (λ z. IsNoSubtype h.variances there z) opens.predicate none))
+  pub subtype_refuted : (h : Ruling) (mode : TypingMode) (qs : List GenericArg) → SubtypesRefuted h (mode_of mode) there (tree_at b o.param_env.node) (tree_at b o.predicate.node) → IsRefuted h mode a t g qs
+  subtype_refuted h mode qs (outside, inl none) =
+      is_no_subtype outside (through_opening (λ c e p. IsNoSubtype h.variances c p) none)
+  subtype_refuted h mode qs (outside, inr stop) =
+      let x = through_opening (λ c e p. SubtypesStop h (mode_of mode) c e p) stop in
+      subtype_refused x.left x.met outside x.leaves x.refused
 
 -- an opened goal in a store that has grown
 pub opened_later : {a b d : List Tree} {t u : Table} {g o : Goal} → Extends b d → IsTable b u → HoldsGoal b o → IsOpenedTo a b t u g o → IsOpenedTo a d t u g o

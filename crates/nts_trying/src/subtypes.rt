@@ -1,32 +1,29 @@
 //! Goals that say that one type is a subtype of another, or can be coerced to it.
-ghost use Rattle.std.specs.Prelude.{◌≡◌, Err, All, IfOk, IfSome, IsNone, OnOk, List};
+ghost use Rattle.std.specs.Prelude.{◌≡◌, ◌≢◌, Err, IfOk, IfSome, IsNone, IsOkUnless, List};
 ghost use Rattle.nts_model.specs.Terms.Trees.{Tree};
+ghost use Rattle.nts_model.specs.Tables.Resolving.{Knows};
 ghost use Rattle.nts_store.specs.Growth.{tree_at};
 ghost use Rattle.nts_terms.specs.Kinds.{StatementFits, tree_of_statement};
-ghost use Rattle.nts_terms.specs.Handles.{HoldsGoal};
+ghost use Rattle.nts_terms.specs.Handles.{HoldsGoal, HoldsTy};
 ghost use Rattle.nts_terms.specs.Modes.{mode_of};
 ghost use Rattle.nts_terms.specs.Rest.{Grows};
 ghost use Rattle.nts_terms.specs.Signatures.{variances_in};
-ghost use Rattle.nts_canonical.specs.Building.{IsArgOf};
-ghost use Rattle.nts_canonical.specs.Forms.{trees_of};
 ghost use Rattle.nts_unify.specs.Reading.{content_of};
+ghost use Rattle.nts_table.specs.Tables.{IsTable};
 ghost use Rattle.nts_theory.specs.Subtyping.{SaysSubtype, IsNoSubtype};
 ghost use Rattle.nts_theory.specs.Telling.{IsCutIn};
-ghost use Rattle.nts_meaning.specs.Answering.{IfAnswered, verdict_at};
-ghost use Rattle.nts_meaning.specs.Evaluation.{IsPosed};
-ghost use Rattle.nts_trying.specs.Found.{Found};
-ghost use Rattle.nts_trying.specs.Subtyping.{AreTypesIn, SaysTypes, IsSubtypeGoal, AreSubtypesIn, SubtypesTold};
+ghost use Rattle.nts_meaning.specs.Evaluation.{Runs, IsPosed};
+ghost use Rattle.nts_trying.specs.Subtyping.{AreTypesIn, SaysTypes, IsSubtypeGoal, IsTypeVariable, AreTypeVariables, with_source, RelatesTypes, JoinsTypes, AreLeftOfTypes};
 
 use crate::candidate::NO_PLACE;
 use crate::outlives::is_closed_env;
-use nts_certainty::Certainty;
-use nts_meaning::boxed_response;
+use nts_certainty::GoalSource;
 use nts_model::Variance;
-use nts_response::CanonicalResponse;
 use nts_solver_relating::RelateExt;
-use nts_store::EvalError;
+use nts_store::{EvalError, Fault};
 use nts_table::InferCtxt;
-use nts_terms::{Cx, GenericArg, Goal, PredicateKind, Ty, TypingMode};
+use nts_terms::{Cx, Goal, InferTy, PredicateKind, Ty, TyKind, TypingMode};
+use std::alloc::{AllocError, Global};
 
 /// Two types, of which the first is said to be a subtype of the second, or to be coerced to it.
 #[derive(Clone, Copy)]
@@ -78,43 +75,124 @@ pub fn types_in(cx: &Cx, goal: Goal) -> Option<TypePair>
     Some(types)
 }
 
-/// Relates the types of a goal, and answers yes with all that the table knows then, where no goal is left of them. Where goals are
-/// left, and in coherence, it is ambiguous.
-#[inline(never)]
-pub fn answer_subtype(
+/// The number of a type variable, if the type is one.
+fn variable_of(cx: &Cx, ty: Ty) -> Option<usize>
+    requires { HoldsTy cx.now.nodes ty }
+    ensures { IsTypeVariable (tree_at cx.now.nodes ty.node) result }
+{
+    match ty.kind(cx) {
+        TyKind::Infer(InferTy::TyVar(n)) => Some(n),
+        _ => None,
+    }
+}
+
+/// The numbers of two type variables, if the types are such as the table knows them.
+fn variables_of(
+    table: &InferCtxt,
+    cx: &mut Cx,
+    types: TypePair,
+) -> Result<Option<(usize, usize)>, Fault>
+    requires table { IsTable cx.old.nodes table.now }
+    requires types { AreTypesIn cx.old.nodes types }
+    requires sub { Knows (content_of cx.old.nodes table.now.entries)
+        (tree_at cx.old.nodes types.sub.node) }
+    requires sup { Knows (content_of cx.old.nodes table.now.entries)
+        (tree_at cx.old.nodes types.sup.node) }
+    ensures variables { IfOk result (AreTypeVariables (content_of cx.old.nodes table.now.entries)
+        (tree_at cx.old.nodes types.sub.node) (tree_at cx.old.nodes types.sup.node)) }
+    ensures grows { Grows cx.old cx.new }
+    ensures memory { IsOkUnless result Fault.Memory }
+{
+    let sub = table.shallow_resolve(cx, types.sub)?;
+    let sup = table.shallow_resolve(cx, types.sup)?;
+    let Some(a) = variable_of(cx, sub) else {
+        return Ok(None);
+    };
+    let Some(b) = variable_of(cx, sup) else {
+        return Ok(None);
+    };
+    Ok(Some((a, b)))
+}
+
+/// Goals that relating left, each with the source that tells so.
+fn relating_goals(alloc: Global, goals: &[Goal]) -> Result<Vec<(GoalSource, Goal)>, AllocError>
+    ensures { IfOk result (λ v. v.items ≡ with_source goals.now) }
+{
+    let mut left = Vec::with_capacity(alloc, goals.len())?;
+    for goal in goals {
+        left.push((GoalSource::TypeRelating, *goal))?;
+    }
+    Ok(left)
+}
+
+/// Relates two types in the table so that the first is a subtype of the second, and answers the goals that this leaves.
+fn relate_pair(
     table: &mut InferCtxt,
     cx: &mut Cx,
     goal: Goal,
     types: TypePair,
-    values: &[GenericArg],
-) -> Result<Box<CanonicalResponse>, EvalError>
+) -> Result<Vec<(GoalSource, Goal)>, EvalError>
     requires posed { IsPosed cx.old.nodes table.old goal }
     requires types { IsSubtypeGoal cx.old.nodes goal types }
-    requires values { All (IsArgOf cx.old.nodes table.old.entries) values.now }
-    ensures grows { Grows cx.old cx.new }
-    ensures found { IfAnswered result (Found (AreSubtypesIn (variances_in cx.old.declarations)
-        cx.old.nodes types) cx.old.nodes cx.new.nodes table.old goal values.now) }
-    ensures told { IfAnswered result (λ r. SubtypesTold (variances_in cx.old.declarations)
-        (mode_of table.old.mode) (content_of cx.old.nodes table.old.entries)
-        (tree_at cx.old.nodes goal.param_env.node) (tree_at cx.old.nodes goal.predicate.node)
-        (trees_of cx.old.nodes values.now) (verdict_at cx.new.nodes r)) }
+    ensures runs { Runs cx.old cx.new table.old table.new }
+    ensures relates { IfOk result (λ gs. RelatesTypes cx.old cx.new table.old table.new goal types
+        gs.items) }
+    ensures no { result ≡ Err EvalError.NoSolution → IsNoSubtype
+        (variances_in cx.old.declarations) (content_of cx.old.nodes table.old.entries)
+        (tree_at cx.old.nodes goal.predicate.node) }
+    ensures full { result ≢ Err EvalError.Full }
+{
+    let env = goal.param_env;
+    let left = table.relate(cx, env, types.sub, Variance::Covariant, types.sup, NO_PLACE)?;
+    let goals = relating_goals(cx.alloc, &left)?;
+    Ok(goals)
+}
+
+/// Makes one sub-unification class of the types of a goal, if both are type variables. Or it answers that they are not.
+fn join_variables(
+    table: &mut InferCtxt,
+    cx: &mut Cx,
+    goal: Goal,
+    types: TypePair,
+) -> Result<bool, Fault>
+    requires posed { IsPosed cx.old.nodes table.old goal }
+    requires types { IsSubtypeGoal cx.old.nodes goal types }
+    ensures runs { Runs cx.old cx.new table.old table.new }
+    ensures joins { IfOk result (JoinsTypes cx.old cx.new table.old table.new types) }
+    ensures memory { IsOkUnless result Fault.Memory }
+{
+    let Some((a, b)) = variables_of(table, cx, types)? else {
+        return Ok(false);
+    };
+    table.sub_unify_ty_vids_raw(a, b)?;
+    Ok(true)
+}
+
+/// Relates the types of a goal in its table, so that the first is a subtype of the second, and answers the goals that this leaves:
+/// the goal holds where they do. It answers nothing where the goal is in doubt as it is: of two type variables, of which it makes
+/// one sub-unification class, and in coherence, where it does nothing.
+#[inline(never)]
+pub fn relate_types(
+    table: &mut InferCtxt,
+    cx: &mut Cx,
+    goal: Goal,
+    types: TypePair,
+) -> Result<Option<Vec<(GoalSource, Goal)>>, EvalError>
+    requires posed { IsPosed cx.old.nodes table.old goal }
+    requires types { IsSubtypeGoal cx.old.nodes goal types }
+    ensures runs { Runs cx.old cx.new table.old table.new }
+    ensures left { IfOk result (AreLeftOfTypes cx.old cx.new table.old table.new goal types) }
     ensures no { result ≡ Err EvalError.NoSolution → IsCutIn (mode_of table.old.mode) × IsNoSubtype
         (variances_in cx.old.declarations) (content_of cx.old.nodes table.old.entries)
         (tree_at cx.old.nodes goal.predicate.node) }
+    ensures full { result ≢ Err EvalError.Full }
 {
-    cx.terms_are_formed();
     if matches!(table.typing_mode(), TypingMode::Coherence) {
-        let response = boxed_response(table, cx, values, Certainty::AMBIGUOUS)?;
-        return Ok(response);
+        return Ok(None);
     }
-    let env = goal.param_env;
-    let left = table.relate(cx, env, types.sub, Variance::Covariant, types.sup, NO_PLACE)?;
-    cx.terms_are_formed();
-    let certainty = if left.is_empty() {
-        Certainty::Yes
-    } else {
-        Certainty::AMBIGUOUS
-    };
-    let response = boxed_response(table, cx, values, certainty)?;
-    Ok(response)
+    if join_variables(table, cx, goal, types)? {
+        return Ok(None);
+    }
+    let goals = relate_pair(table, cx, goal, types)?;
+    Ok(Some(goals))
 }

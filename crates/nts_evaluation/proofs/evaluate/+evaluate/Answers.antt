@@ -1,72 +1,43 @@
-use Rattle.std.proofs.Common.{◌≡◌, inl, inr, ⊎_elim, Err, Ok, arith, rules, ◌+◌, ◌≤◌, map, length, take, get_or, refl, ap, sym, ◌∙◌, subst, length-append, [], ◌∷◌, true, false, ◌++◌}
-use Rattle.std.specs.Prelude.{is_some, IfSome}
-use Rattle.std.proofs.lemmas.List.{take_all, take_more}
-use Rattle.nts_model.specs.Lists.{Among}
+use Rattle.std.proofs.Common.{◌≡◌, inl, inr, ⊎_elim, Err, arith, rules, ◌+◌, ◌≤◌, length, refl, ap, ◌∙◌, subst, length-append, [], ◌∷◌, true, false}
+use Rattle.std.specs.Prelude.{is_some}
+use Rattle.std.proofs.lemmas.List.{take_all}
 use Rattle.nts_model.specs.Derivations.Handlers.{meaning}
-use Rattle.nts_model.proofs.Tables.Bringing.{only-trans, only-refl}
-use Rattle.nts_certainty.specs.declared.sources.GoalSource.{GoalSource}
-use Rattle.nts_store.specs.Growth.{tree_at, AllIn}
 use Rattle.nts_store.proofs.Growing.{Extends-trans, Extends-refl}
-use Rattle.nts_terms.specs.declared.handles.Goal.{Goal}
 use Rattle.nts_terms.specs.Modes.{mode_of}
 use Rattle.nts_terms.proofs.Moved.{KeepsRest-trans, KeepsRest-refl}
 use Rattle.nts_unify.specs.Reading.{content_of}
-use Rattle.nts_unify.specs.Lawful.{content_of-extended}
 use Rattle.nts_table.specs.TableLaws.{IsTable-extended}
-use Rattle.nts_candidates.specs.Offered.{certainty_of, candidate_of, premise_of, path_kind_of, candidates_of}
-use Rattle.nts_candidates.proofs.Results.{IfOk-map, OnOk-map}
+use Rattle.nts_candidates.specs.Offered.{path_kind_of}
+use Rattle.nts_candidates.proofs.Results.{IfOk-map}
 use Rattle.nts_canonical.specs.Building.{kinds_of}
-use Rattle.nts_canonical.specs.Forms.{trees_of, form_of}
+use Rattle.nts_canonical.specs.Forms.{trees_of}
 use Rattle.nts_response.specs.Forms.{response_at}
-use Rattle.nts_meaning.specs.Meant.{ruling_since, Since, meaning_since, IsProvedNow, IsNestedSince}
-use Rattle.nts_trying.specs.Stepping.{AreLeft, AreSettled, bound_of, none_left}
-use Rattle.nts_theory.specs.Telling.Reaches.{asks_nothing}
-use Rattle.nts_meaning.proofs.TraitsAsked.{IsAskedGoal-extended, kind_asked}
-use Rattle.nts_meaning.proofs.AskedGoals.{trees_kept, ok_both, ok_two, args_there, applicable, evaluates, evaluates_at, was_asked, asked_stays, asked_labels, query_cut, response_refused, ok_three}
-use Rattle.nts_meaning.proofs.Cuts.{cut_at_first}
-use Rattle.nts_meaning.proofs.AnsweredQueries.{first_entries, query_environment, query_predicate, args_later}
-use Rattle.nts_trying.proofs.Labels.{only_earlier, only_back, only_same, only_resolved, content_same}
-use Rattle.nts_meaning.proofs.Evaluating.{Goes-trans, Goes-extends, Runs-trans, Runs-extends, Runs-refl, rolled_back, Since-later, offers-kept, IsPosed-later, AreValues-later, IsCandidate-extended, candidate_at, goes-back, HoldsGoal-extended}
-use Rattle.nts_trying.proofs.Stepping.{among_get, posed_later, posed_left, only_one, only_left, reach_more, reach_still, after_error, stop_more, reach_step, stop_step, left_trans, settled_step, left_more, settled_proved, sure_more, left_refl}
-use Rattle.nts_meaning.proofs.Running.{term_table, unread, HasRun, has_run, both_sure, constraints-kept, offered_there, Equates-later, Constrains-later}
-use Rattle.nts_canonical.specs.declared.types.Canonical.{Canonical}
-use Rattle.nts_response.specs.declared.types.Response.{Response}
-use Rattle.nts_terms.specs.Handles.{HoldsGoal}
-use Rattle.nts_store.specs.Kept.{map-kept, AllIn-kept}
+use Rattle.nts_meaning.specs.Meant.{ruling_since, meaning_since}
+use Rattle.nts_meaning.proofs.AskedGoals.{trees_kept, ok_two, args_there, applicable, query_cut}
+use Rattle.nts_meaning.proofs.AnsweredQueries.{args_later}
+use Rattle.nts_trying.proofs.Labels.{only_same, content_same}
+use Rattle.nts_meaning.proofs.Evaluating.{Goes-trans, Runs-trans, Runs-extends, rolled_back, Since-later, IsPosed-later, AreValues-later, IsCandidate-extended, goes-back}
+use Rattle.nts_meaning.proofs.Running.{constraints-kept}
 use Rattle.nts_theory.specs.Telling.{IsPlainResponse, SaysNothing}
 use Rattle.nts_theory.specs.Telling.Tells.{tells_nothing, says_nothing}
 use Rattle.nts_theory.specs.Telling.Fails.{is_unmet}
-use Rattle.nts_trying.proofs.Opened.{told_through, told_offered, refuted_through, nothing_through, labels_through, labels_entered, proved_through, opened_holds, outlives_told, outlives_through, subtype_told, subtype_refuted, subtype_through}
+use Rattle.nts_trying.proofs.Opened.{nothing_through, labels_through, labels_entered, opened_holds, outlives_told, outlives_through}
 use Rattle.nts_decisions.proofs.OpenedStatements.{trait_outlives_nothing}
-use Rattle.nts_trying.proofs.Probed.{found_in, found_still, found_fits, found_derived, went_in, plain_of, doubtful, not_kept, says_found, says_before, run_replies}
-use Rattle.nts_trying.proofs.Outcomes.{found_earlier, founds_more, founds_with, outcomes_first, outcomes_more, found_merged, told_merged, failed_of}
-use Rattle.nts_trying.proofs.Ran.{added_is, added_only, ran_to, ran_refused, all_proved, all_posed, proved_all, ok_inside}
-use Rattle.nts_model.specs.Derivations.Rules.{goal_kind}
+use Rattle.nts_trying.proofs.Probed.{found_in, went_in, doubtful}
+use Rattle.nts_trying.proofs.Outcomes.{founds_with, found_merged, told_merged}
 use Rattle.nts_model.specs.Derivations.Proofs.{passed}
-use Rattle.nts_theory.proofs.Derivations.Assuming.{covers_passed}
-use Rattle.nts_search.specs.Kinds.{goal_kind_of}
-use Rattle.nts_search.specs.Searching.{entry_at, entries_at}
-use Rattle.nts_search.proofs.Stacked.{entries_pushed, entries_popped}
-use Rattle.nts_meaning.specs.Searching.{HeadsTell, IsAnswerTold, IsHeadAnswer, assumed_in}
-use Rattle.nts_meaning.proofs.Searching.{Searches-refl, Searches-trans, search_later, search_grown, search_grows, search_covers, covers_grown, stays_more, served_more, tell_grown, heads_tell_later, search_counted, search_marked, search_marked_again, input_stands, head_answer_later, answer_told_later, form_later, input_later, later_long, goal_cut_earlier}
+use Rattle.nts_meaning.specs.Searching.{assumed_in}
+use Rattle.nts_meaning.proofs.Searching.{Searches-refl, Searches-trans, search_later, search_grown, covers_grown, served_more, tell_grown, search_marked_again, input_stands, later_long}
 use Rattle.nts_search.specs.declared.stack.StackEntry.{StackEntry}
 use Rattle.nts_canonical.specs.declared.types.CanonicalInput.{CanonicalInput}
 use Rattle.nts_meaning.specs.Answering.{IsAnswerTo, is_yes}
-use Rattle.nts_model.specs.Searching.Stacks.{IsDerivedFrom, IsProvedFrom, assumptions}
-use Rattle.nts_trying.specs.Found.{Found}
-use Rattle.nts_model.specs.Answers.Responses.{answer_sequent}
-use Rattle.nts_meaning.proofs.Rounds.{search_noted, own_asked, own_form, entry_held, round_proved, round_told, grown, ran, search_then, entry_of, holds_answer, search_pushed, tell_pushed, search_same, search_popped, round_closes, last_fits, last_told, last_refuted, last_each, cycle_told, cycle_refuted, cycle_derived, first_fits, first_told, round_ends, ended_entry}
-use Rattle.nts_delegate.specs.Relevant.{LeavesOut}
-use Rattle.nts_trying.proofs.LeftOut.{all_outcomes, kept_offered}
-use Rattle.nts_meaning.specs.declared.round.Round.{Round}
-use Rattle.nts_certainty.specs.declared.sources.GoalSource.TheVariants as source
+use Rattle.nts_meaning.proofs.Rounds.{search_noted, entry_held, grown, ran, search_then, entry_of, search_same, cycle_told, cycle_refuted, cycle_derived}
 use Rattle.nts_store.specs.declared.fault.EvalError.TheVariants as EvalError
-use Rattle.nts_certainty.specs.declared.certainty.Certainty.TheVariants as certainty
 use Rattle.std.specs.Result.{is_err}
 use Rattle.std.proofs.lemmas.Result.{IfOk-from_err}
 use Rattle.nts_evaluation.proofs.Failing.{query_failed, goal_failed, try_failed}
 use Rattle.nts_evaluation.proofs.evaluate.+evaluate.Goals.{search-then-graph, search-else-graph}
-use Rattle.nts_evaluation.proofs.Deciding.{decides_fault, decides_error, decides_refused, decides_then, decides_grown, decides_later, same_search, then_same}
+use Rattle.nts_evaluation.proofs.Deciding.{decides_fault, decides_error, decides_refused, decides_then, decides_grown, same_search}
 use Rattle.nts_evaluation.proofs.DecidedCandidates.{all_merged, facts_merged}
 use Rattle.nts_meaning.proofs.Searching.{nothing_stands}
 use Rattle.nts_evaluation.proofs.FactQueries.{fact_query}
@@ -74,17 +45,17 @@ use Rattle.nts_evaluation.proofs.FactTrials.{fact_asked}
 use Rattle.nts_evaluation.proofs.DecidedTrials.{refused_no}
 use Rattle.nts_evaluation.proofs.DecidedGoals.{is_opened, is_asked_here, outlives_in, states_own, judged_not_region, way_states_own, way_not_region, sure_yes}
 use Rattle.nts_evaluation.proofs.DecidedRounds.{stands_high, as_query, marked_again}
-use Rattle.nts_evaluation.proofs.DecidedSteps.{IsStepSoFar, next_goal, at_end, step_decided}
-use Rattle.nts_trying.specs.Stepping.{left_after}
 use Rattle.nts_evaluation.proofs.evaluate.+evaluate.Goals as goal
 use Rattle.nts_evaluation.proofs.evaluate.+evaluate.Answers.Queries as queries
 use Rattle.nts_evaluation.proofs.evaluate.+evaluate.Answers.Candidates as candidates
 use Rattle.nts_evaluation.proofs.evaluate.+evaluate.Answers.Steps as steps
 use Rattle.nts_evaluation.proofs.evaluate.+evaluate.Answers.Own as own
+use Rattle.nts_evaluation.proofs.evaluate.+evaluate.Answers.Subtypes as subtypes
 mod Queries
 mod Candidates
 mod Steps
 mod Own
+mod Subtypes
 
 pub compute_goal-evaluate_candidates-response-requires : goal.compute_goal-evaluate_candidates-response-requires
 compute_goal-evaluate_candidates-response-requires = candidates.compute_goal-evaluate_candidates-response-requires
@@ -212,58 +183,50 @@ compute_goal-returns-in-Outlives g t c =
           absurd (trait_outlives_nothing _ _ (let z = asked.trait_goal in z.statement) (let z = says.is in z.says));
     }
 
-pub compute_goal-answer_subtype-requires-clause-posed : goal.compute_goal-answer_subtype-requires-clause-posed
-compute_goal-answer_subtype-requires-clause-posed g t c = rw c.in-Subtype.ensures.0 at c.in_ok-opened.ensures.posed
-
-pub compute_goal-answer_subtype-requires-clause-types : goal.compute_goal-answer_subtype-requires-clause-types
-compute_goal-answer_subtype-requires-clause-types g t c = c.in-Subtype.ensures.1
-
-pub compute_goal-answer_subtype-requires-clause-values : goal.compute_goal-answer_subtype-requires-clause-values
-compute_goal-answer_subtype-requires-clause-values g t c =
-    let o = c.in_ok-opened.ensures in
-    args_later c.args.cx.now.nodes c.enter_forall.new.cx.nodes c.args.table.now.entries c.enter_forall.new.table.entries c.args.values.now o.goes.extends o.goes.continues c.requires.values
+pub compute_goal-evaluate_subtype-response-requires : goal.compute_goal-evaluate_subtype-response-requires
+compute_goal-evaluate_subtype-response-requires = subtypes.compute_goal-evaluate_subtype-response-requires
 
 pub compute_goal-returns-in-Subtype : goal.compute_goal-returns-in-Subtype
-compute_goal-returns-in-Subtype g t c =
-    let o = c.in_ok-opened.ensures in
-    let r = c.answer_subtype.ensures in
-    let opened = rw c.in-Subtype.ensures.0 at o.opened in
-    let posed = rw c.in-Subtype.ensures.0 at o.posed in
-    let says = c.in-Subtype.ensures.1 in
-    let before = c.in-Subtype.ensures.2 in
-    let trees = trees_kept c.args.cx.now.nodes c.enter_forall.new.cx.nodes c.args.table.now.entries c.args.values.now o.grows.extends c.requires.values in
-    record {
-      grows = search rules;
-      searches = Searches-refl c.args.depth c.requires.search (grown o.grows r.grows);
-      found =
-          IfOk-map c.answer_subtype.result
-          (λ x f. record {
-            store = f.store;
-            after = f.after;
-            formed = f.formed;
-            goes = Goes-trans o.goes f.goes;
-            labels = labels_through c.requires.posed opened o.grows.extends f.labels;
-            extends = f.extends;
-            says = rw trees at f.says;
-            holds = f.holds;
-            no_more = f.no_more;
-            sure = λ y s. subtype_through c.requires.posed opened o.grows.extends (meaning (g.H.GoalHandler.handler s.base c.args.handler.now) s.variances) (mode_of c.args.table.now.mode) (assumed_in c.answer_subtype.new.cx.nodes c.args.graph.now) c.in-Subtype.types posed says f.goes (let z = Goes-trans o.goes f.goes in z.continues) f.formed
-                (rw (← (let k = Since-later o.grows s in k.declared)) at (f.sure y));
-          }) r.found;
-      told = λ s tells. IfOk-map c.answer_subtype.result
-          (λ x f. subtype_told c.requires.posed opened o.grows.extends (ruling_since (λ ts. g.H.GoalHandler.handler ts c.args.handler.now) s) c.args.table.now.mode c.args.values.now _ x.value trees (rw (o.goes.mode, ← (let k = Since-later o.grows s in k.declared)) at f)) r.told;
-      refuted = λ s tells n.
-          let x = rw (o.goes.mode, ← (let k = Since-later o.grows s in k.declared)) at (r.no n) in
-          subtype_refuted c.requires.posed opened o.grows.extends (ruling_since (λ ts. g.H.GoalHandler.handler ts c.args.handler.now) s) c.args.table.now.mode c.args.values.now x.0 x.1;
-      decided = λ s n b d can.
-          ⊎_elim
-          (λ asked. absurd (before.not_asked asked))
-          (λ w. absurd (⊎_elim (λ y. before.no_outlives _ (outlives_in y.says)) (λ v. before.not_own (⊎_elim (λ y. states_own y) (λ y. way_states_own y) v)) w))
-          (is_asked_here (g.H.GoalHandler.handler s.base c.args.handler.now) (g.met.H.GoalHandler.lawful s.base c.args.handler.now s.formed s.is_ready) (mode_of c.args.table.now.mode) n b c.args.goal c.args.values.now d.0 d.1 c.requires.posed c.terms_are_formed.ensures o.grows.extends _ opened posed);
-      facts = λ s tells f can.
-          let settled = f.settled in
-          absurd (before.not_asked (fact_asked (g.H.GoalHandler.handler s.base c.args.handler.now) (mode_of c.args.table.now.mode) c.args.cx.now.nodes c.enter_forall.new.cx.nodes c.args.table.now c.enter_forall.new.table c.args.goal _ opened settled c.requires.posed posed o.grows.extends));
-    }
+compute_goal-returns-in-Subtype = subtypes.compute_goal-returns-in-Subtype
+
+pub evaluate_subtype-returns-in_err-snapshot : goal.evaluate_subtype-returns-in_err-snapshot
+evaluate_subtype-returns-in_err-snapshot = subtypes.evaluate_subtype-returns-in_err-snapshot
+
+pub evaluate_subtype-returns-in_err-left : goal.evaluate_subtype-returns-in_err-left
+evaluate_subtype-returns-in_err-left = subtypes.evaluate_subtype-returns-in_err-left
+
+pub evaluate_subtype-boxed_response-requires-clause-values : goal.evaluate_subtype-boxed_response-requires-clause-values
+evaluate_subtype-boxed_response-requires-clause-values = subtypes.evaluate_subtype-boxed_response-requires-clause-values
+
+pub evaluate_subtype-returns-in_err-doubt : goal.evaluate_subtype-returns-in_err-doubt
+evaluate_subtype-returns-in_err-doubt = subtypes.evaluate_subtype-returns-in_err-doubt
+
+pub evaluate_subtype-returns-in_default : goal.evaluate_subtype-returns-in_default
+evaluate_subtype-returns-in_default = subtypes.evaluate_subtype-returns-in_default
+
+pub evaluate_subtype-try_evaluate_goals-requires : goal.evaluate_subtype-try_evaluate_goals-requires
+evaluate_subtype-try_evaluate_goals-requires = subtypes.evaluate_subtype-try_evaluate_goals-requires
+
+pub evaluate_subtype-returns-in_err-certainty : goal.evaluate_subtype-returns-in_err-certainty
+evaluate_subtype-returns-in_err-certainty = subtypes.evaluate_subtype-returns-in_err-certainty
+
+pub evaluate_subtype-boxed_response-requires-then-keeps_constraints-clause-values : goal.evaluate_subtype-boxed_response-requires-then-keeps_constraints-clause-values
+evaluate_subtype-boxed_response-requires-then-keeps_constraints-clause-values = subtypes.evaluate_subtype-boxed_response-requires-then-keeps_constraints-clause-values
+
+pub evaluate_subtype-returns-in_err-response : goal.evaluate_subtype-returns-in_err-response
+evaluate_subtype-returns-in_err-response = subtypes.evaluate_subtype-returns-in_err-response
+
+pub evaluate_subtype-returns-then-keeps_constraints : goal.evaluate_subtype-returns-then-keeps_constraints
+evaluate_subtype-returns-then-keeps_constraints = subtypes.evaluate_subtype-returns-then-keeps_constraints
+
+pub evaluate_subtype-boxed_response-requires-2-clause-values : goal.evaluate_subtype-boxed_response-requires-2-clause-values
+evaluate_subtype-boxed_response-requires-2-clause-values = subtypes.evaluate_subtype-boxed_response-requires-2-clause-values
+
+pub evaluate_subtype-returns-in_err-response-2 : goal.evaluate_subtype-returns-in_err-response-2
+evaluate_subtype-returns-in_err-response-2 = subtypes.evaluate_subtype-returns-in_err-response-2
+
+pub evaluate_subtype-returns : goal.evaluate_subtype-returns
+evaluate_subtype-returns = subtypes.evaluate_subtype-returns
 
 pub compute_goal-evaluate_own-response-requires : goal.compute_goal-evaluate_own-response-requires
 compute_goal-evaluate_own-response-requires = own.compute_goal-evaluate_own-response-requires

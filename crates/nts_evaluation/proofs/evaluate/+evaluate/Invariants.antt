@@ -39,6 +39,9 @@ decreases-compute_goal g l = 20 * l.depth + 14
 abbrev pub decreases-evaluate_own : goal.decreases-evaluate_own
 decreases-evaluate_own g l = 20 * l.depth + 13
 
+abbrev pub decreases-evaluate_subtype : goal.decreases-evaluate_subtype
+decreases-evaluate_subtype g l = 20 * l.depth + 13
+
 abbrev pub decreases-evaluate_candidates : goal.decreases-evaluate_candidates
 decreases-evaluate_candidates g l = 20 * l.depth + 13
 
