@@ -7,7 +7,7 @@ ghost use Rattle.nts_terms.specs.Rest.{Grows};
 use crate::own::{Own, own_of};
 use crate::steps::{Of, outlives_of, predicate_of, types_of};
 use nts_asking::GoalStalledOn;
-use nts_certainty::{Certainty, HasChanged};
+use nts_certainty::{Certainty, HasChanged, MaybeCause, MaybeInfo, OpaqueTypesJank};
 use nts_delegate::{Clauses, GoalHandler};
 use nts_evaluation::{GoalEvaluation, evaluate_root_goal, goal_is_admitted};
 use nts_fixtures::{Name, Names};
@@ -75,6 +75,15 @@ pub enum Asked {
 
 /// A doubt that nothing else is known of.
 pub const DOUBT: Certainty = Certainty::AMBIGUOUS;
+
+/// That a goal is nested too deep.
+pub const TOO_DEEP: Certainty = Certainty::Maybe(MaybeInfo {
+    cause: MaybeCause::Overflow {
+        suggest_increasing_limit: true,
+        keep_constraints: false,
+    },
+    opaque_types_jank: OpaqueTypesJank::AllGood,
+});
 
 /// Asks one after the other.
 #[tactic(auto, using(nts_asking::proofs::Asking::asking))]

@@ -1,25 +1,16 @@
 //! Goals that are answered at once.
 use crate::asking::Answer::Is;
 use crate::asking::Asked::{self, Goal};
-use crate::asking::DOUBT;
 use crate::asking::Wanted::Plain;
+use crate::asking::{DOUBT, TOO_DEEP};
 use crate::steps::Given::{Depth, Let, NoFastPaths, Trait};
 use crate::steps::{By, Given, Of, Part, Rule, plays};
-use nts_certainty::{Certainty, HasChanged, MaybeCause, MaybeInfo, OpaqueTypesJank};
+use nts_certainty::{Certainty, HasChanged};
 use nts_fixtures::{BYTE, Make, Type};
 use nts_model::{Sort, VariableKind};
 use nts_terms::TypingMode;
 
 const YES: Certainty = Certainty::Yes;
-
-/// That a goal is nested too deep.
-const TOO_DEEP: Certainty = Certainty::Maybe(MaybeInfo {
-    cause: MaybeCause::Overflow {
-        suggest_increasing_limit: true,
-        keep_constraints: false,
-    },
-    opaque_types_jank: OpaqueTypesJank::AllGood,
-});
 
 /// The second trait holds of what the first one does, which is answered at once.
 const RULES: &[Rule] = &[Rule(

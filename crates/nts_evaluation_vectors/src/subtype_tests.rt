@@ -1,9 +1,9 @@
 //! Goals that one type is a subtype of another, or can be coerced to it: what is recorded, what is asked, refused, and left in doubt.
 use crate::asking::Answer::{Is, Refused};
 use crate::asking::Asked::{self, Constraints, Constructs, Goal, Resolves, SubRoot, Variables};
-use crate::asking::DOUBT;
 use crate::asking::Wanted::{Coerce, Subtype};
-use crate::steps::Given::Let;
+use crate::asking::{DOUBT, TOO_DEEP};
+use crate::steps::Given::{Depth, Let};
 use crate::steps::{By, Given, Part, plays};
 use nts_certainty::{Certainty, HasChanged};
 use nts_fixtures::{BYTE, Make, WORD};
@@ -139,6 +139,33 @@ fn what_is_left_of_two_types_is_in_doubt(rt: HostRuntime) {
     ];
     const PARTS: &[Part] = &[Part(By::Clauses, &[], ASKED)];
     plays(&rt, rt.alloc(), TypingMode::PostAnalysis, PAIRS, PARTS);
+}
+
+/// Goals that are left are nested below the one that left them. Where no depth is left for them, what relating found out is taken
+/// back; two variables need no depth.
+#[test]
+fn what_is_left_of_two_types_needs_depth(rt: HostRuntime) {
+    const SHALLOW: &[Given] = &[
+        Depth(0),
+        Let("static", Make::Region(RegionKind::ReStatic)),
+        Let("x", Make::Var(VariableKind::Ty)),
+        Let("y", Make::Var(VariableKind::Ty)),
+        Let("byte", BYTE),
+        Let("long", Make::Reference("static", "byte")),
+        Let("twice", Make::Pair("x", "x")),
+        Let("open", Make::Pair("y", "long")),
+    ];
+    const ASKED: &[Asked] = &[
+        Goal(Subtype("twice", "open"), Is(TOO_DEEP, HasChanged::No)),
+        Resolves("x", "x"),
+        Resolves("y", "y"),
+        SubRoot(1, 1),
+        Constraints(0),
+        Goal(Coerce("x", "y"), Is(DOUBT, HasChanged::No)),
+        SubRoot(1, 0),
+    ];
+    const PARTS: &[Part] = &[Part(By::Clauses, &[], ASKED)];
+    plays(&rt, rt.alloc(), TypingMode::PostAnalysis, SHALLOW, PARTS);
 }
 
 /// In coherence two types are not related.
