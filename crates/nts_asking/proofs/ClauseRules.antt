@@ -1,9 +1,10 @@
 -- No clause says what an alias normalizes to, and none of an environment is a rule that does; and neither reports a leak. What is
 -- promised then holds for a list of clauses, and for one behind the environment.
-use Rattle.std.proofs.Common.{inl, inr, List, [], sym, ap, ◌∙◌}
+use Rattle.std.proofs.Common.{◌≡◌, inl, inr, Bool, true, false, List, [], sym, ap, ◌∙◌}
+use Rattle.std.specs.Prelude.{if◌then◌else◌}
 use Rattle.nts_model.specs.Terms.Trees.{Tree}
 use Rattle.nts_model.specs.Derivations.Handlers.{meaning}
-use Rattle.nts_model.specs.Derivations.Rules.{goal_kind}
+use Rattle.nts_model.specs.Derivations.Rules.{coinductive_trait, other_goal, normalization, goal_kind}
 use Rattle.nts_meaning.specs.nts_delegate.specs.declared.clauses.Clauses.{Clauses}
 use Rattle.nts_meaning.specs.nts_delegate.specs.Assumptions.{assuming}
 use Rattle.nts_meaning.specs.nts_delegate.specs.Both.{either}
@@ -12,7 +13,11 @@ use Rattle.nts_meaning.specs.nts_delegate.specs.ClauseHandlers.{handler_of}
 use Rattle.nts_theory.specs.Refutation.Refutation.{HasNoAliases, RespectsLeaks}
 use Rattle.nts_theory.proofs.Refutation.Tight.{tight_respects}
 use Rattle.nts_model.specs.Refutation.Containing.{Truth}
-use Rattle.nts_meaning.proofs.TraitsAsked.{trait_kind}
+
+-- a trait is no alias
+trait_kind : (x : Bool) → (if x then coinductive_trait else other_goal) ≡ normalization → ⊥
+trait_kind true e = cc e
+trait_kind false e = cc e
 
 pub clauses_have_no_aliases : (ts : List Tree) (h : Clauses) → HasNoAliases (handler_of ts h)
 clauses_have_no_aliases ts h =

@@ -1,5 +1,5 @@
 -- From a decided goal that binds variables none escapes: so it can be opened. And a plain goal is one that handlers are asked.
-use Rattle.std.proofs.Common.{◌≡◌, ◌≢◌, inl, inr, ℕ, ◌<◌, ◌+◌, Bool, true, false, Some, [], ◌∷◌, refl, sym, ap, subst, ◌∙◌, arith}
+use Rattle.std.proofs.Common.{◌≡◌, inl, inr, ℕ, ◌<◌, ◌+◌, Bool, true, false, Some, [], ◌∷◌, refl, sym, ap, subst, ◌∙◌, arith}
 use Rattle.std.specs.Prelude.{◌==◌, if◌then◌else◌}
 use Rattle.std.proofs.lemmas.Bool.Decides.{eqb_tells}
 use Rattle.nts_model.specs.declared.labels.Sort.{Sort}
@@ -14,13 +14,15 @@ use Rattle.nts_model.specs.Terms.Trees.{Tree, empty, more, node, kind_of, one_so
 use Rattle.nts_model.specs.Tables.Contents.{Content}
 use Rattle.nts_model.specs.Terms.Substitutions.{leaf_tree}
 use Rattle.nts_model.specs.Derivations.Related.{Constraint, pair, unbound}
-use Rattle.nts_model.specs.Derivations.Rules.{Mode, statement_of, statement_kind, coinductive_trait, other_goal, normalization, opened, opened_at, IsHandlers, bound}
+use Rattle.nts_model.specs.Derivations.Rules.{Mode, statement_of, opened, opened_at, IsHandlers, bound}
 use Rattle.nts_model.specs.Derivations.Handlers.{Handler, Candidate, Judgements}
 use Rattle.nts_model.specs.Refutation.Opening.{binds, placeholder_in, opened_in}
 use Rattle.nts_model.proofs.Terms.Substituting.{leaf_alone, no_children}
 use Rattle.nts_theory.specs.Outliving.{SaysOutlives, region_outlives, type_outlives, IsOutlives}
 use Rattle.nts_theory.specs.Affirming.{SaysAffirmed, IsDenied, HasOwnWay}
-use Rattle.nts_theory.specs.Telling.{IsTraitStatement}
+use Rattle.nts_theory.specs.Telling.{IsTraitStatement, IsAliasStatement}
+use Rattle.nts_theory.specs.Aliasing.{EquatesAlias}
+use Rattle.nts_theory.proofs.Refutation.Aliasing.{equated_no_handlers}
 use Rattle.nts_theory.proofs.Refutation.Affirming.{affirmed_no_handlers, denied_no_handlers, way_no_handlers}
 use Rattle.nts_theory.proofs.Refutation.Subtyping.{subtyping_no_handlers}
 use Rattle.nts_theory.specs.Subtyping.{IsSubtyping}
@@ -80,15 +82,14 @@ trait_not_denied j g t d = denied_no_handlers j (statement_of g) d (trait_handle
 pub trait_says_no_subtype : (g a b : Tree) → IsTraitStatement (statement_of g) → IsSubtyping g a b → ⊥
 trait_says_no_subtype g a b t said = subtyping_no_handlers g a b said (trait_handlers (statement_of g) t)
 
--- .. is not about an alias
-by_test : (b : Bool) → (if b then coinductive_trait else other_goal) ≢ normalization
-by_test true e = cc
-by_test false e = cc
+pub trait_equates_nothing : (g a b : Tree) → IsTraitStatement (statement_of g) → EquatesAlias g a b → ⊥
+trait_equates_nothing g a b t said = equated_no_handlers g a b said (trait_handlers (statement_of g) t)
 
-pub trait_is_plain : (is_coinductive : ℕ → Bool) (s : Tree) → IsTraitStatement s → statement_kind is_coinductive s ≢ normalization
-trait_is_plain is_coinductive (node (label.Clause (clause.Trait i)) ts) h = by_test (is_coinductive i)
-trait_is_plain is_coinductive (node (label.Clause (clause.HostEffect i)) ts) h = λ e. cc e
-trait_is_plain is_coinductive t h = absurd h
+-- .. is not about an alias
+pub trait_says_no_alias : (s : Tree) → IsTraitStatement s → IsAliasStatement s → ⊥
+trait_says_no_alias (node (label.Clause (clause.Trait i)) ts) t a = a
+trait_says_no_alias (node (label.Clause (clause.HostEffect i)) ts) t a = a
+trait_says_no_alias s t a = absurd t
 
 -- what says something of a region says so with its regions
 pub region_blurred : (t : Tree) → SaysOfRegion (by_leaves merged_leaf t) → SaysOfRegion t

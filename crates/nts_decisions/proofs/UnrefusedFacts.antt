@@ -16,15 +16,16 @@ use Rattle.nts_model.specs.declared.labels.Label.TheVariants as label
 use Rattle.nts_theory.specs.Affirming.{SaysAffirmed, IsDenied, HasOwnWay}
 use Rattle.nts_theory.specs.Outliving.{IsOutlives}
 use Rattle.nts_theory.specs.Subtyping.{IsSubtyping}
-use Rattle.nts_decisions.proofs.OpenedStatements.{trait_outlives_nothing, trait_not_affirmed, trait_not_denied, trait_has_no_way, trait_says_no_subtype}
+use Rattle.nts_theory.specs.Aliasing.{EquatesAlias, NormalizesSide}
+use Rattle.nts_decisions.proofs.OpenedStatements.{trait_outlives_nothing, trait_not_affirmed, trait_not_denied, trait_has_no_way, trait_says_no_subtype, trait_says_no_alias, trait_equates_nothing}
 use Rattle.nts_model.specs.Derivations.Sequents.{Premise}
-use Rattle.nts_model.specs.Derivations.Rules.{Mode, Equation, statement_of}
+use Rattle.nts_model.specs.Derivations.Rules.{Mode, GoalKind, Equation, statement_of}
 use Rattle.nts_model.specs.Derivations.Handlers.{Handler, Candidate, IsAsked, IsLawfulHandler, HasNoLeaks, IsCandidateFor, AreValuesOf}
 use Rattle.nts_model.specs.Canonical.Inputs.{Input, PositionKind, type_variable, integer_variable, float_variable, const_variable, region_variable, placeholder, IsInput, HaveKinds, canonical_of, after_environment, originals, AreAlikeInputs, made_of}
 use Rattle.nts_model.specs.Canonical.Numbered.{numbered, no_leaf}
 use Rattle.nts_model.specs.Refutation.Opening.{binds, opened_in, entered_table}
 use Rattle.nts_model.specs.Answers.Responses.{Response, IsResponseTo, IsQueryTable, read_in, RefusesResponse}
-use Rattle.nts_theory.specs.Telling.{Verdict, Queries, IsInputFor, IsReady, StandsForAll, SaysOf, without_constraints, IsPlainResponse, goals_with, Tells, tells_nothing, says_nothing, tells_one, tells_outlives, tells_affirmed, tells_own, tells_subtype, IsTraitStatement, Refutes, all_fail, is_denied, own_fails, is_no_subtype, subtype_refused, Outcomes, no_outcome, then_fails, then_replies, Replies, replies, Fails, is_unmet, is_refused, is_leaky, Reaches, asks_nothing, then_asks, Refused, by_query, by_response}
+use Rattle.nts_theory.specs.Telling.{Verdict, Queries, IsInputFor, IsReady, StandsForAll, SaysOf, without_constraints, IsPlainResponse, goals_with, Tells, tells_nothing, says_nothing, tells_one, tells_outlives, tells_affirmed, tells_own, tells_subtype, tells_alias, tells_normal, IsTraitStatement, IsAliasStatement, IsAliasReady, kind_for, Refutes, all_fail, is_denied, own_fails, is_no_subtype, subtype_refused, aliases_fail, normal_refused, Outcomes, no_outcome, then_fails, then_replies, Replies, replies, Fails, is_unmet, is_refused, is_leaky, Reaches, asks_nothing, then_asks, Refused, by_query, by_response}
 use Rattle.nts_theory.proofs.Refutation.Queried.{IsFirst, BeginsEach, IsQuery, first_query, IsTried, tried, tried_knows, found_table, says_long}
 use Rattle.nts_theory.proofs.Refutation.QueryLabels.{query_without}
 use Rattle.nts_theory.proofs.Refutation.Answered.{among_split}
@@ -174,9 +175,9 @@ module _ (Q : Queries) (h : Handler) (law : IsLawfulHandler h) (mode : Mode) (ti
     equal = (let m = fact.met in equal_there h law mode c w solves i from fact.goal q u roots have first.begins asked first.knows renaming.0 renaming.1 x y there.same here over m.values m.fit m.named m.equal)
 
     -- the query's fact does not fail
-    never_fails : Fails Q h mode q y → ⊥
+    never_fails : {k : GoalKind} → Fails Q h mode k q y → ⊥
     never_fails (is_unmet n) = n is_met
-    never_fails (is_refused values met begun refused) = no_refusal Q h mode met values y.goals no_goals refused
+    never_fails {k} (is_refused values met begun refused) = no_refusal Q h mode met k values y.goals no_goals refused
     never_fails (is_leaky values met found begun reach leaks) = tight found 0 leaks
 
     -- and what it replies is so in the caller's world
@@ -202,7 +203,7 @@ module _ (Q : Queries) (h : Handler) (law : IsLawfulHandler h) (mode : Mode) (ti
         let rest = λ (k : Among xs y). outcomes_contain before k in
         elim (among_split xs (z ∷ []) y a) [
           | inl k ↦ rest k
-          | inr k ↦ (elim k [ inl e ↦ absurd (never_fails (subst (Fails Q h mode q) (sym e) fails)) | inr n ↦ absurd n ])
+          | inr k ↦ (elim k [ inl e ↦ absurd (never_fails (subst (Fails Q h mode (kind_for h g') q) (sym e) fails)) | inr n ↦ absurd n ])
         ]
     outcomes_contain (then_replies {xs = xs} {vs = vs} {x = z} {v = v} before reply) a =
         let rest = λ (k : Among xs y). outcomes_contain before k in
@@ -226,11 +227,19 @@ module _ (Q : Queries) (h : Handler) (law : IsLawfulHandler h) (mode : Mode) (ti
       let o = there asked proper in
       outcomes_contain asked proper (tried_here vs all) o.offered
 
+  no_alias_here : IsAliasReady q e' g' → ⊥
+  no_alias_here ready = (let a = ready.alias_goal in trait_says_no_alias (statement_of g') is_trait (subst (λ z. IsAliasStatement (statement_of z)) same_goal a.statement))
+
+  equates_nothing_here : {p : Premise} → NormalizesSide e' (opened_in q g') p → ⊥
+  equates_nothing_here x = trait_equates_nothing g' x.left x.right is_trait (subst (λ z. EquatesAlias z x.left x.right) same_goal x.is)
+
   query_never_refutes : Refutes Q h mode q e' g' (map leaf_tree u) → ⊥
   query_never_refutes (is_denied d) = trait_not_denied h.judges g' is_trait (subst (λ z. IsDenied h.judges (statement_of z)) same_goal d)
   query_never_refutes (own_fails y own fails) = trait_has_no_way h.judges e' g' y is_trait (subst (λ z. HasOwnWay h.judges e' z y) same_goal own.way)
   query_never_refutes (is_no_subtype outside n) = trait_says_no_subtype g' n.left n.right is_trait (subst (λ z. IsSubtyping z n.left n.right) same_goal n.is)
   query_never_refutes (subtype_refused ps met outside l refused) = trait_says_no_subtype g' l.left l.right is_trait (subst (λ z. IsSubtyping z l.left l.right) same_goal l.is)
+  query_never_refutes (aliases_fail outside ready all) = no_alias_here ready
+  query_never_refutes (normal_refused p outside l refused) = equates_nothing_here l
   query_never_refutes (all_fail ready all) = (let o = contains_here [] ready all in o.among)
 
   formed_values : (ks : List PositionKind) (zs : List Tree) → AreInputValues ks zs → (t : Tree) → Among zs t → IsFormed t
@@ -276,6 +285,8 @@ module _ (Q : Queries) (h : Handler) (law : IsLawfulHandler h) (mode : Mode) (ti
   tells_contained v (tells_affirmed a sure says) = absurd (trait_not_affirmed h.judges e' g' is_trait (subst (SaysAffirmed h.judges e') same_goal a))
   tells_contained v (tells_own y own reply) = absurd (trait_has_no_way h.judges e' g' y is_trait (subst (λ z. HasOwnWay h.judges e' z y) same_goal own.way))
   tells_contained v (tells_subtype ps met found outside l reach is says) = absurd (trait_says_no_subtype g' l.left l.right is_trait (subst (λ z. IsSubtyping z l.left l.right) same_goal l.is))
+  tells_contained v (tells_alias vs outside ready all stands) = absurd (no_alias_here ready)
+  tells_contained v (tells_normal p found outside l reach is says) = absurd (equates_nothing_here l)
   tells_contained v (tells_one vs ready all stands) = by_one stands
     where
       by_one : StandsForAll (map leaf_tree u) vs v → ContainsMerged v.response ts

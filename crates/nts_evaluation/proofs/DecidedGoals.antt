@@ -18,7 +18,7 @@ use Rattle.nts_decisions.specs.Queries.{AreConstants}
 use Rattle.nts_decisions.specs.Faring.{OneFares}
 use Rattle.nts_decisions.proofs.Faring.{LastFares, last_fails, last_holds, last_of, with_failed, with_held, never_held}
 use Rattle.nts_decisions.proofs.DecidedQueries.{IsOfTermsOpened, SaysOutlivesHere, IsDecidedHere, IsRegionHere, IsJudgedHere, IsWayHere, IsUnofferedHere, decided_here, is_asked, no_alias, top_blurred}
-use Rattle.nts_decisions.proofs.OpenedStatements.{plain_statement, trait_is_plain, trait_outlives_nothing, trait_not_affirmed, trait_not_denied, region_of, decided_is_closed}
+use Rattle.nts_decisions.proofs.OpenedStatements.{plain_statement, trait_outlives_nothing, trait_not_affirmed, trait_not_denied, region_of, decided_is_closed}
 use Rattle.nts_decisions.specs.Deciding.{SaysOfRegion, IsJudged}
 use Rattle.nts_theory.specs.Telling.{IsTraitStatement}
 use Rattle.nts_theory.specs.Affirming.{IsAffirmed, feature_allowed, has_objects, named_const, value_const, error_const, error_type, evaluated_const, by_type, by_goals, IsDenied, IsOwnWay, HasOwnWay}
@@ -125,7 +125,6 @@ module _ (h : Handler) (law : IsLawfulHandler h) (mode : Mode) (n : ℕ) (k : Bo
         record {
           asked = record { holds = there.holds; asked = is_asked (tree_at b o.param_env.node) (tree_at b o.predicate.node) own x.plain };
           trait_goal = record { statement = statement; no_alias = no_alias (tree_at b o.param_env.node) (tree_at b o.predicate.node) own x.plain };
-          plain = λ is_coinductive. trait_is_plain is_coinductive _ statement;
         }
 
     pub is_asked_here : IsAskedGoal b o ⊎ IsUnofferedHere h mode n (content_of b u.entries) (tree_at b o.param_env.node) (tree_at b o.predicate.node) k

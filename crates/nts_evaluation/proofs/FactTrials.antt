@@ -9,7 +9,6 @@ use Rattle.nts_model.specs.Refutation.Choosing.{IsCandidateMet}
 use Rattle.nts_model.specs.Refutation.Opening.{binds}
 use Rattle.nts_theory.specs.Telling.{IsTraitGoal, IsResponseOf, IsBegun, AreTermsOfKinds}
 use Rattle.nts_decisions.specs.Faring.{Fares, no_world, by_goals}
-use Rattle.nts_decisions.proofs.OpenedStatements.{trait_is_plain}
 use Rattle.nts_decisions.specs.FirstTables.{IsSettledFact}
 use Rattle.nts_decisions.proofs.FactsSettled.{fact_over, are_places, reached_nothing}
 use Rattle.nts_store.specs.Growth.{tree_at, Extends}
@@ -107,5 +106,4 @@ fact_asked h mode a b t u g o opened f posed there up =
     record {
       asked = record { holds = there.holds; asked = rw (x.environment, x.predicate) f.asked };
       trait_goal = trait;
-      plain = λ is_coinductive. trait_is_plain is_coinductive _ trait.statement;
     }

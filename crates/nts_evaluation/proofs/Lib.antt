@@ -20,3 +20,4 @@ mod FactLeaves
 pub mod Skipped
 mod SkippedExamples
 mod SubtypesLeft
+mod NormalLeft

@@ -3,7 +3,7 @@ use Rattle.std.proofs.Common.{◌≡◌, ◌≢◌, inl, inr, ℕ, Bool, true, f
 use Rattle.nts_model.specs.declared.labels.Variance.{Variance}
 use Rattle.nts_model.specs.Terms.Trees.{Tree, any_label, is_alias}
 use Rattle.nts_model.specs.Tables.Holding.{Continues}
-use Rattle.nts_model.specs.Derivations.Rules.{Mode, statement_of, statement_kind, normalization, other_goal}
+use Rattle.nts_model.specs.Derivations.Rules.{Mode, statement_of}
 use Rattle.nts_model.specs.Derivations.Handlers.{Handler, Candidate, Judgements, certain, meaning, IsLawfulHandler}
 use Rattle.nts_model.specs.Derivations.Proofs.{Assumed}
 use Rattle.nts_model.specs.Searching.Stacks.{IsProvedFrom}
@@ -21,7 +21,7 @@ use Rattle.nts_canonical.specs.declared.types.Canonical.{Canonical}
 use Rattle.nts_canonical.specs.Forms.{trees_of}
 use Rattle.nts_response.specs.declared.types.Response.{Response}
 use Rattle.nts_meaning.specs.Telling.{Ruling}
-use Rattle.nts_meaning.specs.Evaluation.{Goes, IsPosed, NormalizesNone}
+use Rattle.nts_meaning.specs.Evaluation.{Goes, IsPosed}
 use Rattle.nts_meaning.specs.Meant.{IsTold, IsRefuted}
 use Rattle.nts_trying.specs.Opening.{IsOpenedTo}
 use Rattle.std.specs.Global.{Box}
@@ -36,20 +36,8 @@ use Rattle.nts_terms.specs.Modes.{mode_of}
 use Rattle.nts_candidates.specs.Offered.{candidate_of}
 use Rattle.nts_evaluation.specs.Deciding.{SaysJudged, IsWaySettled, IsOwnSettled, IsSettled}
 use Rattle.nts_trying.specs.declared.own.OwnGoal.{OwnGoal}
-use Rattle.nts_trying.specs.declared.own.OwnGoal.TheVariants as own
 use Rattle.nts_trying.proofs.Opened.{affirmed_through, own_through, affirmed_told, own_told, nothing_through, denied_refuted, own_refuted}
 use Rattle.nts_evaluation.specs.Promises.{HoldsOwn, OwnTold, OwnRefuted}
-
--- no such goal normalizes an alias
-other_kind : (ts : List Tree) (o : OwnGoal) (z : ℕ → Bool) → statement_kind z (tree_of_own ts o) ≢ normalization
-other_kind ts (own.DynCompatible i) z e = (let x : other_goal ≡ normalization = e in cc x)
-other_kind ts (own.UnstableFeature f) z e = (let x : other_goal ≡ normalization = e in cc x)
-other_kind ts (own.ConstEvaluatable c) z e = (let x : other_goal ≡ normalization = e in cc x)
-other_kind ts (own.ConstArgHasType c t) z e = (let x : other_goal ≡ normalization = e in cc x)
-other_kind ts (own.WellFormed t) z e = (let x : other_goal ≡ normalization = e in cc x)
-
-pub own_normalizes_none : (ts : List Tree) (g : Goal) (o : OwnGoal) → IsOwnGoal ts g o → NormalizesNone ts g
-own_normalizes_none ts g o says = λ z. subst (λ v. statement_kind z (statement_of v) ≢ normalization) (sym says.binds_nothing) (other_kind ts o z)
 
 -- a goal that a table knows has no positions, and its bound variables are of the lists of their binders
 pub posed_plain : (ts : List Tree) (t : Table) (g : Goal) → IsPosed ts t g → IsPlainGoal ts g

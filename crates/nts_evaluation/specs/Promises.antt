@@ -6,7 +6,7 @@ use Rattle.nts_model.specs.Tables.Contents.{Content}
 use Rattle.nts_model.specs.Derivations.Rules.{Meaning, Mode, statement_of}
 use Rattle.nts_model.specs.Derivations.Handlers.{Handler, Candidate}
 use Rattle.nts_theory.specs.Affirming.{SaysAffirmed, IsDenied, HasOwnWay}
-use Rattle.nts_theory.specs.Telling.{IsResponseOf, IsPlainResponse, IsCutIn}
+use Rattle.nts_theory.specs.Telling.{IsResponseOf, IsPlainResponse, IsCutIn, kind_for}
 use Rattle.nts_meaning.specs.Telling.{Ruling, Replies, Fails}
 use Rattle.nts_model.specs.Derivations.Proofs.{Assumed, passed}
 use Rattle.nts_model.specs.Searching.Stacks.{IsDerivedFrom, HoldsCandidateFrom, assumptions}
@@ -48,6 +48,7 @@ use Rattle.nts_trying.specs.Found.{Found}
 use Rattle.nts_evaluation.specs.Deciding.{IsQueryDecided, IsOwnSettled, CanDecide, IsBelow, IsAsBefore, Decides, IsYes, IsYesUnchanged, IsOwnYes, IsRoundDecided, IsRootQuery, AreRootValues, CandidatesSettled, IsSettled, GoalsSettled, IsQueryAtFirst, IsFactHere, IsPlainCandidate, ArePlainCandidates, IsOverIfSilent, IsFactForm, IsRoundYes}
 use Rattle.nts_decisions.specs.Deciding.{IsGoalDecided}
 use Rattle.nts_trying.specs.Stopping.{StopsIn}
+use Rattle.nts_trying.specs.Aliasing.{IsAliasTold, IsAliasRefuted, IsNormalizedBy, NormalTold, NormalRefuted}
 use Rattle.nts_trying.specs.Subtyping.{AreVariablesIn, AreSubtypesBy, SubtypesTold, SubtypesRefuted, IsJoinedAnswer}
 use Rattle.nts_trying.specs.declared.subtypes.TypePair.{TypePair}
 use Rattle.nts_trying.specs.Stepping.{ArePosed, AreLeft, AreSettled, terms_of, bound_of}
@@ -176,7 +177,7 @@ OwnTold h mode a t g qs b r =
 abbrev pub OwnRefuted : Ruling → TypingMode → List Tree → Table → Goal → Type 0
 OwnRefuted h mode a t g =
     IsDenied (let m = h.handler in m.judges) (statement_of (tree_at a g.predicate.node))
-    ⊎ ((x : Candidate) × HasOwnWay (let m = h.handler in m.judges) (tree_at a g.param_env.node) (tree_at a g.predicate.node) x × Fails h (mode_of mode) (content_of a t.entries) x)
+    ⊎ ((x : Candidate) × HasOwnWay (let m = h.handler in m.judges) (tree_at a g.param_env.node) (tree_at a g.predicate.node) x × Fails h (mode_of mode) (kind_for h.handler (tree_at a g.predicate.node)) (content_of a t.entries) x)
 
 -- such a goal is answered
 pub record AnswersOwn (R : Rules) (a b : Cx) (g h : SearchGraph) (t : Table) (goal : Goal) (values : List GenericArg) (depth : ℕ) (r : Result (Box (Canonical Response)) EvalError) : Type 0 where
@@ -198,6 +199,22 @@ pub record AnswersSubtype (R : Rules) (a b : Cx) (g h : SearchGraph) (t : Table)
   -- two type variables are of one sub-unification class then, and nothing else is said of them
   pub joined : (n m : ℕ) → AreVariablesIn a.nodes t p n m → IsCutIn (mode_of t.mode) → IfAnswered r (IsJoinedAnswer a.nodes b.nodes t (trees_of a.nodes values) n m)
 
+-- a goal about an alias is answered by what a handler offers
+pub record AnswersAlias (R : Rules) (a b : Cx) (g h : SearchGraph) (t : Table) (goal : Goal) (values : List GenericArg) (r : Result (Box (Canonical Response)) EvalError) : Type 0 where
+  pub grows : Grows a b
+  pub searches : Searches a b g h
+  pub found : IfAnswered r (Found (λ c v. Always R a (λ s. IsServedSince R.handler s t.mode (assumed_in b.nodes h) c v goal)) a.nodes b.nodes t goal values)
+  pub told : WhereTold R a g (λ m. IfAnswered r (IsAliasTold m t.mode a.nodes t goal values b.nodes))
+  pub refuted : WhereTold R a g (λ m. r ≡ Err error.NoSolution → IsAliasRefuted m t.mode a.nodes t goal values)
+
+-- a goal that an alias is equal to a term is answered
+pub record AnswersEquated (R : Rules) (a b : Cx) (g h : SearchGraph) (t : Table) (goal : Goal) (values : List GenericArg) (r : Result (Box (Canonical Response)) EvalError) : Type 0 where
+  pub grows : Grows a b
+  pub searches : Searches a b g h
+  pub found : IfAnswered r (Found (λ c v. Always R a (λ s. IsNormalizedBy (meaning_since R.handler s) (mode_of t.mode) (assumed_in b.nodes h) (content_of c v.entries) (tree_at a.nodes goal.param_env.node) (tree_at a.nodes goal.predicate.node))) a.nodes b.nodes t goal values)
+  pub told : WhereTold R a g (λ m. IfAnswered r (λ x. NormalTold m (mode_of t.mode) (content_of a.nodes t.entries) (tree_at a.nodes goal.param_env.node) (tree_at a.nodes goal.predicate.node) (trees_of a.nodes values) (verdict_at b.nodes x)))
+  pub refuted : WhereTold R a g (λ m. r ≡ Err error.NoSolution → NormalRefuted m (mode_of t.mode) (content_of a.nodes t.entries) (tree_at a.nodes goal.param_env.node) (tree_at a.nodes goal.predicate.node))
+
 -- .. by candidates: what is proved where the answer is certain; what is told and refuted of them; how they fare where the goal is
 -- decided; and what is so where one of them decides it, which has no goals
 pub record AnswersBy (Proved : List Assumed → List Tree → Table → Type 0) (Told : Ruling → Canonical Response → Type 0) (Failed : Ruling → Type 0) (Settled : Handler → ℕ → Bool → Type 0) (Facts : Ruling → Type 0) (R : Rules) (a b : Cx) (g h : SearchGraph) (t u : Table) (goal : Goal)
@@ -218,7 +235,7 @@ TriesEach R a b g h t u goal values xs depth r =
 
 abbrev pub TriesOne : Rules → Cx → Cx → SearchGraph → SearchGraph → Table → Table → Goal → List GenericArg → CandidateData → ℕ → Result (Box (Canonical Response)) EvalError → Type 0
 TriesOne R a b g h t u goal values x depth r =
-    AnswersBy (λ A c v. Always R a (λ s. HoldsSince R.handler s t.mode A c v (tree_at a.nodes goal.predicate.node) (candidate_of a.nodes x))) (λ m. RepliesWith m t.mode a.nodes t goal values x b.nodes) (λ m. FailsIn m t.mode a.nodes t x) (λ m n k. IsSettled m t.mode n a.nodes t x k)
+    AnswersBy (λ A c v. Always R a (λ s. HoldsSince R.handler s t.mode A c v (tree_at a.nodes goal.predicate.node) (candidate_of a.nodes x))) (λ m. RepliesWith m t.mode a.nodes t goal values x b.nodes) (λ m. FailsIn m t.mode a.nodes t goal x) (λ m n k. IsSettled m t.mode n a.nodes t x k)
     (λ m. IsQueryAtFirst a.nodes t goal values → IsPlainCandidate a.nodes goal (candidate_of a.nodes x) → IfAnswered r (IsOverIfSilent b.nodes (trees_of a.nodes values))) R a b g h t u goal values depth r
 
 -- a candidate is run, and what it did stays in the table
@@ -228,7 +245,7 @@ pub record RunsOne (R : Rules) (a b : Cx) (g h : SearchGraph) (t u : Table) (goa
   pub labels : OnOk r (BringsOnlyOf (asked_terms a.nodes goal) a t b u)
   pub proved : Always R a (λ s. r ≡ Ok certainty.Yes → HoldsSince R.handler s t.mode (assumed_in b.nodes h) b.nodes u (tree_at a.nodes goal.predicate.node) (candidate_of a.nodes x))
   pub told : WhereTold R a g (λ m. OnOk r (HasRunTo m t.mode a.nodes t b.nodes u x))
-  pub refuted : WhereTold R a g (λ m. r ≡ Err error.NoSolution → FailsIn m t.mode a.nodes t x)
+  pub refuted : WhereTold R a g (λ m. r ≡ Err error.NoSolution → FailsIn m t.mode a.nodes t goal x)
   pub decided : AnswersDecided R a g h depth (λ m n k. IsSettled m t.mode n a.nodes t x k) r IsYes
 
 -- goals are asked in steps: `left` are those that are left. After an error too the table is one that asking some of them leaves

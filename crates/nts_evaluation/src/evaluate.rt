@@ -2,16 +2,17 @@
 //! they call and is not of the recursion is kept out of their frames, by `inline(never)`, and what is large stands behind boxes.
 ghost use Rattle.std.specs.Prelude.{◌+◌, All};
 ghost use Rattle.nts_canonical.specs.Building.{kinds_of, IsArgOf};
-ghost use Rattle.nts_delegate.specs.Candidates.{IsCandidate, AreCandidates};
+ghost use Rattle.nts_delegate.specs.Candidates.{IsAskedIn, IsCandidate, AreCandidates};
 ghost use Rattle.nts_meaning.specs.Searching.{IsSearch, IsHeadAnswer};
 ghost use Rattle.nts_trying.specs.Stepping.{ArePosed, bound_of};
 ghost use Rattle.nts_meaning.specs.Answering.{IsQueryInput};
-ghost use Rattle.nts_meaning.specs.Evaluation.{IsPosed, NormalizesNone};
+ghost use Rattle.nts_meaning.specs.Evaluation.{IsPosed};
 ghost use Rattle.nts_trying.specs.Owning.{IsOwnGoal};
 ghost use Rattle.nts_trying.specs.Subtyping.{IsSubtypeGoal};
+ghost use Rattle.nts_trying.specs.Aliasing.{IsEquatedGoal};
 ghost use Rattle.nts_table.specs.Tables.{IsTable};
 ghost use Rattle.nts_meaning.specs.Meant.{rules_of};
-ghost use Rattle.nts_evaluation.specs.Promises.{AnswersQuery, AsksGoal, AsksAdded, EndsRound, AnswersGoal, AnswersOwn, AnswersSubtype, TriesEach, TriesOne, RunsOne, StepsGoals, StepsOnce};
+ghost use Rattle.nts_evaluation.specs.Promises.{AnswersQuery, AsksGoal, AsksAdded, EndsRound, AnswersGoal, AnswersOwn, AnswersSubtype, AnswersAlias, AnswersEquated, TriesEach, TriesOne, RunsOne, StepsGoals, StepsOnce};
 
 use nts_asking::{
     answer_cycle, apply_answer, boxed_query, end_round, first_round, keeps_constraints,
@@ -25,11 +26,11 @@ use nts_response::CanonicalResponse;
 use nts_search::{CurrentGoalKind, SearchGraph, round_is_last, step_kind_for_source};
 use nts_store::EvalError;
 use nts_table::InferCtxt;
-use nts_terms::{Cx, GenericArg, Goal};
+use nts_terms::{Cx, GenericArg, Goal, TypingMode};
 use nts_trying::{
-    AvailableDepth, GoalRow, Judged, OwnGoal, Step, Trial, TypePair, answer_outlives, check_leaks,
-    enter_forall, equate, fast_answer, goal_kind, goal_row, judge, keep_response, merge_responses,
-    record_constraints, relate_types, relevant_candidates,
+    AvailableDepth, EquatedAlias, GoalRow, Judged, OwnGoal, Step, Trial, TypePair, answer_outlives,
+    are_plain, check_leaks, enter_forall, equate, fast_answer, goal_kind, goal_row, judge, keep_response,
+    merge_responses, normal_goals, record_constraints, relate_types, relevant_candidates,
 };
 
 /// Evaluates a goal in a query of its own: its leaves give place to positions, the search answers the query, and the response is
@@ -185,6 +186,18 @@ fn compute_goal<H: GoalHandler>(
             cx.terms_are_formed();
             return response;
         }
+        GoalRow::Alias(opened) => {
+            let response = evaluate_alias(table, cx, handler, graph, opened, values, depth);
+            cx.terms_are_formed();
+            return response;
+        }
+        GoalRow::Equated(opened, equated) => {
+            let response = evaluate_equated(
+                table, cx, handler, graph, opened, equated, values, depth,
+            );
+            cx.terms_are_formed();
+            return response;
+        }
         GoalRow::Candidates(opened) => opened,
     };
     let candidates = relevant_candidates(cx, handler, table.typing_mode(), opened)?;
@@ -294,6 +307,100 @@ fn evaluate_subtype<H: GoalHandler>(
     Ok(response)
 }
 
+/// Answers a goal about an alias by the candidates of the handler. It is in doubt in coherence, and where a candidate relates terms in
+/// which an alias stands.
+#[cycle(evaluate)]
+#[inline(never)]
+fn evaluate_alias<H: GoalHandler>(
+    table: &mut InferCtxt,
+    cx: &mut Cx,
+    handler: &H,
+    graph: &mut SearchGraph,
+    goal: Goal,
+    values: &[GenericArg],
+    depth: usize,
+) -> Result<Box<CanonicalResponse>, EvalError>
+    requires posed { IsPosed cx.old.nodes table.old goal }
+    requires asked { IsAskedIn cx.old.nodes goal }
+    requires ready { H.ready cx.old.nodes handler.now }
+    requires values { All (IsArgOf cx.old.nodes table.old.entries) values.now }
+    requires search { IsSearch cx.old graph.old (depth) }
+    ensures { AnswersAlias (rules_of H.ready H.handler handler.now) cx.old cx.new graph.old
+        graph.new table.old goal values.now result }
+{
+    cx.terms_are_formed();
+    if matches!(table.typing_mode(), TypingMode::Coherence) {
+        let doubt = boxed_response(table, cx, values, Certainty::AMBIGUOUS)?;
+        return Ok(doubt);
+    }
+    let candidates = relevant_candidates(cx, handler, table.typing_mode(), goal)?;
+    if !are_plain(cx, goal, &candidates) {
+        cx.terms_are_formed();
+        let doubt = boxed_response(table, cx, values, Certainty::AMBIGUOUS)?;
+        return Ok(doubt);
+    }
+    evaluate_candidates(
+        table,
+        cx,
+        handler,
+        graph,
+        goal,
+        &candidates,
+        values,
+        depth,
+    )
+}
+
+/// Answers a goal that an alias is equal to a term: asks whether the alias normalizes to the term, and answers what was found out. In
+/// coherence it is in doubt.
+#[cycle(evaluate)]
+#[inline(never)]
+fn evaluate_equated<H: GoalHandler>(
+    table: &mut InferCtxt,
+    cx: &mut Cx,
+    handler: &H,
+    graph: &mut SearchGraph,
+    goal: Goal,
+    equated: EquatedAlias,
+    values: &[GenericArg],
+    depth: usize,
+) -> Result<Box<CanonicalResponse>, EvalError>
+    requires posed { IsPosed cx.old.nodes table.old goal }
+    requires equated { IsEquatedGoal cx.old.nodes goal equated }
+    requires ready { H.ready cx.old.nodes handler.now }
+    requires values { All (IsArgOf cx.old.nodes table.old.entries) values.now }
+    requires search { IsSearch cx.old graph.old (depth) }
+    ensures { AnswersEquated (rules_of H.ready H.handler handler.now) cx.old cx.new graph.old
+        graph.new table.old goal values.now result }
+{
+    cx.terms_are_formed();
+    if matches!(table.typing_mode(), TypingMode::Coherence) {
+        let doubt = boxed_response(table, cx, values, Certainty::AMBIGUOUS)?;
+        return Ok(doubt);
+    }
+    let mut goals = normal_goals(cx, goal, equated)?;
+    let snapshot = table.start_snapshot()?;
+    let mut last_steps = 0;
+    let certainty = try_evaluate_goals(
+        table,
+        cx,
+        handler,
+        graph,
+        &mut goals,
+        CurrentGoalKind::Misc,
+        AvailableDepth::Below(depth),
+        &mut last_steps,
+    )?;
+    cx.terms_are_formed();
+    if keeps_constraints(certainty) {
+        let response = boxed_response(table, cx, values, certainty)?;
+        return Ok(response);
+    }
+    table.rollback_to(snapshot);
+    let response = boxed_response(table, cx, values, certainty)?;
+    Ok(response)
+}
+
 /// Asks each candidate to its end. Those that fail are dropped, and one response stands for those of the others; where none does,
 /// it is ambiguous. The table is as before.
 #[cycle(evaluate)]
@@ -308,7 +415,6 @@ fn evaluate_candidates<H: GoalHandler>(
     depth: usize,
 ) -> Result<Box<CanonicalResponse>, EvalError>
     requires posed { IsPosed cx.old.nodes table.old goal }
-    requires kind { NormalizesNone cx.old.nodes goal }
     requires ready { H.ready cx.old.nodes handler.now }
     requires candidates { AreCandidates cx.old.nodes goal candidates.now }
     requires values { All (IsArgOf cx.old.nodes table.old.entries) values.now }
@@ -338,7 +444,6 @@ fn probe_candidate<H: GoalHandler>(
     depth: usize,
 ) -> Result<Box<CanonicalResponse>, EvalError>
     requires posed { IsPosed cx.old.nodes table.old goal }
-    requires kind { NormalizesNone cx.old.nodes goal }
     requires ready { H.ready cx.old.nodes handler.now }
     requires candidate { IsCandidate cx.old.nodes goal candidate.now }
     requires values { All (IsArgOf cx.old.nodes table.old.entries) values.now }
@@ -377,7 +482,6 @@ fn run_candidate<H: GoalHandler>(
     depth: usize,
 ) -> Result<Certainty, EvalError>
     requires posed { IsPosed cx.old.nodes table.old goal }
-    requires kind { NormalizesNone cx.old.nodes goal }
     requires ready { H.ready cx.old.nodes handler.now }
     requires candidate { IsCandidate cx.old.nodes goal candidate.now }
     requires search { IsSearch cx.old graph.old (depth) }
@@ -400,7 +504,6 @@ fn try_candidate<H: GoalHandler>(
     depth: usize,
 ) -> Result<Certainty, EvalError>
     requires posed { IsPosed cx.old.nodes table.old goal }
-    requires kind { NormalizesNone cx.old.nodes goal }
     requires ready { H.ready cx.old.nodes handler.now }
     requires candidate { IsCandidate cx.old.nodes goal candidate.now }
     requires search { IsSearch cx.old graph.old (depth) }

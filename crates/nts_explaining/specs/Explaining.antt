@@ -40,7 +40,7 @@ pub data ExplainsEach (c : Content) : List Candidate → List Reason → Type 0 
   more : {xs : List Candidate} {rs : List Reason} (x : Candidate) (r : Reason) → ExplainsEach c xs rs → Explains c x r → ExplainsEach c (xs ++ x ∷ []) (rs ++ r ∷ [])
 
 -- the goal of the table t and the store a is opened, and there is a reason for each candidate that the handler offers for it then;
--- or no candidate answers it, since it can't be opened, or since handlers are not asked for such a goal, and there is no reason
+-- or there is no reason, since it can't be opened, or since it is no trait goal without aliases
 pub data GivesReasons (h : Handler) (mode : TypingMode) (a : List Tree) (t : Table) (g : Goal) : List Reason → Type 0 where
   of_candidates : {rs : List Reason} (b : List Tree) (u : Table) (o : Goal) → IsOpenedTo a b t u g o → IsAskedGoal b o → ExplainsEach (content_of b u.entries) (offers_of h (mode_of mode) b o) rs → GivesReasons h mode a t g rs
   is_unasked : (b : List Tree) (u : Table) (o : Goal) → IsOpenedTo a b t u g o → (IsAskedGoal b o → ⊥) → GivesReasons h mode a t g []

@@ -26,8 +26,9 @@ use nts_table::InferCtxt;
 use nts_terms::{Cx, Goal};
 
 /// What each candidate that the handler offers for a goal comes to, in their order: why the goal is not answered yes, one level
-/// deep. A goal that binds variables is opened first. There is no reason where no candidate answers such a goal. The table is as
-/// before, also after an error, which is want of memory, or `Full` where a universe above the greatest is asked for.
+/// deep. A goal that binds variables is opened first. There is no reason where no candidate answers such a goal, nor yet for a
+/// goal about an alias. The table is as before, also after an error, which is want of memory, or `Full` where a universe above the
+/// greatest is asked for.
 pub fn explain<H: GoalHandler>(
     table: &mut InferCtxt,
     cx: &mut Cx,
@@ -72,6 +73,8 @@ fn explain_here<H: GoalHandler>(
         GoalRow::Outlives(_, _) => return Ok(Vec::new(cx.alloc)),
         GoalRow::Own(_, _) => return Ok(Vec::new(cx.alloc)),
         GoalRow::Subtype(_, _) => return Ok(Vec::new(cx.alloc)),
+        GoalRow::Alias(_) => return Ok(Vec::new(cx.alloc)),
+        GoalRow::Equated(_, _) => return Ok(Vec::new(cx.alloc)),
         GoalRow::Unanswered(_) => return Ok(Vec::new(cx.alloc)),
         GoalRow::Candidates(opened) => opened,
     };

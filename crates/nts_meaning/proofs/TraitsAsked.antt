@@ -1,10 +1,6 @@
 -- Goals of traits that are asked of a handler.
 use Rattle.std.proofs.Common.{◌≡◌, inl, inr, ℕ, suc, ◌<◌, ◌≤◌, ◌||◌, Bool, true, false, List, is_some, refl, sym, ap, ◌∙◌, subst, arith}
-use Rattle.std.specs.Prelude.{◌≢◌, if◌then◌else◌}
-use Rattle.nts_model.specs.Derivations.Rules.{Meaning, coinductive_trait, other_goal, normalization, statement_kind, statement_of, goal_kind, IsHandlers}
-use Rattle.nts_search.specs.declared.kinds.CurrentGoalKind.{CurrentGoalKind}
-use Rattle.nts_search.specs.declared.kinds.CurrentGoalKind.TheVariants as kinds
-use Rattle.nts_search.specs.Kinds.{goal_kind_of}
+use Rattle.nts_model.specs.Derivations.Rules.{statement_of, IsHandlers}
 use Rattle.nts_model.specs.declared.labels.ClauseHead.TheVariants as clause_head
 use Rattle.nts_model.specs.declared.labels.ListHead.TheVariants as list
 use Rattle.nts_model.specs.declared.labels.Label.TheVariants as label
@@ -23,7 +19,7 @@ use Rattle.nts_store.specs.Growth.{tree_at, Extends}
 use Rattle.nts_terms.specs.Kinds.{tree_of_statement, tree_of_predicate, PredicateFits}
 use Rattle.nts_terms.proofs.Standing.{vars_tree}
 use Rattle.nts_theory.specs.Telling.{IsTraitStatement, IsTraitGoal}
-use Rattle.nts_meaning.specs.Evaluation.{SaysOfTrait, NormalizesNone, IsAskedGoal}
+use Rattle.nts_meaning.specs.Evaluation.{SaysOfTrait, IsAskedGoal}
 use Rattle.nts_delegate.specs.Candidates.{IsAskedIn}
 use Rattle.nts_terms.specs.Handles.{HoldsGoal}
 use Rattle.nts_meaning.proofs.Evaluating.{HoldsGoal-extended}
@@ -104,10 +100,6 @@ trait_is_asked ts g b r env goal args t =
       };
     }
 
-pub trait_kind : (x : Bool) → (if x then coinductive_trait else other_goal) ≡ normalization → ⊥
-trait_kind true e = cc e
-trait_kind false e = cc e
-
 -- no alias stands in it
 trait_plain : (ts : List Tree) (g : Goal) (b : Binder PredicateKind) (r : TraitRef) (env goal args : TypeFlags) → AreTests ts g b r env goal args → IsTraitGoal (tree_at ts g.param_env.node) (tree_at ts g.predicate.node)
 trait_plain ts g b r env goal args t =
@@ -123,7 +115,6 @@ trait_asked ts g b r env goal args t =
     record {
       asked = trait_is_asked ts g b r env goal args t;
       trait_goal = trait_plain ts g b r env goal args t;
-      plain = λ z. subst (λ v. statement_kind z (statement_of v) ≢ normalization) (sym t.says) (of_trait ts r (λ v. statement_kind z v ≢ normalization) (λ i. trait_kind (z r.def_id.number)) (λ i e. (let x : other_goal ≡ normalization = e in cc x)) (tree_of_statement ts b.value) t.is_trait);
     }
 
 -- a goal that is asked, in a store that has grown
@@ -141,13 +132,4 @@ IsAskedGoal-extended {a} {b} {g} e h =
     record {
       asked = IsAskedIn-extended e h.asked;
       trait_goal = rw (e.kept g.param_env.node k.env.within, e.kept g.predicate.node k.predicate.within) h.trait_goal;
-      plain = λ z. subst (λ v. statement_kind z (statement_of v) ≢ normalization) (sym (e.kept g.predicate.node k.predicate.within)) (h.plain z);
     }
-
--- what kind of goal it is
-pub kind_asked : (a : List Tree) (g : Goal) (k : CurrentGoalKind) (m : Meaning) → goal_kind_of k ≡ goal_kind m (tree_at a g.predicate.node) → NormalizesNone a g → k ≢ kinds.NormalizesTo
-kind_asked a g k m same h = λ e. h m.is_coinductive (sym same ∙ ap goal_kind_of e)
-
--- .. in a store that has grown
-pub none-extended : {a b : List Tree} {g : Goal} → Extends a b → HoldsGoal a g → NormalizesNone a g → NormalizesNone b g
-none-extended {a} {b} {g} e k h = λ z. subst (λ v. statement_kind z (statement_of v) ≢ normalization) (sym (e.kept g.predicate.node k.predicate.within)) (h z)

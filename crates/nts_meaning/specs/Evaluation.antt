@@ -1,5 +1,5 @@
 -- What the steps of an evaluation keep.
-use Rattle.std.specs.Prelude.{◌≡◌, ◌≢◌, ◌⊎◌, ℕ, Bool, true, false, List, [], ◌∷◌, map, Some}
+use Rattle.std.specs.Prelude.{◌≡◌, ◌⊎◌, ℕ, Bool, true, false, List, [], ◌∷◌, map, Some}
 use Rattle.nts_model.specs.declared.labels.VariableKind.{VariableKind}
 use Rattle.nts_model.specs.declared.labels.VariableKind.TheVariants as variable
 use Rattle.nts_model.specs.declared.labels.Leaf.TheVariants as leaf
@@ -16,7 +16,6 @@ use Rattle.nts_model.specs.Tables.Holding.{Continues}
 use Rattle.nts_model.specs.Derivations.Handlers.{AreValuesOf}
 use Rattle.nts_model.specs.Lists.{Among}
 use Rattle.nts_theory.specs.Telling.{IsTraitGoal}
-use Rattle.nts_model.specs.Derivations.Rules.{normalization, statement_kind, statement_of}
 use Rattle.nts_model.specs.Tables.Passing.{TreePasses, PassesQueries}
 use Rattle.nts_store.specs.declared.nodes.NodeId.{NodeId}
 use Rattle.nts_terms.specs.declared.handles.Goal.{Goal}
@@ -88,15 +87,10 @@ SaysOfTrait ts r s =
     (s ≡ node (label.Clause (clause.Trait r.def_id.number)) (more (tree_at ts r.args.node) empty))
     ⊎ (s ≡ node (label.Clause (clause.HostEffect r.def_id.number)) (more (tree_at ts r.args.node) empty))
 
--- a goal that normalizes no alias
-abbrev pub NormalizesNone : List Tree → Goal → Type 0
-NormalizesNone ts g = (is_coinductive : ℕ → Bool) → statement_kind is_coinductive (statement_of (tree_at ts g.predicate.node)) ≢ normalization
-
--- a goal that is asked of a handler: a trait goal without aliases. It normalizes none
+-- a goal that is asked of a handler: a trait goal without aliases
 pub record IsAskedGoal (ts : List Tree) (g : Goal) : Type 0 where
   pub asked : IsAskedIn ts g
   pub trait_goal : IsTraitGoal (tree_at ts g.param_env.node) (tree_at ts g.predicate.node)
-  pub plain : NormalizesNone ts g
 
 -- a type variable
 abbrev pub is_type_variable_kind : VariableKind → Bool

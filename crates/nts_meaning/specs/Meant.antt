@@ -36,7 +36,7 @@ use Rattle.nts_meaning.specs.Running.{StaysProved}
 use Rattle.nts_certainty.specs.declared.certainty.Certainty.{Certainty}
 use Rattle.nts_certainty.specs.declared.sources.HasChanged.{HasChanged}
 use Rattle.nts_meaning.specs.Answering.{Evaluates, is_yes, verdict_at}
-use Rattle.nts_theory.specs.Telling.{Verdict, StandsForAll}
+use Rattle.nts_theory.specs.Telling.{Verdict, StandsForAll, kind_for}
 
 -- what a handler means: where its terms stand, and what its rules are there
 pub record Rules : Type 1 where
@@ -173,8 +173,8 @@ CandidatesTell h mode a t g qs xs b r =
 abbrev pub RepliesWith : Ruling → TypingMode → List Tree → Table → Goal → List GenericArg → CandidateData → List Tree → Canonical Response → Type 0
 RepliesWith h mode a t g qs x b r = Replies h (mode_of mode) (content_of a t.entries) (tree_at a g.param_env.node) (tree_at a g.predicate.node) (trees_of a qs) (candidate_of a x) (verdict_at b r)
 
-abbrev pub FailsIn : Ruling → TypingMode → List Tree → Table → CandidateData → Type 0
-FailsIn h mode a t x = Fails h (mode_of mode) (content_of a t.entries) (candidate_of a x)
+abbrev pub FailsIn : Ruling → TypingMode → List Tree → Table → Goal → CandidateData → Type 0
+FailsIn h mode a t g x = Fails h (mode_of mode) (kind_for h.handler (tree_at a g.predicate.node)) (content_of a t.entries) (candidate_of a x)
 
 -- a candidate was run: it is begun, and then some of its goals are asked
 pub record HasRunTo (h : Ruling) (mode : TypingMode) (a : List Tree) (t : Table) (b : List Tree) (u : Table) (x : CandidateData) : Type 0 where
@@ -187,5 +187,5 @@ pub record HasRunTo (h : Ruling) (mode : TypingMode) (a : List Tree) (t : Table)
 abbrev pub ReachesBy : Ruling → TypingMode → List Tree → Table → List Tree → Table → List (GoalSource × Goal) → Type 0
 ReachesBy h mode a t b u gs = Reaches h (mode_of mode) (goals_at a gs) (content_of a t.entries) (content_of b u.entries)
 
-abbrev pub RefusesOneOf : Ruling → TypingMode → List Tree → Table → List (GoalSource × Goal) → Type 0
-RefusesOneOf h mode a t gs = RefusesOne h (mode_of mode) (goals_at a gs) (content_of a t.entries)
+abbrev pub RefusesOneOf : Ruling → TypingMode → GoalKind → List Tree → Table → List (GoalSource × Goal) → Type 0
+RefusesOneOf h mode k a t gs = RefusesOne h (mode_of mode) k (goals_at a gs) (content_of a t.entries)

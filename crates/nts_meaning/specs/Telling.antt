@@ -4,7 +4,7 @@ use Rattle.nts_model.specs.declared.labels.Variance.{Variance}
 use Rattle.nts_model.specs.Terms.Trees.{Tree}
 use Rattle.nts_model.specs.Tables.Contents.{Content}
 use Rattle.nts_model.specs.Derivations.Sequents.{Premise}
-use Rattle.nts_model.specs.Derivations.Rules.{Mode}
+use Rattle.nts_model.specs.Derivations.Rules.{Mode, GoalKind}
 use Rattle.nts_model.specs.Derivations.Handlers.{Handler, Candidate}
 use Rattle.nts_model.specs.Canonical.Inputs.{CanonicalInput, PositionKind}
 use Rattle.nts_theory.specs.Telling as tells
@@ -32,14 +32,14 @@ Outcomes h mode c e g qs xs vs = tells.Outcomes (queries h.variances) h.handler 
 abbrev pub Replies : Ruling → Mode → Content → Tree → Tree → List Tree → Candidate → Verdict → Type 0
 Replies h mode c e g qs x v = tells.Replies (queries h.variances) h.handler mode c e g qs x v
 
-abbrev pub Fails : Ruling → Mode → Content → Candidate → Type 0
-Fails h mode c x = tells.Fails (queries h.variances) h.handler mode c x
+abbrev pub Fails : Ruling → Mode → GoalKind → Content → Candidate → Type 0
+Fails h mode k c x = tells.Fails (queries h.variances) h.handler mode k c x
 
 abbrev pub Reaches : Ruling → Mode → List Premise → Content → Content → Type 0
 Reaches h mode gs c d = tells.Reaches (queries h.variances) h.handler mode gs c d
 
-abbrev pub RefusesOne : Ruling → Mode → List Premise → Content → Type 0
-RefusesOne h mode gs c = tells.RefusesOne (queries h.variances) h.handler mode gs c
+abbrev pub RefusesOne : Ruling → Mode → GoalKind → List Premise → Content → Type 0
+RefusesOne h mode k gs c = tells.RefusesOne (queries h.variances) h.handler mode k gs c
 
 abbrev pub Asked : Ruling → Mode → Content → Content → Tree → Tree → Type 0
 Asked h mode c d e g = tells.Asked (queries h.variances) h.handler mode c d e g

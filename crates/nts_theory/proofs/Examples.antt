@@ -7,6 +7,7 @@ pub mod StackExamples
 pub mod ErasingExamples
 pub mod OpenGoalExample
 pub mod ToldExamples
+pub mod AliasExamples
 pub mod JudgedExamples
 pub mod SubtypingExamples
 pub mod RecordingExamples

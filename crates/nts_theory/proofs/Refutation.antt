@@ -22,6 +22,7 @@ pub mod Stating
 pub mod Recording
 pub mod Affirming
 pub mod Subtyping
+pub mod Aliasing
 pub mod ReachedGoals
 pub mod Queried
 pub mod Begun

@@ -2,5 +2,6 @@ pub mod Erased
 pub mod Affirming
 pub mod Outliving
 pub mod Subtyping
+pub mod Aliasing
 pub mod Refutation
 pub mod Telling

@@ -7,6 +7,7 @@ use Rattle.nts_model.specs.declared.labels.Variance.{Variance}
 use Rattle.nts_model.specs.declared.labels.Leaf.{Leaf}
 use Rattle.nts_model.specs.declared.labels.Leaf.TheVariants as leaf
 use Rattle.nts_model.specs.declared.labels.ClauseHead.TheVariants as clause
+use Rattle.nts_model.specs.declared.labels.PredicateHead.TheVariants as predicate
 use Rattle.nts_model.specs.declared.labels.Label.{Label}
 use Rattle.nts_model.specs.declared.labels.Label.TheVariants as label
 use Rattle.nts_model.specs.Terms.Trees.{Tree, empty, node, label_of, any_label, is_alias, IsFormed}
@@ -18,8 +19,8 @@ use Rattle.nts_model.specs.Tables.SubUnifying.{SharesSubRoot}
 use Rattle.nts_model.specs.Tables.Recording.{resolved_constraints, AreNews}
 use Rattle.nts_model.specs.Derivations.Related.{Constraint, pair}
 use Rattle.nts_model.specs.Lists.{Among}
-use Rattle.nts_model.specs.Derivations.Sequents.{Source, type_relating, normalize_goal, inductive, Premise}
-use Rattle.nts_model.specs.Derivations.Rules.{Mode, coherence, statement_of}
+use Rattle.nts_model.specs.Derivations.Sequents.{inductive, Premise}
+use Rattle.nts_model.specs.Derivations.Rules.{Mode, coherence, GoalKind, other_goal, statement_kind, step_kind, statement_of}
 use Rattle.nts_model.specs.Terms.Substitutions.{leaf_tree, filled}
 use Rattle.nts_model.specs.Canonical.Numbered.{position}
 use Rattle.nts_model.specs.Derivations.Handlers.{Handler, Candidate, IsAsked, premise_by}
@@ -33,6 +34,7 @@ use Rattle.nts_model.specs.Derivations.Proving.{HoldsTerms, AreConstraintsOf}
 use Rattle.nts_theory.specs.Affirming.{SaysAffirmed, IsDenied, HasOwnWay}
 use Rattle.nts_theory.specs.Outliving.{IsOutlives}
 use Rattle.nts_theory.specs.Subtyping.{LeavesPremises, IsNoSubtype}
+use Rattle.nts_theory.specs.Aliasing.{NormalizesSide}
 use Rattle.nts_model.specs.Answers.Responses.{Findings, AreFindings, Response, response_of, IsResponseTo, Applies, RefusesResponse}
 
 -- a response, and whether it is certain
@@ -134,13 +136,12 @@ pub record IsBegun (c : Content) (x : Candidate) (vs : List Tree) (met : Content
   pub equates : EquatesAll vs x.equations made equal
   pub adds : AddsAll vs x.constraints equal met
 
--- a source of goals the steps to which are inductive, unless they start from a goal that normalizes an alias
-abbrev pub IsInductive : Source → Type 0
-IsInductive type_relating = Unit {0}
-IsInductive (normalize_goal inductive) = Unit {0}
-IsInductive s = ⊥
+-- what kind of goal it is for a handler, for the steps from it
+abbrev pub kind_for : Handler → Tree → GoalKind
+kind_for h g = statement_kind h.is_coinductive (statement_of g)
 
--- in coherence an inductive cycle is in doubt, and elsewhere it has no solution; there alone subtypes are related
+-- in coherence an inductive cycle is in doubt, and elsewhere it has no solution; there alone subtypes are related, and aliases
+-- normalized
 abbrev pub IsCutIn : Mode → Type 0
 IsCutIn mode = mode ≡ coherence → ⊥
 
@@ -160,10 +161,28 @@ pub record IsTraitGoal (e g : Tree) : Type 0 where
   pub statement : IsTraitStatement (statement_of g)
   pub no_alias : any_label is_alias (pair e g) ≡ false
 
+-- what is said of an alias and a term: that the one is the other, or that the one normalizes to the other
+abbrev pub IsAliasStatement : Tree → Type 0
+IsAliasStatement (node (label.Clause (clause.Projection i)) ts) = Unit {0}
+IsAliasStatement (node (label.Predicate (predicate.NormalizesTo i)) ts) = Unit {0}
+IsAliasStatement t = ⊥
+
+-- a goal that says so, in the parts of whose alias, in whose term and in whose environment no alias stands
+pub record IsAliasGoal (e g : Tree) : Type 0 where
+  pub statement : IsAliasStatement (statement_of g)
+  pub no_alias : any_label is_alias (pair e g) ≡ false
+
 -- a goal that the handler is asked for, opened if it binds variables: it is known to the table in which it is answered
 pub record IsReady (c : Content) (e g : Tree) : Type 0 where
   pub asked : IsAsked e (opened_in c g)
   pub trait_goal : IsTraitGoal e (opened_in c g)
+  pub knows : Knows (entered_table c g) (pair e (opened_in c g))
+  pub proper : IsProperContent (entered_table c g)
+
+-- .. a goal about an alias
+pub record IsAliasReady (c : Content) (e g : Tree) : Type 0 where
+  pub asked : IsAsked e (opened_in c g)
+  pub alias_goal : IsAliasGoal e (opened_in c g)
   pub knows : Knows (entered_table c g) (pair e (opened_in c g))
   pub proper : IsProperContent (entered_table c g)
 
@@ -204,8 +223,9 @@ mutual
   -- what a goal is answered in a table, for these terms of an input of these kinds: nothing is told; or the verdict that stands
   -- for those of the candidates for the goal; or, of a goal that something outlives a region, yes, where the table holds that; or,
   -- of a goal that the handler affirms, yes, where the table is as before; or, of one that has one way by the engine, the verdict of that;
-  -- or, of a goal that one type is a subtype of another, outside of coherence, what the two, once related, and the goals that this
-  -- left came to
+  -- or, outside of coherence, of a goal that one type is a subtype of another, what the two, once related, and the goals that this
+  -- left came to; of one about an alias the verdict that stands for those of the candidates; and of one that an alias is equal to a
+  -- term, what the goal came to that the alias normalizes to that term
   pub data Tells (Q : Queries) (h : Handler) (mode : Mode) : List PositionKind → Content → Tree → Tree → List Tree → Verdict → Type 0 where
     tells_nothing : {ks : List PositionKind} {c : Content} {e g : Tree} {qs : List Tree} {v : Verdict} (d : Content) → (d ≡ c) ⊎ (d ≡ entered_table c g) → v.is_yes ≡ false → IsPlainResponse d qs v.response → Tells Q h mode ks c e g qs v
     says_nothing : {ks : List PositionKind} {c : Content} {e g : Tree} {qs : List Tree} {v : Verdict} → SaysNothing ks v.response → Tells Q h mode ks c e g qs v
@@ -218,20 +238,27 @@ mutual
     tells_own : {ks : List PositionKind} {c : Content} {e g : Tree} {qs : List Tree} {v : Verdict} (x : Candidate) → IsOwnWayIn h c e g x → Replies Q h mode (entered_table c g) e (opened_in c g) qs x v → Tells Q h mode ks c e g qs v
     tells_subtype : {ks : List PositionKind} {c : Content} {e g : Tree} {qs : List Tree} {v : Verdict} (ps : List Premise) (met found : Content) → IsCutIn mode → LeavesPremises Q.variances (entered_table c g) met e (opened_in c g) ps
         → Reaches Q h mode ps met found → IsFound (entered_table c g) e (opened_in c g) found → SaysOf (entered_table c g) found qs v → Tells Q h mode ks c e g qs v
+    tells_alias : {ks : List PositionKind} {c : Content} {e g : Tree} {qs : List Tree} {v : Verdict} (vs : List Verdict) → IsCutIn mode → IsAliasReady c e g → Outcomes Q h mode (entered_table c g) e (opened_in c g) qs (h.offers mode e (opened_in c g)) vs → StandsForAll qs vs v
+        → Tells Q h mode ks c e g qs v
+    tells_normal : {ks : List PositionKind} {c : Content} {e g : Tree} {qs : List Tree} {v : Verdict} (p : Premise) (found : Content) → IsCutIn mode → NormalizesSide e (opened_in c g) p → Reaches Q h mode (p ∷ []) (entered_table c g) found
+        → IsFound (entered_table c g) e (opened_in c g) found → SaysOf (entered_table c g) found qs v → Tells Q h mode ks c e g qs v
 
   -- each candidate fails, or the one way by the engine, or the handler denies the goal; or the one type is no subtype of the other, or
-  -- one of the goals that relating them left is refused
+  -- one of the goals that relating them left is refused; or each candidate for a goal about an alias fails; or the goal is refused that
+  -- an alias normalizes to what it is to be equal to
   pub data Refutes (Q : Queries) (h : Handler) (mode : Mode) : Content → Tree → Tree → List Tree → Type 0 where
     all_fail : {c : Content} {e g : Tree} {qs : List Tree} → IsReady c e g → Outcomes Q h mode (entered_table c g) e (opened_in c g) qs (h.offers mode e (opened_in c g)) [] → Refutes Q h mode c e g qs
     is_denied : {c : Content} {e g : Tree} {qs : List Tree} → IsDenied h.judges (statement_of (opened_in c g)) → Refutes Q h mode c e g qs
-    own_fails : {c : Content} {e g : Tree} {qs : List Tree} (x : Candidate) → IsOwnWayIn h c e g x → Fails Q h mode (entered_table c g) x → Refutes Q h mode c e g qs
+    own_fails : {c : Content} {e g : Tree} {qs : List Tree} (x : Candidate) → IsOwnWayIn h c e g x → Fails Q h mode (kind_for h (opened_in c g)) (entered_table c g) x → Refutes Q h mode c e g qs
     is_no_subtype : {c : Content} {e g : Tree} {qs : List Tree} → IsCutIn mode → IsNoSubtype Q.variances (entered_table c g) (opened_in c g) → Refutes Q h mode c e g qs
-    subtype_refused : {c : Content} {e g : Tree} {qs : List Tree} (ps : List Premise) (met : Content) → IsCutIn mode → LeavesPremises Q.variances (entered_table c g) met e (opened_in c g) ps → RefusesOne Q h mode ps met → Refutes Q h mode c e g qs
+    subtype_refused : {c : Content} {e g : Tree} {qs : List Tree} (ps : List Premise) (met : Content) → IsCutIn mode → LeavesPremises Q.variances (entered_table c g) met e (opened_in c g) ps → RefusesOne Q h mode other_goal ps met → Refutes Q h mode c e g qs
+    aliases_fail : {c : Content} {e g : Tree} {qs : List Tree} → IsCutIn mode → IsAliasReady c e g → Outcomes Q h mode (entered_table c g) e (opened_in c g) qs (h.offers mode e (opened_in c g)) [] → Refutes Q h mode c e g qs
+    normal_refused : {c : Content} {e g : Tree} {qs : List Tree} (p : Premise) → IsCutIn mode → NormalizesSide e (opened_in c g) p → RefusesOne Q h mode other_goal (p ∷ []) (entered_table c g) → Refutes Q h mode c e g qs
 
   -- candidate by candidate, it fails or has a verdict
   pub data Outcomes (Q : Queries) (h : Handler) (mode : Mode) : Content → Tree → Tree → List Tree → List Candidate → List Verdict → Type 0 where
     no_outcome : {c : Content} {e g : Tree} {qs : List Tree} → Outcomes Q h mode c e g qs [] []
-    then_fails : {c : Content} {e g : Tree} {qs : List Tree} {xs : List Candidate} {vs : List Verdict} {x : Candidate} → Outcomes Q h mode c e g qs xs vs → Fails Q h mode c x → Outcomes Q h mode c e g qs (xs ++ x ∷ []) vs
+    then_fails : {c : Content} {e g : Tree} {qs : List Tree} {xs : List Candidate} {vs : List Verdict} {x : Candidate} → Outcomes Q h mode c e g qs xs vs → Fails Q h mode (kind_for h g) c x → Outcomes Q h mode c e g qs (xs ++ x ∷ []) vs
     then_replies : {c : Content} {e g : Tree} {qs : List Tree} {xs : List Candidate} {vs : List Verdict} {x : Candidate} {v : Verdict} → Outcomes Q h mode c e g qs xs vs → Replies Q h mode c e g qs x v → Outcomes Q h mode c e g qs (xs ++ x ∷ []) (vs ++ v ∷ [])
 
   -- the reply of a candidate: its equations and constraints hold, some of its goals were asked, and the table says what it found
@@ -239,22 +266,23 @@ mutual
     replies : {c : Content} {e g : Tree} {qs : List Tree} {x : Candidate} {v : Verdict} (values : List Tree) (met found : Content) → IsBegun c x values met → Reaches Q h mode (goals_with values x.goals) met found → IsFound c e g found → SaysOf c found qs v
         → Replies Q h mode c e g qs x v
 
-  -- a candidate fails: no world of the table meets its equations, or a goal is refused; or the handler's
+  -- a candidate for a goal of that kind fails: no world of the table meets its equations, or a goal is refused; or the handler's
   -- leak check says of what was found that nothing which the root names meets its region constraints
-  pub data Fails (Q : Queries) (h : Handler) (mode : Mode) : Content → Candidate → Type 0 where
-    is_unmet : {c : Content} {x : Candidate} → (IsCandidateMet c x → ⊥) → Fails Q h mode c x
-    is_refused : {c : Content} {x : Candidate} (values : List Tree) (met : Content) → IsBegun c x values met → RefusesOne Q h mode (goals_with values x.goals) met → Fails Q h mode c x
-    is_leaky : {c : Content} {x : Candidate} (values : List Tree) (met found : Content) → IsBegun c x values met → Reaches Q h mode (goals_with values x.goals) met found → h.leaks found 0 → Fails Q h mode c x
+  pub data Fails (Q : Queries) (h : Handler) (mode : Mode) : GoalKind → Content → Candidate → Type 0 where
+    is_unmet : {k : GoalKind} {c : Content} {x : Candidate} → (IsCandidateMet c x → ⊥) → Fails Q h mode k c x
+    is_refused : {k : GoalKind} {c : Content} {x : Candidate} (values : List Tree) (met : Content) → IsBegun c x values met → RefusesOne Q h mode k (goals_with values x.goals) met → Fails Q h mode k c x
+    is_leaky : {k : GoalKind} {c : Content} {x : Candidate} (values : List Tree) (met found : Content) → IsBegun c x values met → Reaches Q h mode (goals_with values x.goals) met found → h.leaks found 0 → Fails Q h mode k c x
 
   -- some of the goals were asked, in any order and more than once
   pub data Reaches (Q : Queries) (h : Handler) (mode : Mode) : List Premise → Content → Content → Type 0 where
     asks_nothing : {gs : List Premise} {c : Content} → Reaches Q h mode gs c c
     then_asks : {gs : List Premise} {c e : Content} (d : Content) (p : Premise) → Reaches Q h mode gs c d → Among gs p → CanAsk d → Asked Q h mode d e (deeply_resolved d p.environment) (deeply_resolved d p.predicate) → Reaches Q h mode gs c e
 
-  -- .. and then one is refused; or, outside coherence, it is cut as a cycle, which only a goal can be that inductive steps lead to
-  pub data RefusesOne (Q : Queries) (h : Handler) (mode : Mode) : List Premise → Content → Type 0 where
-    refuses_one : {gs : List Premise} {c : Content} (d : Content) (p : Premise) → Reaches Q h mode gs c d → Among gs p → CanAsk d → Refused Q h mode d (deeply_resolved d p.environment) (deeply_resolved d p.predicate) → RefusesOne Q h mode gs c
-    cuts_one : {gs : List Premise} {c : Content} (d : Content) (p : Premise) → Reaches Q h mode gs c d → Among gs p → IsInductive p.source → IsCutIn mode → RefusesOne Q h mode gs c
+  -- .. and then one is refused; or, outside coherence, it is cut as a cycle, which only a goal can be that an inductive step from a
+  -- goal of that kind leads to
+  pub data RefusesOne (Q : Queries) (h : Handler) (mode : Mode) : GoalKind → List Premise → Content → Type 0 where
+    refuses_one : {k : GoalKind} {gs : List Premise} {c : Content} (d : Content) (p : Premise) → Reaches Q h mode gs c d → Among gs p → CanAsk d → Refused Q h mode d (deeply_resolved d p.environment) (deeply_resolved d p.predicate) → RefusesOne Q h mode k gs c
+    cuts_one : {k : GoalKind} {gs : List Premise} {c : Content} (d : Content) (p : Premise) → Reaches Q h mode gs c d → Among gs p → step_kind k p.source ≡ inductive → IsCutIn mode → RefusesOne Q h mode k gs c
 
   -- a goal was asked in a query, and the response was applied to its leaves
   pub data Asked (Q : Queries) (h : Handler) (mode : Mode) : Content → Content → Tree → Tree → Type 0 where

@@ -22,7 +22,7 @@ use Rattle.nts_terms.specs.declared.modes.TypingMode.{TypingMode}
 use Rattle.nts_terms.specs.Modes.{mode_of}
 use Rattle.nts_candidates.specs.declared.data.CandidateData.{CandidateData}
 use Rattle.nts_candidates.specs.Offered.{candidates_of}
-use Rattle.nts_theory.specs.Telling.{Verdict}
+use Rattle.nts_theory.specs.Telling.{Verdict, kind_for}
 
 -- values leave what a type is built by
 built_filled : (f : Leaf → Tree) (vs : List Tree) (t : Tree) (h : TyHead) → built_by t ≡ Some h → built_by (filled_under f vs t) ≡ Some h
@@ -50,7 +50,7 @@ unmet c x r m =
 last_outcome : {h : Ruling} {mode : Mode} {c : Content} {k p : Tree} {qs : List Tree} {rs : List Verdict} (xs ys zs : List Candidate) (x : Candidate) → zs ≡ ys ++ x ∷ [] → ((ws : List Candidate) (ps : List Verdict) → ws ≡ ys → Outcomes h mode c k p qs ws ps → Outcomes h mode c k p qs xs ps) → Outcomes h mode c k p qs zs rs → Outcomes h mode c k p qs (xs ++ x ∷ []) rs
 last_outcome xs ys zs x e before no_outcome = absurd (let l = ap length e in omega (arith, l, length-append ys (x ∷ [])))
 last_outcome {h} {mode} {c} {k} {p} {qs} xs ys zs x e before (then_fails {xs = ws} {vs = ps} {x = w} o f) =
-    let same = push_inj ws ys w x e in then_fails (before ws ps same.0 o) (subst (Fails h mode c) same.1 f)
+    let same = push_inj ws ys w x e in then_fails (before ws ps same.0 o) (subst (Fails h mode (kind_for h.handler p) c) same.1 f)
 last_outcome {h} {mode} {c} {k} {p} {qs} xs ys zs x e before (then_replies {xs = ws} {vs = ps} {x = w} {v = r} o f) =
     let same = push_inj ws ys w x e in then_replies (before ws ps same.0 o) (subst (λ z. Replies h mode c k p qs z r) same.1 f)
 
@@ -80,6 +80,14 @@ pub among_all : {xs ys : List Candidate} (z : Candidate) → LeavesOut xs ys →
 among_all z none i = absurd i
 among_all z (offered {xs} {ys} x l) i = elim (last_or_before ys x z i) [ inl j ↦ before_last xs x z (among_all z l j) | inr e ↦ at_last xs x z e ]
 among_all z (left_out {xs} {ys} x l r) i = before_last xs x z (among_all z l i)
+
+-- .. so what is so of those that are left, or of irrelevant ones, is so of each
+pub each_offered : {P : Candidate → Type 0} {xs ys : List Candidate} → LeavesOut xs ys → ((x : Candidate) → Among ys x → P x) → (x : Candidate) → Among xs x → P x ⊎ IsIrrelevant x
+each_offered none f z i = absurd i
+each_offered {P} (offered {xs} {ys} x l) f z i =
+    elim (last_or_before xs x z i) [ inl j ↦ each_offered l (λ w k. f w (before_last ys x w k)) z j | inr e ↦ inl (f z (at_last ys x z e)) ]
+each_offered {P} (left_out {xs} {ys} x l r) f z i =
+    elim (last_or_before xs x z i) [ inl j ↦ each_offered l f z j | inr e ↦ inr (subst IsIrrelevant (sym e) r) ]
 
 pub kept_offered : (ts : List Tree) (g : Goal) (xs : List CandidateData) (h : Handler) (mode : TypingMode) → LeavesOut (offers_of h (mode_of mode) ts g) (candidates_of ts xs) → AreOffered h mode ts g xs
 kept_offered ts g xs h mode same z i = among_all z same i

@@ -15,6 +15,9 @@ pub mod Instances
 pub mod Unasked
 pub mod Outliving
 pub mod SubtypeGoals
+pub mod AliasGoals
+pub mod NormalGoals
+mod Plain
 mod AnsweredTypes
 pub mod JoinedTypes
 pub mod RelatedTypes

@@ -40,6 +40,10 @@ use Rattle.nts_candidates.specs.declared.data.CandidateData.{CandidateData}
 use Rattle.nts_candidates.specs.Offered.{candidates_of}
 use Rattle.nts_delegate.specs.Relevant.{LeavesOut}
 use Rattle.nts_trying.proofs.LeftOut.{all_outcomes}
+use Rattle.nts_trying.specs.Aliasing.{AliasGoalIn, IsAliasTold, IsAliasRefuted, IsEquatedGoal, IsNormalizedBy, SaysNormal, NormalTold, NormalRefuted}
+use Rattle.nts_trying.specs.declared.normal.EquatedAlias.{EquatedAlias}
+use Rattle.nts_trying.proofs.NormalGoals.{normal_proved}
+use Rattle.nts_trying.proofs.AliasGoals.{alias_asked, alias_goal_here}
 use Rattle.nts_terms.specs.Handles.{HoldsGoal}
 use Rattle.nts_meaning.specs.Evaluation.{Goes, IsPosed, IsAskedGoal, asked_terms}
 use Rattle.nts_trying.specs.Opening.{IsOpenedTo}
@@ -47,13 +51,13 @@ use Rattle.nts_meaning.specs.Meant.{IsServed, offers_of, IsTold, IsRefuted, Cand
 use Rattle.nts_meaning.proofs.Evaluating.{Knows-goes, offers-kept}
 use Rattle.nts_meaning.proofs.Running.{term_table}
 use Rattle.nts_meaning.specs.Telling.{Ruling, Outcomes, Replies, Fails}
-use Rattle.nts_theory.specs.Telling.{IsPlainResponse, Verdict, IsReady, IsTraitGoal, StandsForAll, SaysRecorded, IsTermTable, IsResponseOf, IsOwnWayIn}
+use Rattle.nts_theory.specs.Telling.{IsPlainResponse, Verdict, kind_for, IsReady, IsAliasReady, IsAliasGoal, IsTraitGoal, StandsForAll, SaysRecorded, IsTermTable, IsResponseOf, IsOwnWayIn}
 use Rattle.nts_theory.specs.Affirming.{SaysAffirmed, IsDenied, HasOwnWay}
 use Rattle.nts_theory.proofs.Aliases.ByEngine.{IsClosedThere, affirmed_proved}
 use Rattle.nts_theory.proofs.Aliases.ByOwnWay.{own_way_proved}
 use Rattle.nts_model.specs.Tables.Levels.{IsLevelled, AreRegionsLevelled}
 use Rattle.nts_model.specs.Derivations.Proving.{IsTermOf}
-use Rattle.nts_theory.specs.Telling.Tells.{tells_nothing, tells_one, tells_outlives, tells_affirmed, tells_own, tells_subtype}
+use Rattle.nts_theory.specs.Telling.Tells.{tells_nothing, tells_one, tells_outlives, tells_affirmed, tells_own, tells_subtype, tells_alias, tells_normal}
 use Rattle.nts_theory.specs.Outliving.{IsOutlives}
 use Rattle.nts_trying.specs.Subtyping.{IsSubtypeGoal, AreSubtypesBy, SaysSubtypes, SubtypesTold, SubtypesStop, SubtypesRefuted}
 use Rattle.nts_trying.specs.declared.subtypes.TypePair.{TypePair}
@@ -61,7 +65,7 @@ use Rattle.nts_trying.proofs.SubtypeGoals.{subtyping_proved}
 use Rattle.nts_trying.specs.Outliving.{IsClosedEnv, IsOutlivesGoal, constraint_at, HoldsIn}
 use Rattle.nts_trying.specs.declared.outlives.Outlives.{Outlives}
 use Rattle.nts_trying.proofs.Outliving.{outlives_proved}
-use Rattle.nts_theory.specs.Telling.Refutes.{all_fail, is_denied, own_fails, is_no_subtype, subtype_refused}
+use Rattle.nts_theory.specs.Telling.Refutes.{all_fail, is_denied, own_fails, is_no_subtype, subtype_refused, aliases_fail, normal_refused}
 use Rattle.nts_theory.specs.Subtyping.{IsSubtyping, IsNoSubtype}
 use Rattle.nts_meaning.specs.Answering.{is_yes, verdict_at}
 use Rattle.nts_model.specs.Answers.Applying.{IsProperContent}
@@ -145,6 +149,32 @@ module _ {a b : List Tree} {t u : Table} {g o : Goal} (posed : IsPosed a t g) (o
 
   pub refuted_through : IsPosed b u o → IsAskedGoal b o → (h : Ruling) (mode : TypingMode) (qs : List GenericArg) → Outcomes h (mode_of mode) there (tree_at b o.param_env.node) (tree_at b o.predicate.node) (trees_of a qs) (offers_of h.handler (mode_of mode) b o) [] → IsRefuted h mode a t g qs
   refuted_through p ask h mode qs x = all_fail (ready_opened p ask) (opened_outcomes h mode (trees_of a qs) [] x)
+
+  -- .. about an alias, outside of coherence
+  alias_ready : AreFormed b → IsPosed b u o → AliasGoalIn b o → IsAliasReady before (tree_at a g.param_env.node) (tree_at a g.predicate.node)
+  alias_ready formed p says =
+      let k = p.knows in
+      let w = p.table in
+      let same = environment_same in
+      let asked = alias_asked formed p says in
+      record {
+        asked = subst (λ z. handlers.IsAsked (tree_at a g.param_env.node) z) opens.predicate (subst (λ z. handlers.IsAsked z (tree_at b o.predicate.node)) environment_same asked.asked);
+        alias_goal = subst (λ z. IsAliasGoal (tree_at a g.param_env.node) z) opens.predicate (subst (λ z. IsAliasGoal z (tree_at b o.predicate.node)) environment_same (alias_goal_here formed p says));
+        knows = subst (λ z. Knows z (pair (tree_at a g.param_env.node) (opened_in before (tree_at a g.predicate.node)))) opens.table
+            (subst (λ z. Knows there (pair (tree_at a g.param_env.node) z)) opens.predicate (subst (λ z. Knows there (pair z (tree_at b o.predicate.node))) same (k.env, (k.predicate, tt))));
+        proper = subst IsProperContent opens.table (proper_content w);
+      }
+
+  pub alias_told : AreFormed b → IsPosed b u o → AliasGoalIn b o → (h : Ruling) (mode : TypingMode) (qs : List GenericArg) (e : List Tree) (r : Canonical Response) → trees_of b qs ≡ trees_of a qs → IsAliasTold h mode b u o qs e r → IsTold h mode a t g qs e r
+  alias_told formed p says h mode qs e r same (inl x) ks =
+      let outcomes = subst (λ z. Outcomes h (mode_of mode) there (tree_at b o.param_env.node) (tree_at b o.predicate.node) z (offers_of h.handler (mode_of mode) b o) x.verdicts) same x.outcomes in
+      tells_alias x.verdicts x.outside (alias_ready formed p says) (opened_outcomes h mode (trees_of a qs) x.verdicts outcomes) (subst (λ z. StandsForAll z x.verdicts (verdict_at e r)) same x.stands)
+  alias_told formed p says h mode qs e r same (inr (n, x)) ks = tells_nothing there (inr opens.table) n (subst (λ z. IsPlainResponse there z (response_at e r)) same x)
+
+  pub alias_refuted : AreFormed b → IsPosed b u o → AliasGoalIn b o → (h : Ruling) (mode : TypingMode) (qs : List GenericArg) → trees_of b qs ≡ trees_of a qs → IsAliasRefuted h mode b u o qs → IsRefuted h mode a t g qs
+  alias_refuted formed p says h mode qs same x =
+      let outcomes = subst (λ z. Outcomes h (mode_of mode) there (tree_at b o.param_env.node) (tree_at b o.predicate.node) z (offers_of h.handler (mode_of mode) b o) []) same x.outcomes in
+      aliases_fail x.outside (alias_ready formed p says) (opened_outcomes h mode (trees_of a qs) [] outcomes)
 
   -- .. of which nothing is told there
   pub nothing_through : (h : Ruling) (mode : TypingMode) (qs : List GenericArg) (e : List Tree) (r : Canonical Response) → trees_of b qs ≡ trees_of a qs → is_yes r.value.certainty ≡ false → IsPlainResponse there (trees_of b qs) (response_at e r) → IsTold h mode a t g qs e r
@@ -310,8 +340,10 @@ module _ {a b : List Tree} {t u : Table} {g o : Goal} (posed : IsPosed a t g) (o
       (subst (λ z. Replies h (mode_of mode) there (tree_at a g.param_env.node) z (trees_of a qs) x v) opens.predicate
       (subst (λ z. Replies h (mode_of mode) there z (tree_at b o.predicate.node) (trees_of a qs) x v) environment_same (subst (λ z. Replies h (mode_of mode) there (tree_at b o.param_env.node) (tree_at b o.predicate.node) z x v) same reply))))
 
-  pub own_refuted : IsPosed b u o → AreFormed b → (h : Ruling) (mode : TypingMode) (qs : List GenericArg) (x : Candidate) → HasOwnWay (let m = h.handler in m.judges) (tree_at b o.param_env.node) (tree_at b o.predicate.node) x → Fails h (mode_of mode) there x → IsRefuted h mode a t g qs
-  own_refuted p formed h mode qs x way fails = own_fails x (way_there h.handler x p formed way) (subst (λ z. Fails h (mode_of mode) z x) opens.table fails)
+  pub own_refuted : IsPosed b u o → AreFormed b → (h : Ruling) (mode : TypingMode) (qs : List GenericArg) (x : Candidate) → HasOwnWay (let m = h.handler in m.judges) (tree_at b o.param_env.node) (tree_at b o.predicate.node) x → Fails h (mode_of mode) (kind_for h.handler (tree_at b o.predicate.node)) there x → IsRefuted h mode a t g qs
+  own_refuted p formed h mode qs x way fails =
+      own_fails x (way_there h.handler x p formed way)
+      (subst (λ z. Fails h (mode_of mode) (kind_for h.handler z) (entered_table before (tree_at a g.predicate.node)) x) opens.predicate (subst (λ z. Fails h (mode_of mode) (kind_for h.handler (tree_at b o.predicate.node)) z x) opens.table fails))
 
   -- where one type of the opened goal is a subtype of the other under the table, the goal is proved
   pub subtype_through : (m : Meaning) (mode : Mode) (A : List Assumed) {d : List Tree} {v : Table} (p : TypePair) → IsPosed b u o → IsSubtypeGoal b o p → Goes b d u v → Continues before (content_of d v.entries) → AreFormed d
@@ -324,6 +356,18 @@ module _ {a b : List Tree} {t u : Table} {g o : Goal} (posed : IsPosed a t g) (o
       (subtyping_proved m mode A (content_of d v.entries) terms.sound terms.values terms.constraints before (tree_at a g.param_env.node) (tree_at a g.predicate.node) (tree_at b p.sub.node) (tree_at b p.sup.node) posed.table.now.proper.current later t.levelled t.regions t.env_before t.goal_before t.env_now t.goal_now t.opened_now
       (closed_there is.environment) opens.closed (subst (λ z. IsSubtyping z (tree_at b p.sub.node) (tree_at b p.sup.node)) opens.predicate is.says)
       (subst (λ z. AreSubtypesBy m mode A (content_of d v.entries) z (tree_at b p.sub.node) (tree_at b p.sup.node)) environment_same held))
+
+  -- .. and where what is left of one that an alias is equal to a term is proved
+  pub normal_through : (m : Meaning) (mode : Mode) (A : List Assumed) {d : List Tree} {v : Table} (r : EquatedAlias) → IsPosed b u o → IsEquatedGoal b o r → Goes b d u v → Continues before (content_of d v.entries) → AreFormed d
+      → IsNormalizedBy m mode A (content_of d v.entries) (tree_at b o.param_env.node) (tree_at b o.predicate.node) → IsProvedFrom m mode A (content_of d v.entries) (tree_at d g.param_env.node) (tree_at d g.predicate.node)
+  normal_through m mode A {d} {v} r there_posed says goes later formed held =
+      let t = through there_posed goes later formed in
+      let terms = t.terms in
+      let is = says.is in
+      of_goal m mode A t
+      (normal_proved m mode A (content_of d v.entries) terms.sound terms.values terms.constraints before (tree_at a g.param_env.node) (tree_at a g.predicate.node) posed.table.now.proper.current later t.levelled t.regions t.env_before t.goal_before t.env_now t.goal_now t.opened_now
+      (closed_there is.environment) opens.closed
+      (subst (λ z. IsNormalizedBy m mode A (content_of d v.entries) (tree_at a g.param_env.node) z) opens.predicate (subst (λ z. IsNormalizedBy m mode A (content_of d v.entries) z (tree_at b o.predicate.node)) environment_same held)))
 
   -- .. and what it is told and refuted by
   abbrev Reading : (Content → Tree → Tree → Type 0) → Type 0
@@ -344,6 +388,20 @@ module _ {a b : List Tree} {t u : Table} {g o : Goal} (posed : IsPosed a t g) (o
       let w = y.reached in
       tells_subtype w.left w.met y.found w.outside w.leaves w.reaches y.is_found y.says
   subtype_told h mode qs e r same (inr (unsure, plain)) ks = nothing_through h mode qs e r same unsure plain ks
+
+  pub normal_told : (h : Ruling) (mode : TypingMode) (qs : List GenericArg) (e : List Tree) (r : Canonical Response) → trees_of b qs ≡ trees_of a qs
+      → NormalTold h (mode_of mode) there (tree_at b o.param_env.node) (tree_at b o.predicate.node) (trees_of b qs) (verdict_at e r) → IsTold h mode a t g qs e r
+  normal_told h mode qs e r same (inl x) ks =
+      let v = verdict_at e r in
+      let one = subst (λ z. Reading (λ c i j. SaysNormal h (mode_of mode) c i j z v)) same x in
+      let y = through_opening (λ c i j. SaysNormal h (mode_of mode) c i j (trees_of a qs) v) one in
+      tells_normal y.premise y.found y.outside y.side y.reaches y.is_found y.says
+  normal_told h mode qs e r same (inr (unsure, plain)) ks = nothing_through h mode qs e r same unsure plain ks
+
+  pub normal_stops : (h : Ruling) (mode : TypingMode) (qs : List GenericArg) → NormalRefuted h (mode_of mode) there (tree_at b o.param_env.node) (tree_at b o.predicate.node) → IsRefuted h mode a t g qs
+  normal_stops h mode qs x =
+      let y = through_opening (λ c e p. NormalRefuted h (mode_of mode) c e p) x in
+      normal_refused y.premise y.outside y.side y.refused
 
   pub subtype_refuted : (h : Ruling) (mode : TypingMode) (qs : List GenericArg) → SubtypesRefuted h (mode_of mode) there (tree_at b o.param_env.node) (tree_at b o.predicate.node) → IsRefuted h mode a t g qs
   subtype_refuted h mode qs (outside, inl none) =

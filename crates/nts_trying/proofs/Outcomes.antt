@@ -29,7 +29,7 @@ use Rattle.nts_response.specs.Forms.{response_at}
 use Rattle.std.specs.Global.{Box}
 use Rattle.nts_meaning.specs.Answering.{IfAnswered, verdict_at}
 use Rattle.nts_trying.specs.Found.{Found, IsMerged, kept_after}
-use Rattle.nts_theory.specs.Telling.{IsPlainResponse, StandsForAll}
+use Rattle.nts_theory.specs.Telling.{IsPlainResponse, StandsForAll, kind_for}
 use Rattle.nts_theory.specs.Telling.Outcomes.{no_outcome, then_fails, then_replies}
 use Rattle.nts_meaning.specs.Meant.{HaveOutcomes, CandidatesTell, RepliesWith, FailsIn}
 use Rattle.nts_meaning.proofs.AskedGoals.{trees_kept}
@@ -105,7 +105,7 @@ candidates_next ts xs i d l = ap (map (candidate_of ts)) (take_more xs i d l) �
 
 pub outcomes_more : {P : List Tree → Table → Type 0} {a b e : List Tree} {t : Table} {g : Goal} {qs : List GenericArg} (h : Ruling) (mode : TypingMode) (xs : List CandidateData) (i : ℕ) (d x : CandidateData) (rs new : List (Canonical Response)) (y : Result (Box (Canonical Response)) EvalError)
     → i < length xs → x ≡ get_or xs i d → Extends a b → Extends b e → IsTable a t → All (IsArgOf a t.entries) qs → IsCandidate a g (get_or xs i d) → All (Found P a b t g qs) rs → new ≡ kept_after rs y
-    → HoldsGoal a g → IfAnswered y (RepliesWith h mode b t g qs x e) → OnErr y (FailsIn h mode b t x) → HaveOutcomes h mode a t g qs (take i xs) (map (verdict_at b) rs) → HaveOutcomes h mode a t g qs (take (i + 1) xs) (map (verdict_at e) new)
+    → HoldsGoal a g → IfAnswered y (RepliesWith h mode b t g qs x e) → OnErr y (FailsIn h mode b t g x) → HaveOutcomes h mode a t g qs (take i xs) (map (verdict_at b) rs) → HaveOutcomes h mode a t g qs (take (i + 1) xs) (map (verdict_at e) new)
 outcomes_more {P} {a} {b} {e} {t} {g} {qs} h mode xs i d x rs new y l is ab be w args candidate found q held told failed before =
     let environment = ab.kept g.param_env.node held.env.within in
     let predicate = ab.kept g.predicate.node held.predicate.within in
@@ -117,13 +117,13 @@ outcomes_more {P} {a} {b} {e} {t} {g} {qs} h mode xs i d x rs new y l is ab be w
     let earlier : Outcomes h (mode_of mode) c (tree_at a g.param_env.node) (tree_at a g.predicate.node) (trees_of a qs) (candidates_of a (take i xs)) (map (verdict_at e) rs) = rw (responses_same rs be found) before in
     by_answer y q told failed earlier now trees there environment predicate
   where
-    by_answer : (y : Result (Box (Canonical Response)) EvalError) → new ≡ kept_after rs y → IfAnswered y (RepliesWith h mode b t g qs x e) → OnErr y (FailsIn h mode b t x) → Outcomes h (mode_of mode) (content_of a t.entries) (tree_at a g.param_env.node) (tree_at a g.predicate.node) (trees_of a qs) (candidates_of a (take i xs)) (map (verdict_at e) rs)
+    by_answer : (y : Result (Box (Canonical Response)) EvalError) → new ≡ kept_after rs y → IfAnswered y (RepliesWith h mode b t g qs x e) → OnErr y (FailsIn h mode b t g x) → Outcomes h (mode_of mode) (content_of a t.entries) (tree_at a g.param_env.node) (tree_at a g.predicate.node) (trees_of a qs) (candidates_of a (take i xs)) (map (verdict_at e) rs)
         → content_of b t.entries ≡ content_of a t.entries → trees_of b qs ≡ trees_of a qs → candidate_of b x ≡ candidate_of a (get_or xs i d) → tree_at b g.param_env.node ≡ tree_at a g.param_env.node → tree_at b g.predicate.node ≡ tree_at a g.predicate.node → HaveOutcomes h mode a t g qs (take (i + 1) xs) (map (verdict_at e) new)
     by_answer (Ok r) q told failed earlier now trees there environment predicate =
         let one : Replies h (mode_of mode) (content_of a t.entries) (tree_at a g.param_env.node) (tree_at a g.predicate.node) (trees_of a qs) (candidate_of a (get_or xs i d)) (verdict_at e r.value) = rw (now, trees, there, environment, predicate) at told in
         rw (candidates_next a xs i d l, q, map-append (verdict_at e) rs (r.value ∷ [])) (then_replies earlier one)
     by_answer (Err z) q told failed earlier now trees there environment predicate =
-        let one : Fails h (mode_of mode) (content_of a t.entries) (candidate_of a (get_or xs i d)) = rw (now, there) at failed in
+        let one : Fails h (mode_of mode) (kind_for h.handler (tree_at a g.predicate.node)) (content_of a t.entries) (candidate_of a (get_or xs i d)) = rw (now, there, predicate) at failed in
         rw (candidates_next a xs i d l, q) (then_fails earlier one)
 
 -- the response that stands for all

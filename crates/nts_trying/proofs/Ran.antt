@@ -34,7 +34,7 @@ use Rattle.nts_delegate.specs.Candidates.{AreNested}
 use Rattle.nts_candidates.specs.Offered.{constraint_of, premise_of, candidate_of}
 use Rattle.nts_response.specs.Forms.{premise_at}
 use Rattle.nts_trying.specs.Choices.{EquatesCandidate}
-use Rattle.nts_theory.specs.Telling.{IsBegun, goals_with}
+use Rattle.nts_theory.specs.Telling.{IsBegun, goals_with, kind_for}
 use Rattle.nts_theory.specs.Telling.Fails.{is_refused}
 use Rattle.nts_trying.specs.Stepping.{ArePosed, AreSettled, terms_of}
 use Rattle.nts_trying.specs.Adding.{AreAdded}
@@ -76,7 +76,7 @@ module _ {a b e f : List Tree} {t u v : Table} (h : Ruling) (mode : TypingMode) 
         reaches = rw (its_goals, content_of-extended ef table.now) at r;
       }
 
-  pub ran_refused : RefusesOneOf h mode f v gs → FailsIn h mode a t x
+  pub ran_refused : RefusesOneOf h mode (kind_for h.handler (tree_at a g.predicate.node)) f v gs → FailsIn h mode a t g x
   ran_refused r = is_refused (map (tree_at b) vs) (content_of e v.entries) (begins e v x vs equated adds constraints) (rw (its_goals, content_of-extended ef table.now) at r)
 
 -- what is proved of the goals

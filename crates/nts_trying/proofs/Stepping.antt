@@ -13,10 +13,9 @@ use Rattle.nts_certainty.specs.declared.sources.PathKind.{PathKind}
 use Rattle.nts_certainty.specs.declared.sources.PathKind.TheVariants as path
 use Rattle.nts_certainty.specs.declared.sources.GoalSource.TheVariants as source
 use Rattle.nts_meaning.specs.nts_search.specs.declared.kinds.CurrentGoalKind.{CurrentGoalKind}
-use Rattle.nts_meaning.specs.nts_search.specs.declared.kinds.CurrentGoalKind.TheVariants as kinds
 use Rattle.nts_meaning.specs.nts_search.specs.Kinds.{goal_kind_of}
 use Rattle.nts_candidates.specs.Offered.{path_kind_of, source_of}
-use Rattle.nts_theory.specs.Telling.{CanAsk, IsInductive}
+use Rattle.nts_theory.specs.Telling.{CanAsk}
 use Rattle.nts_theory.specs.Telling.RefusesOne.{cuts_one}
 use Rattle.nts_meaning.specs.nts_search.specs.Searching.{IsStack}
 use Rattle.nts_meaning.specs.Searching.{IsHead, AreLater, IsGoalCut}
@@ -144,28 +143,6 @@ only_left {a} {b} {t} gs left e h k o =
     let p = all_among (λ g. IsPosed a t g.1) gs r.0 h i in
     term_among a gs r.0 x i (terms_same r.0.1 x e p.holds r.2)) o
 
--- a step that is inductive, though its goal normalizes no alias
-inductive_source : (z : CurrentGoalKind) (o : GoalSource) → z ≢ kinds.NormalizesTo → step_kind (goal_kind_of z) (source_of o) ≡ inductive → IsInductive (source_of o)
-inductive_source kinds.NormalizesTo o n e = absurd (n refl)
-inductive_source kinds.Misc source.Misc n e = cc e
-inductive_source kinds.Misc source.TypeRelating n e = tt
-inductive_source kinds.Misc source.ImplWhereBound n e = cc e
-inductive_source kinds.Misc source.AliasBoundConstCondition n e = cc e
-inductive_source kinds.Misc source.AliasWellFormed n e = cc e
-inductive_source kinds.Misc (source.NormalizeGoal path.Inductive) n e = tt
-inductive_source kinds.Misc (source.NormalizeGoal path.Coinductive) n e = cc e
-inductive_source kinds.Misc (source.NormalizeGoal path.Unknown) n e = cc e
-inductive_source kinds.Misc (source.NormalizeGoal path.ForcedAmbiguity) n e = cc e
-inductive_source kinds.CoinductiveTrait source.Misc n e = cc e
-inductive_source kinds.CoinductiveTrait source.TypeRelating n e = tt
-inductive_source kinds.CoinductiveTrait source.ImplWhereBound n e = cc e
-inductive_source kinds.CoinductiveTrait source.AliasBoundConstCondition n e = cc e
-inductive_source kinds.CoinductiveTrait source.AliasWellFormed n e = cc e
-inductive_source kinds.CoinductiveTrait (source.NormalizeGoal path.Inductive) n e = tt
-inductive_source kinds.CoinductiveTrait (source.NormalizeGoal path.Coinductive) n e = cc e
-inductive_source kinds.CoinductiveTrait (source.NormalizeGoal path.Unknown) n e = cc e
-inductive_source kinds.CoinductiveTrait (source.NormalizeGoal path.ForcedAmbiguity) n e = cc e
-
 -- the trees of a goal in a smaller store
 earlier_trees : {a b : List Tree} {g : Goal} → Extends a b → HoldsGoal a g → (P : Tree → Tree → Type 0) → P (tree_at b g.param_env.node) (tree_at b g.predicate.node) → P (tree_at a g.param_env.node) (tree_at a g.predicate.node)
 earlier_trees {a} {b} {g} e held P x = subst (λ v. P v (tree_at a g.predicate.node)) (e.kept g.param_env.node held.env.within) (subst (P (tree_at b g.param_env.node)) (e.kept g.predicate.node held.predicate.within) x)
@@ -229,11 +206,11 @@ module _ {a b : List Tree} {t : Table} (u : Table) (h : Ruling) (mode : TypingMo
       by_case held (inl y) = inl (earlier_trees e held (λ v w. Refused h (mode_of mode) x.table (deeply_resolved x.table v) (deeply_resolved x.table w)) y)
       by_case held (inr (k, same, c)) = inr (k, same, earlier_trees e held (λ v w. IsGoalCut a s x.table mode (deeply_resolved x.table v) (deeply_resolved x.table w) k) (goal_cut_before e stack heads later c))
 
--- goals that stop are refused; a cut is one of an inductive source
-pub stopped_refused : {h : Ruling} {mode : TypingMode} {a : List Tree} {gs : List (GoalSource × Goal)} (t : Table) (s : SearchGraph) (z : CurrentGoalKind) → z ≢ kinds.NormalizesTo → StopsIn s z h mode a (content_of a t.entries) gs → RefusesOneOf h mode a t gs
-stopped_refused {a = a} {gs = gs} t s z n (x, inl r) = refuses_one x.table (premise_at a x.goal) x.reaches (among_image (premise_at a) gs x.goal x.among) x.can_ask r
-stopped_refused {a = a} {gs = gs} t s z n (x, inr (k, same, (i, of, c))) =
-    cuts_one x.table (premise_at a x.goal) x.reaches (among_image (premise_at a) gs x.goal x.among) (inductive_source z x.goal.0 n (sym same ∙ ap path_kind_of (last_inductive k c))) c.elsewhere
+-- goals that stop are refused; a cut is one of an inductive step
+pub stopped_refused : {h : Ruling} {mode : TypingMode} {a : List Tree} {gs : List (GoalSource × Goal)} (t : Table) (s : SearchGraph) (z : CurrentGoalKind) → StopsIn s z h mode a (content_of a t.entries) gs → RefusesOneOf h mode (goal_kind_of z) a t gs
+stopped_refused {a = a} {gs = gs} t s z (x, inl r) = refuses_one x.table (premise_at a x.goal) x.reaches (among_image (premise_at a) gs x.goal x.among) x.can_ask r
+stopped_refused {a = a} {gs = gs} t s z (x, inr (k, same, (i, of, c))) =
+    cuts_one x.table (premise_at a x.goal) x.reaches (among_image (premise_at a) gs x.goal x.among) (sym same ∙ ap path_kind_of (last_inductive k c)) c.elsewhere
 
 -- on an empty stack nothing is cut
 pub stopped_root : {h : Ruling} {mode : TypingMode} {a : List Tree} {c : Content} {gs : List (GoalSource × Goal)} (s : SearchGraph) (z : CurrentGoalKind) → s.stack.items ≡ [] → StopsIn s z h mode a c gs → RefusesAmong h mode a c gs

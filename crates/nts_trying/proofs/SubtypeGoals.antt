@@ -151,6 +151,10 @@ module _ (m : Meaning) (mode : Mode) (A : List Assumed) (c : Content) (s : IsSou
       (chooses_grows m mode here cs formed closed (read_itself c s t k) other_goal (asked g) (deeply_resolved c g)) first (itself_follows g kg)))
       (keeps_or_not (statement_of (deeply_resolved c g)))
 
+  -- what a rule of the engine gives for two terms
+  abbrev pub Gives : Tree → Tree → PredicateHead → (Premise → Type 0) → Type 0
+  Gives a b h P = IsBuiltIn m (λ y. Unit {0}) (IsGranted c) (Stands (λ y. Unit {0}) P other_goal) here (node (label.Predicate h) (pair (deeply_resolved c a) (deeply_resolved c b)))
+
   module _ (a b : Tree) (x : AreSubtypesBy m mode A c e a b) where
     each_stands : EachAnswered m mode A c s t k e ke closed (map (deeply_resolved c) x.goals)
     each_stands q i =
@@ -164,32 +168,29 @@ module _ (m : Meaning) (mode : Mode) (A : List Assumed) (c : Content) (s : IsSou
     types_follow : Owed Relate
     types_follow = related_follows m mode c s here other_goal (λ q. A) none (map (deeply_resolved c) x.goals) variance.Covariant a b each_stands x.related
 
-    abbrev Gives : PredicateHead → (Premise → Type 0) → Type 0
-    Gives h P = IsBuiltIn m (λ y. Unit {0}) (IsGranted c) (Stands (λ y. Unit {0}) P other_goal) here (node (label.Predicate h) (pair (deeply_resolved c a) (deeply_resolved c b)))
+    types_give : (h : PredicateHead) → ((P : Premise → Type 0) → Relate P → Gives a b h P) → Owed (Gives a b h)
+    types_give h gives = from_then m mode here cs (λ q. A) none Relate (Gives a b h) gives types_follow
 
-    -- as it stands, or for what it says of fresh placeholders for what it binds
-    module _ (h : PredicateHead) (other : (xs : Tree) → statement_kind m.is_coinductive (node (label.Predicate h) xs) ≡ other_goal) (gives : (P : Premise → Type 0) → Relate P → Gives h P) (ta : IsTermOf c a) (tb : IsTermOf c b) where
-      by_rule_of : Owed (Gives h)
-      by_rule_of = from_then m mode here cs (λ q. A) none Relate (Gives h) gives types_follow
+  -- a goal of two terms for which a rule gives it is proved: as it stands, or for what it says of fresh placeholders for what it binds
+  module _ (a b : Tree) (h : PredicateHead) (other : (xs : Tree) → statement_kind m.is_coinductive (node (label.Predicate h) xs) ≡ other_goal) (by_rule_of : Owed (Gives a b h)) (ta : IsTermOf c a) (tb : IsTermOf c b) where
+    abbrev kind_of_goal : (x y : Tree) → goal_kind m (about h x y) ≡ other_goal
+    kind_of_goal x y = other (pair x y)
 
-      abbrev kind_of_goal : (x y : Tree) → goal_kind m (about h x y) ≡ other_goal
-      kind_of_goal x y = other (pair x y)
+    proved_binding : (f : Sort → ℕ → Leaf) (v vs u : Tree) → IsTermOf c (bound (more v vs) u) → IsClosed (bound (more v vs) u) → AreFresh (pair here (deeply_resolved c (bound (more v vs) u))) f → unbound (opened f 0 u) ≡ about h a b → IsProvedFrom m mode A c e (bound (more v vs) u)
+    proved_binding f v vs u kg ends fresh is =
+        let r = instance_of (reading_of c s t) in
+        let says : opened f 0 u ≡ node (label.Predicate h) (pair a b) = one_statement (opened f 0 u) (node (label.Predicate h) (pair a b)) is in
+        let reads : deeply_resolved c (bound (more v vs) u) ≡ bound (more (r v) (r vs)) (r u) = sym (instance_of-reading c s t (bound (more v vs) u) kg.knows kg.formed) in
+        let there : opened f 0 (r u) ≡ node (label.Predicate h) (r (pair a b)) = sym (statement_reads m mode A c s t k e ke closed v vs u f kg ends fresh) ∙ ap r says in
+        let kind : goal_kind m (deeply_resolved c (bound (more v vs) u)) ≡ other_goal = ap (goal_kind m) reads ∙ relating_kind m.is_coinductive f h (r (pair a b)) other (r u) there in
+        relating_opened m mode A c s t k e ke closed v vs u f kg ends fresh h kind_of_goal a b says ta tb kind by_rule_of
 
-      proved_binding : (f : Sort → ℕ → Leaf) (v vs u : Tree) → IsTermOf c (bound (more v vs) u) → IsClosed (bound (more v vs) u) → AreFresh (pair here (deeply_resolved c (bound (more v vs) u))) f → unbound (opened f 0 u) ≡ about h a b → IsProvedFrom m mode A c e (bound (more v vs) u)
-      proved_binding f v vs u kg ends fresh is =
-          let r = instance_of (reading_of c s t) in
-          let says : opened f 0 u ≡ node (label.Predicate h) (pair a b) = one_statement (opened f 0 u) (node (label.Predicate h) (pair a b)) is in
-          let reads : deeply_resolved c (bound (more v vs) u) ≡ bound (more (r v) (r vs)) (r u) = sym (instance_of-reading c s t (bound (more v vs) u) kg.knows kg.formed) in
-          let there : opened f 0 (r u) ≡ node (label.Predicate h) (r (pair a b)) = sym (statement_reads m mode A c s t k e ke closed v vs u f kg ends fresh) ∙ ap r says in
-          let kind : goal_kind m (deeply_resolved c (bound (more v vs) u)) ≡ other_goal = ap (goal_kind m) reads ∙ relating_kind m.is_coinductive f h (r (pair a b)) other (r u) there in
-          relating_opened m mode A c s t k e ke closed v vs u f kg ends fresh h kind_of_goal a b says ta tb kind by_rule_of
-
-      relating_proved : (before : Content) (g : Tree) → AreCurrent before → Continues before c → IsLevelled c → AreRegionsLevelled c → IsTermOf before e → IsTermOf before g → IsTermOf c g → (binds g ≡ true → IsClosed g) → IsClosed a → IsClosed b → opened_in before g ≡ about h a b → IsProvedFrom m mode A c e g
-      relating_proved before (node (label.List list.Binder) (more (node (label.List list.Sorts) (more v vs)) (more u empty))) now later l r te tg kg ends ca cb is =
-          proved_binding (placeholder_in (before.universe + 1)) v vs u kg (ends refl) (fresh_later before c e (bound (more v vs) u) te.knows tg.knows now later l r) is
-      relating_proved before g now later l r te tg kg ends ca cb is =
-          let same : g ≡ about h a b = is in
-          subst (IsProvedFrom m mode A c e) (sym same) (follows_proved m mode A c s t k e ke closed h kind_of_goal a b (subst (IsTermOf c) same kg) ca cb by_rule_of)
+    pub relating_proved : (before : Content) (g : Tree) → AreCurrent before → Continues before c → IsLevelled c → AreRegionsLevelled c → IsTermOf before e → IsTermOf before g → IsTermOf c g → (binds g ≡ true → IsClosed g) → IsClosed a → IsClosed b → opened_in before g ≡ about h a b → IsProvedFrom m mode A c e g
+    relating_proved before (node (label.List list.Binder) (more (node (label.List list.Sorts) (more v vs)) (more u empty))) now later l r te tg kg ends ca cb is =
+        proved_binding (placeholder_in (before.universe + 1)) v vs u kg (ends refl) (fresh_later before c e (bound (more v vs) u) te.knows tg.knows now later l r) is
+    relating_proved before g now later l r te tg kg ends ca cb is =
+        let same : g ≡ about h a b = is in
+        subst (IsProvedFrom m mode A c e) (sym same) (follows_proved m mode A c s t k e ke closed h kind_of_goal a b (subst (IsTermOf c) same kg) ca cb by_rule_of)
 
 -- so the goal is proved there, once it is opened or as it stands
 pub subtyping_proved : (m : Meaning) (mode : Mode) (A : List Assumed) (c : Content) (s : IsSound c) (t : HoldsTerms c) (k : AreConstraintsOf c) (b : Content) (e g x y : Tree) → AreCurrent b → Continues b c → IsLevelled c → AreRegionsLevelled c
@@ -201,6 +202,6 @@ subtyping_proved m mode A c s t k b e g x y now later l r te tg ke kg ko env end
 
     by_says : (u : Tree) → SaysSubtype x y u → opened_in b g ≡ unbound u → Knows c u → IsFormed u → IsClosed u → IsProvedFrom m mode A c e g
     by_says u (is_subtype z) is n f q =
-        relating_proved m mode A c s t k e ke env x y h (predicate_head.Subtype z) (λ xs. refl) (λ P w. subtyped z w) (record { knows = n.1.0; formed = f.1.0 }) (record { knows = n.1.1.0; formed = f.1.1.0 }) b g now later l r te tg kg ends q.1.0 q.1.1.0 is
+        relating_proved m mode A c s t k e ke env x y (predicate_head.Subtype z) (λ xs. refl) (types_give m mode A c s t k e ke env x y h (predicate_head.Subtype z) (λ P w. subtyped z w)) (record { knows = n.1.0; formed = f.1.0 }) (record { knows = n.1.1.0; formed = f.1.1.0 }) b g now later l r te tg kg ends q.1.0 q.1.1.0 is
     by_says u is_coerced is n f q =
-        relating_proved m mode A c s t k e ke env x y h predicate_head.Coerce (λ xs. refl) (λ P w. coerced w) (record { knows = n.1.0; formed = f.1.0 }) (record { knows = n.1.1.0; formed = f.1.1.0 }) b g now later l r te tg kg ends q.1.0 q.1.1.0 is
+        relating_proved m mode A c s t k e ke env x y predicate_head.Coerce (λ xs. refl) (types_give m mode A c s t k e ke env x y h predicate_head.Coerce (λ P w. coerced w)) (record { knows = n.1.0; formed = f.1.0 }) (record { knows = n.1.1.0; formed = f.1.1.0 }) b g now later l r te tg kg ends q.1.0 q.1.1.0 is

@@ -8,5 +8,6 @@ pub mod Adding
 pub mod Rows
 pub mod Outliving
 pub mod Subtyping
+pub mod Aliasing
 pub mod Owning
 pub mod Stopping

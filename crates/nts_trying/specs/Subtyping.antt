@@ -8,7 +8,7 @@ use Rattle.nts_model.specs.Tables.Contents.{Content}
 use Rattle.nts_model.specs.Tables.Resolving.{deeply_resolved}
 use Rattle.nts_model.specs.Lists.{Among}
 use Rattle.nts_model.specs.Derivations.Related.{pair}
-use Rattle.nts_model.specs.Derivations.Rules.{Meaning, Mode, coherence}
+use Rattle.nts_model.specs.Derivations.Rules.{Meaning, Mode, coherence, other_goal}
 use Rattle.nts_model.specs.Derivations.Proofs.{Assumed}
 use Rattle.nts_model.specs.Derivations.Proving.{IsTermOf}
 use Rattle.nts_model.specs.Derivations.Sequents.{Premise}
@@ -144,7 +144,7 @@ pub record SubtypesStop (h : Ruling) (mode : Mode) (c : Content) (e g : Tree) : 
   pub left : List Premise
   pub met : Content
   pub leaves : LeavesPremises h.variances c met e g left
-  pub refused : RefusesOne h mode left met
+  pub refused : RefusesOne h mode other_goal left met
 
 abbrev pub SubtypesRefuted : Ruling → Mode → Content → Tree → Tree → Type 0
 SubtypesRefuted h mode c e g = IsCutIn mode × (IsNoSubtype h.variances c g ⊎ SubtypesStop h mode c e g)

@@ -13,6 +13,8 @@ ghost use Rattle.nts_terms.specs.Handles.{HoldsArgs, HoldsEnv, HoldsGoal};
 ghost use Rattle.nts_terms.specs.Kinds.{StatementFits, tree_of_statement};
 ghost use Rattle.nts_theory.specs.Telling.{IsTraitStatement};
 
+use crate::aliases::is_alias_goal;
+use crate::normal::{EquatedAlias, equated_in};
 use crate::outlives::{Outlives, outlives_in};
 use crate::own::{OwnGoal, own_goal_in};
 use crate::subtypes::{TypePair, types_in};
@@ -98,6 +100,10 @@ pub enum GoalRow {
     Own(Goal, OwnGoal),
     /// By relating two types, of which it says that the first is a subtype of the second.
     Subtype(Goal, TypePair),
+    /// By the candidates of the handler too: it says what an alias is.
+    Alias(Goal),
+    /// By normalizing an alias, of which it says that it is equal to a term.
+    Equated(Goal, EquatedAlias),
     /// It is ambiguous: nothing answers a goal of its kind, or with its terms.
     Unanswered(Goal),
     /// It is ambiguous: it binds variables, and can't be opened.
@@ -123,6 +129,12 @@ pub fn goal_row(cx: &Cx, opened: Option<Goal>) -> GoalRow
             }
             if let Some(types) = types_in(cx, goal) {
                 return GoalRow::Subtype(goal, types);
+            }
+            if is_alias_goal(cx, goal) {
+                return GoalRow::Alias(goal);
+            }
+            if let Some(equated) = equated_in(cx, goal) {
+                return GoalRow::Equated(goal, equated);
             }
             GoalRow::Unanswered(goal)
         }

@@ -2,12 +2,14 @@
 //! adds, the steps in which goals are asked, and the one response for those of several candidates.
 #![tactic(auto)]
 
+mod aliases;
 mod binder;
 mod candidate;
 mod fast;
 mod kinds;
 mod leaks;
 mod merged;
+mod normal;
 mod offered;
 mod outlives;
 mod own;
@@ -20,7 +22,8 @@ pub use fast::fast_answer;
 pub use kinds::{GoalRow, goal_kind, goal_row};
 pub use leaks::check_leaks;
 pub use merged::{keep_response, merge_responses};
-pub use offered::relevant_candidates;
+pub use normal::{EquatedAlias, equated_in, normal_goals};
+pub use offered::{are_plain, relevant_candidates};
 pub use outlives::{Outlives, answer_outlives};
 pub use own::{Judged, OwnGoal, judge};
 pub use steps::{AvailableDepth, Step, depth_below};

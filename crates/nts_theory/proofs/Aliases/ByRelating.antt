@@ -415,15 +415,19 @@ module _ (m : Meaning) (mode : Mode) (A : List Assumed) (c : Content) (s : IsSou
       (λ y. from_then m mode here cs (λ q. A) nothing (RowsRelateHere v x.right x.left) (ResultsRelate v r u) (λ P z. inr (x.head, deeply_resolved c x.left, deeply_resolved c x.right, x.of_left, x.of_right, inr z)) (rows_here ks v x.right x.left each y))
       x.rows
 
-  -- AliasRelate
-  pub alias_relate_proved : (d : AliasRelationDirection) (ks : List Tree) (a b r u : Tree) → IsTermOf c (about (predicate.AliasRelate d) a b) → IsClosed a → IsClosed b
-      → IsSide a r → IsSide b u → EachAnswered ks → AreSidesRelated ks (variance_of d) r u → IsProvedFrom m mode A c e (about (predicate.AliasRelate d) a b)
-  alias_relate_proved d ks a b r u kg ca cb left right each related =
+  -- AliasRelate: the rule of the engine for it, where each side has its result, and the two were related
+  pub relation_follows : (d : AliasRelationDirection) (ks : List Tree) (a b r u : Tree) → IsSide a r → IsSide b u → EachAnswered ks → AreSidesRelated ks (variance_of d) r u
+      → Follows (λ P. IsBuiltIn m (λ y. Unit {0}) (IsGranted c) (Stands (λ y. Unit {0}) P other_goal) here (node (label.Predicate (predicate.AliasRelate d)) (pair (deeply_resolved c a) (deeply_resolved c b))))
+  relation_follows d ks a b r u left right each related =
       let v = variance_of d in
-      follows_proved (predicate.AliasRelate d) (λ y z. refl) a b kg ca cb
-      (from_then m mode here cs (λ q. A) nothing (λ P. HasResult a r P × (HasResult b u P × ResultsRelate v r u P))
+      from_then m mode here cs (λ q. A) nothing (λ P. HasResult a r P × (HasResult b u P × ResultsRelate v r u P))
       (λ P. IsBuiltIn m (λ y. Unit {0}) (IsGranted c) (Stands (λ y. Unit {0}) P other_goal) here (node (label.Predicate (predicate.AliasRelate d)) (pair (deeply_resolved c a) (deeply_resolved c b))))
       (λ P y. aliases_relate (deeply_resolved c r) (deeply_resolved c u) y.0 y.1.0 y.1.1)
       (from_both m mode here cs (λ q. A) nothing (HasResult a r) (λ P. HasResult b u P × ResultsRelate v r u P) (result_grows a r) (λ P Q f y. (result_grows b u P Q f y.0, results_grow v r u P Q f y.1))
       (side_follows a r left)
-      (from_both m mode here cs (λ q. A) nothing (HasResult b u) (ResultsRelate v r u) (result_grows b u) (results_grow v r u) (side_follows b u right) (results_follow ks v r u each related))))
+      (from_both m mode here cs (λ q. A) nothing (HasResult b u) (ResultsRelate v r u) (result_grows b u) (results_grow v r u) (side_follows b u right) (results_follow ks v r u each related)))
+
+  pub alias_relate_proved : (d : AliasRelationDirection) (ks : List Tree) (a b r u : Tree) → IsTermOf c (about (predicate.AliasRelate d) a b) → IsClosed a → IsClosed b
+      → IsSide a r → IsSide b u → EachAnswered ks → AreSidesRelated ks (variance_of d) r u → IsProvedFrom m mode A c e (about (predicate.AliasRelate d) a b)
+  alias_relate_proved d ks a b r u kg ca cb left right each related =
+      follows_proved (predicate.AliasRelate d) (λ y z. refl) a b kg ca cb (relation_follows d ks a b r u left right each related)

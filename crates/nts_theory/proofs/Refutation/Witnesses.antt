@@ -8,7 +8,7 @@ use Rattle.nts_model.specs.Tables.Worlds.{World, inst}
 use Rattle.nts_model.specs.Derivations.Related.{pair}
 use Rattle.nts_model.specs.Lists.{Among}
 use Rattle.nts_model.specs.Derivations.Sequents.{Premise}
-use Rattle.nts_model.specs.Derivations.Rules.{Mode, coherence}
+use Rattle.nts_model.specs.Derivations.Rules.{Mode, coherence, GoalKind}
 use Rattle.nts_model.specs.Terms.Substitutions.{instance_of}
 use Rattle.nts_model.specs.Derivations.Handlers.{Handler, Candidate, IsLawfulHandler}
 use Rattle.nts_model.specs.Refutation.Opening.{entered_table, opened_in}
@@ -30,7 +30,7 @@ use Rattle.nts_theory.proofs.Refutation.Recording.{recorded_true}
 use Rattle.nts_theory.proofs.Refutation.Readying.{some_begins}
 use Rattle.nts_theory.proofs.Refutation.Affirming.{denied_inst, denied_before}
 use Rattle.nts_theory.proofs.Refutation.Stating.{own_begins}
-use Rattle.nts_theory.specs.Telling.{Verdict, Queries, AreTermsOfKinds, StandsForAll, SaysOf, IsFound, without_constraints, IsPlainResponse, goals_with, Tells, tells_nothing, says_nothing, tells_one, tells_outlives, tells_affirmed, tells_own, tells_subtype, Refutes, all_fail, is_denied, own_fails, is_no_subtype, subtype_refused, Outcomes, no_outcome, then_fails, then_replies, Replies, replies, Fails, is_unmet, is_refused, is_leaky, Reaches, asks_nothing, then_asks, RefusesOne, refuses_one, cuts_one, Asked, asked_by, Refused, by_query, by_response}
+use Rattle.nts_theory.specs.Telling.{Verdict, Queries, AreTermsOfKinds, StandsForAll, SaysOf, IsFound, without_constraints, IsPlainResponse, goals_with, Tells, tells_nothing, says_nothing, tells_one, tells_outlives, tells_affirmed, tells_own, tells_subtype, tells_alias, tells_normal, Refutes, all_fail, is_denied, own_fails, is_no_subtype, subtype_refused, aliases_fail, normal_refused, Outcomes, no_outcome, then_fails, then_replies, Replies, replies, Fails, is_unmet, is_refused, is_leaky, Reaches, asks_nothing, then_asks, RefusesOne, refuses_one, cuts_one, Asked, asked_by, Refused, by_query, by_response}
 use Rattle.nts_theory.proofs.Refutation.Queried.{BeginsEach, Leads, Reached, IsSolved, IsQuery, first_query, IsTried, tried, tried_knows, found_table, solution_without, entered_solution, says_contains, says_long}
 use Rattle.nts_theory.proofs.Refutation.Begun.{asked_from, BegunAt, begun_at, asks_more, goal_known, goal_there}
 use Rattle.nts_theory.proofs.Refutation.QueryLabels.{entered_query, query_without}
@@ -112,6 +112,8 @@ module _ (Q : Queries) (begins : BeginsEach Q) (h : Handler) (truth : Truth) (Pr
         let begins = own_begins h truth Proves theory lawful law c e g w s.solution q.current q.knows s.proved x own.way own.environment own.knows in
         subst (ContainsSolution truth v.response) s.images (replies_contain reply (tried ks c e g qs q) w (entered_solution truth c g w s.solution) begins)
     tells_contain (tells_subtype ps met found outside related reach is says) q ts w s = absurd (outside refl)
+    tells_contain (tells_alias vs outside ready all stands) q ts w s = absurd (outside refl)
+    tells_contain (tells_normal p found outside left reach is says) q ts w s = absurd (outside refl)
 
     pub refutes_none : {ks : List PositionKind} {c : Content} {e g : Tree} {qs : List Tree} → Refutes Q h coherence c e g qs → IsQuery ks c e g qs → (ts : List Tree) (w : World) → IsSolved truth Proves ks c e g qs ts w → ⊥
     refutes_none {ks} {c} {e} {g} {qs} (all_fail ready all) q ts w s =
@@ -123,6 +125,8 @@ module _ (Q : Queries) (begins : BeginsEach Q) (h : Handler) (truth : Truth) (Pr
         fails_never fails w (entered_solution truth c g w s.solution) (own_begins h truth Proves theory lawful law c e g w s.solution q.current q.knows s.proved x own.way own.environment own.knows)
     refutes_none (is_no_subtype outside none) q ts w s = outside refl
     refutes_none (subtype_refused ps met outside related refused) q ts w s = outside refl
+    refutes_none (aliases_fail outside ready all) q ts w s = outside refl
+    refutes_none (normal_refused p outside left refused) q ts w s = outside refl
 
     outcomes_contain : {ks : List PositionKind} {c : Content} {e g : Tree} {qs : List Tree} {xs : List Candidate} {vs : List Verdict} → Outcomes Q h coherence c e g qs xs vs → IsTried ks c e g qs
         → (w : World) → IsSolution truth 0 c w → (x : Candidate) → Among xs x → CanBegin truth Proves c w x → OneContains truth vs (map (inst w) qs)
@@ -149,7 +153,7 @@ module _ (Q : Queries) (begins : BeginsEach Q) (h : Handler) (truth : Truth) (Pr
         let b = begun_at truth Proves c met w values x begun k in
         some_says ks c met found w e g qs v (goals_with values x.goals) t is s b (reaches_keep reach b.terms) says
 
-    fails_never : {c : Content} {x : Candidate} → Fails Q h coherence c x → (w : World) → IsSolution truth 0 c w → CanBegin truth Proves c w x → ⊥
+    fails_never : {k : GoalKind} {c : Content} {x : Candidate} → Fails Q h coherence k c x → (w : World) → IsSolution truth 0 c w → CanBegin truth Proves c w x → ⊥
     fails_never (is_unmet n) w s k = n k.is_met
     fails_never {c} {x} (is_refused values met begun refused) w s k =
         let b = begun_at truth Proves c met w values x begun k in refuses_goals refused b.terms b.reaches.world b.goals
@@ -165,7 +169,7 @@ module _ (Q : Queries) (begins : BeginsEach Q) (h : Handler) (truth : Truth) (Pr
         let r = reaches_keep before t in
         asks_more truth Proves c d e gs p a t can r (asked_leads asked (goal_known truth Proves c d gs p a t can r) can.current)
 
-    refuses_goals : {gs : List Premise} {c : Content} → RefusesOne Q h coherence gs c → AreTermsOf c gs → (w : World) → SolvesGoals truth 0 Proves c gs w → ⊥
+    refuses_goals : {k : GoalKind} {gs : List Premise} {c : Content} → RefusesOne Q h coherence k gs c → AreTermsOf c gs → (w : World) → SolvesGoals truth 0 Proves c gs w → ⊥
     refuses_goals {gs} {c} (refuses_one d p before a can refused) t w s =
         let r = reaches_keep before t in
         let x = r.solutions.each w s in

@@ -10,7 +10,7 @@ use Rattle.nts_model.specs.Canonical.Inputs.{PositionKind}
 use Rattle.nts_model.specs.Answers.Responses.{Response, recorded_by, positioned, own_leaves}
 use Rattle.nts_model.proofs.Lists.{contains_none}
 use Rattle.nts_model.specs.Refutation.Opening.{entered_table}
-use Rattle.nts_theory.specs.Telling.{Verdict, Queries, IsPlainResponse, SaysOf, Tells, tells_nothing, says_nothing, tells_one, tells_outlives, tells_affirmed, tells_own, tells_subtype, Outcomes, no_outcome, then_fails, then_replies, replies}
+use Rattle.nts_theory.specs.Telling.{Verdict, Queries, IsPlainResponse, SaysOf, Tells, tells_nothing, says_nothing, tells_one, tells_outlives, tells_affirmed, tells_own, tells_subtype, tells_alias, tells_normal, Outcomes, no_outcome, then_fails, then_replies, replies}
 use Rattle.nts_theory.proofs.Refutation.Answered.{among_split}
 
 none_in : (xs : List Recorded) → ((x : Recorded) → Contains xs x → ⊥) → xs ≡ []
@@ -50,3 +50,6 @@ doubt_leaves_none (tells_outlives x is r) n = (let z : true ≡ false = sym r.su
 doubt_leaves_none (tells_affirmed is sure says) n = (let z : true ≡ false = sym sure ∙ n in cc z)
 doubt_leaves_none {c = c} {g = g} {qs = qs} {v = v} (tells_own x own (replies values met found begun reach is says)) n = says_none (entered_table c g) found qs v n says
 doubt_leaves_none {c = c} {g = g} {qs = qs} {v = v} (tells_subtype ps met found outside related reach is says) n = says_none (entered_table c g) found qs v n says
+doubt_leaves_none {v = v} (tells_alias vs outside ready all (i, inl same)) n = (let z : true ≡ false = sym same.certain ∙ n in cc z)
+doubt_leaves_none {v = v} (tells_alias vs outside ready all (i, inr same)) n = outcome_leaves_none all v i n
+doubt_leaves_none {c = c} {g = g} {qs = qs} {v = v} (tells_normal p found outside left reach is says) n = says_none (entered_table c g) found qs v n says

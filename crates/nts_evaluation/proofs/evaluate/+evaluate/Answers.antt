@@ -51,11 +51,15 @@ use Rattle.nts_evaluation.proofs.evaluate.+evaluate.Answers.Candidates as candid
 use Rattle.nts_evaluation.proofs.evaluate.+evaluate.Answers.Steps as steps
 use Rattle.nts_evaluation.proofs.evaluate.+evaluate.Answers.Own as own
 use Rattle.nts_evaluation.proofs.evaluate.+evaluate.Answers.Subtypes as subtypes
+use Rattle.nts_evaluation.proofs.evaluate.+evaluate.Answers.Aliases as aliases
+use Rattle.nts_evaluation.proofs.evaluate.+evaluate.Answers.Equated as equated
 mod Queries
 mod Candidates
 mod Steps
 mod Own
 mod Subtypes
+mod Aliases
+mod Equated
 
 pub compute_goal-evaluate_candidates-response-requires : goal.compute_goal-evaluate_candidates-response-requires
 compute_goal-evaluate_candidates-response-requires = candidates.compute_goal-evaluate_candidates-response-requires
@@ -227,6 +231,81 @@ evaluate_subtype-returns-in_err-response-2 = subtypes.evaluate_subtype-returns-i
 
 pub evaluate_subtype-returns : goal.evaluate_subtype-returns
 evaluate_subtype-returns = subtypes.evaluate_subtype-returns
+
+pub compute_goal-evaluate_alias-response-requires : goal.compute_goal-evaluate_alias-response-requires
+compute_goal-evaluate_alias-response-requires = aliases.compute_goal-evaluate_alias-response-requires
+
+pub compute_goal-returns-in-Alias : goal.compute_goal-returns-in-Alias
+compute_goal-returns-in-Alias = aliases.compute_goal-returns-in-Alias
+
+pub evaluate_alias-evaluate_candidates-requires : goal.evaluate_alias-evaluate_candidates-requires
+evaluate_alias-evaluate_candidates-requires = aliases.evaluate_alias-evaluate_candidates-requires
+
+pub evaluate_alias-returns : goal.evaluate_alias-returns
+evaluate_alias-returns = aliases.evaluate_alias-returns
+
+pub evaluate_alias-returns-in_err-doubt : goal.evaluate_alias-returns-in_err-doubt
+evaluate_alias-returns-in_err-doubt = aliases.evaluate_alias-returns-in_err-doubt
+
+pub evaluate_alias-returns-then-matches : goal.evaluate_alias-returns-then-matches
+evaluate_alias-returns-then-matches = aliases.evaluate_alias-returns-then-matches
+
+pub evaluate_alias-returns-in_err-candidates : goal.evaluate_alias-returns-in_err-candidates
+evaluate_alias-returns-in_err-candidates = aliases.evaluate_alias-returns-in_err-candidates
+
+pub evaluate_alias-boxed_response-requires-then-not-are_plain-clause-table : goal.evaluate_alias-boxed_response-requires-then-not-are_plain-clause-table
+evaluate_alias-boxed_response-requires-then-not-are_plain-clause-table = aliases.evaluate_alias-boxed_response-requires-then-not-are_plain-clause-table
+
+pub evaluate_alias-boxed_response-requires-then-not-are_plain-clause-values : goal.evaluate_alias-boxed_response-requires-then-not-are_plain-clause-values
+evaluate_alias-boxed_response-requires-then-not-are_plain-clause-values = aliases.evaluate_alias-boxed_response-requires-then-not-are_plain-clause-values
+
+pub evaluate_alias-returns-in_err-doubt-2 : goal.evaluate_alias-returns-in_err-doubt-2
+evaluate_alias-returns-in_err-doubt-2 = aliases.evaluate_alias-returns-in_err-doubt-2
+
+pub evaluate_alias-returns-then-not-are_plain : goal.evaluate_alias-returns-then-not-are_plain
+evaluate_alias-returns-then-not-are_plain = aliases.evaluate_alias-returns-then-not-are_plain
+
+pub compute_goal-evaluate_equated-response-requires : goal.compute_goal-evaluate_equated-response-requires
+compute_goal-evaluate_equated-response-requires = equated.compute_goal-evaluate_equated-response-requires
+
+pub compute_goal-returns-in-Equated : goal.compute_goal-returns-in-Equated
+compute_goal-returns-in-Equated = equated.compute_goal-returns-in-Equated
+
+pub evaluate_equated-returns-in_err-doubt : goal.evaluate_equated-returns-in_err-doubt
+evaluate_equated-returns-in_err-doubt = equated.evaluate_equated-returns-in_err-doubt
+
+pub evaluate_equated-returns-then-matches : goal.evaluate_equated-returns-then-matches
+evaluate_equated-returns-then-matches = equated.evaluate_equated-returns-then-matches
+
+pub evaluate_equated-returns-in_err-goals : goal.evaluate_equated-returns-in_err-goals
+evaluate_equated-returns-in_err-goals = equated.evaluate_equated-returns-in_err-goals
+
+pub evaluate_equated-returns-in_err-snapshot : goal.evaluate_equated-returns-in_err-snapshot
+evaluate_equated-returns-in_err-snapshot = equated.evaluate_equated-returns-in_err-snapshot
+
+pub evaluate_equated-try_evaluate_goals-requires : goal.evaluate_equated-try_evaluate_goals-requires
+evaluate_equated-try_evaluate_goals-requires = equated.evaluate_equated-try_evaluate_goals-requires
+
+pub evaluate_equated-returns-in_err-certainty : goal.evaluate_equated-returns-in_err-certainty
+evaluate_equated-returns-in_err-certainty = equated.evaluate_equated-returns-in_err-certainty
+
+pub evaluate_equated-boxed_response-requires-then-keeps_constraints-clause-values : goal.evaluate_equated-boxed_response-requires-then-keeps_constraints-clause-values
+evaluate_equated-boxed_response-requires-then-keeps_constraints-clause-values = equated.evaluate_equated-boxed_response-requires-then-keeps_constraints-clause-values
+
+pub evaluate_equated-returns-in_err-response : goal.evaluate_equated-returns-in_err-response
+evaluate_equated-returns-in_err-response = equated.evaluate_equated-returns-in_err-response
+
+pub evaluate_equated-returns-then-keeps_constraints : goal.evaluate_equated-returns-then-keeps_constraints
+evaluate_equated-returns-then-keeps_constraints = equated.evaluate_equated-returns-then-keeps_constraints
+
+pub evaluate_equated-boxed_response-requires-2-clause-values : goal.evaluate_equated-boxed_response-requires-2-clause-values
+evaluate_equated-boxed_response-requires-2-clause-values = equated.evaluate_equated-boxed_response-requires-2-clause-values
+
+pub evaluate_equated-returns-in_err-response-2 : goal.evaluate_equated-returns-in_err-response-2
+evaluate_equated-returns-in_err-response-2 = equated.evaluate_equated-returns-in_err-response-2
+
+pub evaluate_equated-returns : goal.evaluate_equated-returns
+evaluate_equated-returns = equated.evaluate_equated-returns
 
 pub compute_goal-evaluate_own-response-requires : goal.compute_goal-evaluate_own-response-requires
 compute_goal-evaluate_own-response-requires = own.compute_goal-evaluate_own-response-requires
@@ -572,7 +651,7 @@ pub run_candidate-returns : goal.run_candidate-returns
 run_candidate-returns = candidates.run_candidate-returns
 
 pub run_candidate-try_candidate-tried-requires : goal.run_candidate-try_candidate-tried-requires
-run_candidate-try_candidate-tried-requires g t c = λ κs k. (omega (arith, c.decreases), (k, (c.requires.posed, (c.requires.kind, (c.requires.ready, (c.requires.candidate, c.requires.search))))))
+run_candidate-try_candidate-tried-requires g t c = λ κs k. (omega (arith, c.decreases), (k, (c.requires.posed, (c.requires.ready, (c.requires.candidate, c.requires.search)))))
 
 pub try_candidate-added_goals-requires-clause-nested : goal.try_candidate-added_goals-requires-clause-nested
 try_candidate-added_goals-requires-clause-nested g t c =

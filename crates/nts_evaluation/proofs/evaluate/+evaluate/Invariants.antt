@@ -22,25 +22,31 @@ use Rattle.nts_evaluation.proofs.evaluate.+evaluate.Given as goal
 use Rattle.nts_meaning.specs.Answering.{verdict_at}
 
 abbrev pub decreases-evaluate_goal : goal.decreases-evaluate_goal
-decreases-evaluate_goal g l = 20 * l.depth + 18
+decreases-evaluate_goal g l = 20 * l.depth + 19
 
 abbrev pub decreases-search : goal.decreases-search
-decreases-search g l = 20 * l.depth + 17
+decreases-search g l = 20 * l.depth + 18
 
 abbrev pub decreases-evaluate_rounds : goal.decreases-evaluate_rounds
-decreases-evaluate_rounds g l = 20 * l.depth + 16
+decreases-evaluate_rounds g l = 20 * l.depth + 17
 
 abbrev pub decreases-evaluate_round : goal.decreases-evaluate_round
-decreases-evaluate_round g l = 20 * l.depth + 15
+decreases-evaluate_round g l = 20 * l.depth + 16
 
 abbrev pub decreases-compute_goal : goal.decreases-compute_goal
-decreases-compute_goal g l = 20 * l.depth + 14
+decreases-compute_goal g l = 20 * l.depth + 15
 
 abbrev pub decreases-evaluate_own : goal.decreases-evaluate_own
 decreases-evaluate_own g l = 20 * l.depth + 13
 
 abbrev pub decreases-evaluate_subtype : goal.decreases-evaluate_subtype
 decreases-evaluate_subtype g l = 20 * l.depth + 13
+
+abbrev pub decreases-evaluate_alias : goal.decreases-evaluate_alias
+decreases-evaluate_alias g l = 20 * l.depth + 14
+
+abbrev pub decreases-evaluate_equated : goal.decreases-evaluate_equated
+decreases-evaluate_equated g l = 20 * l.depth + 14
 
 abbrev pub decreases-evaluate_candidates : goal.decreases-evaluate_candidates
 decreases-evaluate_candidates g l = 20 * l.depth + 13

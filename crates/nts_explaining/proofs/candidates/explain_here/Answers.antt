@@ -30,6 +30,16 @@ returns-in-Subtype-clause-reasons g c =
     let o = c.in_ok-opened.ensures in
     unasked_reasons _ (search rules) c.enter_forall.new.cx.nodes c.enter_forall.new.table _ (rw c.in-Subtype.ensures.0 at o.opened) (let none = c.in-Subtype.ensures.2 in none.not_asked)
 
+pub returns-in-Alias-clause-reasons : goal.returns-in-Alias-clause-reasons
+returns-in-Alias-clause-reasons g c =
+    let o = c.in_ok-opened.ensures in
+    unasked_reasons _ (search rules) c.enter_forall.new.cx.nodes c.enter_forall.new.table _ (rw c.in-Alias.ensures.0 at o.opened) (let none = c.in-Alias.ensures.2 in none.not_asked)
+
+pub returns-in-Equated-clause-reasons : goal.returns-in-Equated-clause-reasons
+returns-in-Equated-clause-reasons g c =
+    let o = c.in_ok-opened.ensures in
+    unasked_reasons _ (search rules) c.enter_forall.new.cx.nodes c.enter_forall.new.table _ (rw c.in-Equated.ensures.0 at o.opened) (let none = c.in-Equated.ensures.2 in none.not_asked)
+
 pub returns-in-Unanswered-clause-reasons : goal.returns-in-Unanswered-clause-reasons
 returns-in-Unanswered-clause-reasons g c =
     let o = c.in_ok-opened.ensures in

@@ -15,7 +15,6 @@ use Rattle.nts_candidates.proofs.Results.{IfOk-map}
 use Rattle.nts_canonical.specs.Forms.{trees_of}
 use Rattle.nts_meaning.specs.Meant.{ruling_since, Since, rules_of}
 use Rattle.nts_evaluation.proofs.Leaking.{checked}
-use Rattle.nts_meaning.proofs.TraitsAsked.{none-extended, kind_asked}
 use Rattle.nts_meaning.proofs.AskedGoals.{trees_kept}
 use Rattle.nts_meaning.proofs.AnsweredQueries.{args_later}
 use Rattle.nts_trying.proofs.Labels.{only_earlier, only_back}
@@ -72,15 +71,12 @@ compute_goal-evaluate_candidates-response-requires g t c = λ κs k.
         (
           IsPosed-later goes posed,
           (
-            none-extended more posed.holds (let z = c.in-Candidates.ensures.1 in z.plain),
+            g.met.H.GoalHandler.ready_kept _ _ _ c.requires.ready (Extends-trans o.grows.extends more),
             (
-              g.met.H.GoalHandler.ready_kept _ _ _ c.requires.ready (Extends-trans o.grows.extends more),
+              rw c.deref.ensures.value e.candidates,
               (
-                rw c.deref.ensures.value e.candidates,
-                (
-                  args_later c.args.cx.now.nodes c.relevant_candidates.new.cx.nodes c.args.table.now.entries c.enter_forall.new.table.entries c.args.values.now all.extends all.continues c.requires.values,
-                  search_grows c.args.depth c.args.depth (omega arith) c.requires.search (grown o.grows e.grows),
-                ),
+                args_later c.args.cx.now.nodes c.relevant_candidates.new.cx.nodes c.args.table.now.entries c.enter_forall.new.table.entries c.args.values.now all.extends all.continues c.requires.values,
+                search_grows c.args.depth c.args.depth (omega arith) c.requires.search (grown o.grows e.grows),
               ),
             ),
           ),
@@ -260,15 +256,12 @@ evaluate_candidates-probe_candidate-answer-requires g t c = λ κs k.
         (
           IsPosed-later goes c.requires.posed,
           (
-            none-extended i.grows.extends c.requires.posed.holds c.requires.kind,
+            g.met.H.GoalHandler.ready_kept _ _ _ c.requires.ready i.grows.extends,
             (
-              g.met.H.GoalHandler.ready_kept _ _ _ c.requires.ready i.grows.extends,
+              rw c.candidate-item.is (IsCandidate-extended i.grows.extends c.requires.posed.holds (candidate_at c.args.cx.now.nodes c.args.goal c.args.candidates.now c.loop-candidate.candidate-index _ c.requires.candidates c.loop-candidate-test.true)),
               (
-                rw c.candidate-item.is (IsCandidate-extended i.grows.extends c.requires.posed.holds (candidate_at c.args.cx.now.nodes c.args.goal c.args.candidates.now c.loop-candidate.candidate-index _ c.requires.candidates c.loop-candidate-test.true)),
-                (
-                  args_later c.args.cx.now.nodes c.loop-candidate.cx.nodes c.args.table.now.entries c.loop-candidate.table.entries c.args.values.now goes.extends goes.continues c.requires.values,
-                  search_later c.args.depth c.args.depth (omega arith) c.requires.search i.searches,
-                ),
+                args_later c.args.cx.now.nodes c.loop-candidate.cx.nodes c.args.table.now.entries c.loop-candidate.table.entries c.args.values.now goes.extends goes.continues c.requires.values,
+                search_later c.args.depth c.args.depth (omega arith) c.requires.search i.searches,
               ),
             ),
           ),
@@ -431,7 +424,7 @@ try_candidate-returns-in_err-certainty g t c =
           let h = ruling_since (λ ts. g.H.GoalHandler.handler ts c.args.handler.now) s in
           let since = Since-later (grown (ran there) n.grows) s in
           let refused : c.try_evaluate_goals.result ≡ Err EvalError.NoSolution = search rules in
-          ran_refused {t = c.args.table.now} {u = c.equate.new.table} {v = c.record_constraints.new.table} h mode c.args.goal x vs gs (rw c.deref-2.ensures.value v.equated) (rw (c.deref-3.ensures.value) at k.added) constraints c.requires.candidate.goals v.runs.goes.extends k.runs.goes.extends there.goes.extends n.grows.extends k.runs.goes.table within (rw c.deref-4.ensures.value at n.added.goals) (rw upto.goes.mode at (stopped_refused c.record_constraints.new.table _ c.goal_kind-kind.result (kind_asked c.args.cx.now.nodes c.args.goal c.goal_kind-kind.result (meaning (g.H.GoalHandler.handler s.base c.args.handler.now) s.variances) (c.goal_kind-kind.ensures.kind s.base s.variances) c.requires.kind) (c.try_evaluate_goals.ensures.refuted since (tell_grown h c.args.depth c.requires.search (grown (ran c.in_ok-values.ensures.runs) (grown (ran c.in_ok-record_constraints.ensures.runs) c.in_ok-goals.ensures.grows)) tells) refused)));
+          ran_refused {t = c.args.table.now} {u = c.equate.new.table} {v = c.record_constraints.new.table} h mode c.args.goal x vs gs (rw c.deref-2.ensures.value v.equated) (rw (c.deref-3.ensures.value) at k.added) constraints c.requires.candidate.goals v.runs.goes.extends k.runs.goes.extends there.goes.extends n.grows.extends k.runs.goes.table within (rw c.deref-4.ensures.value at n.added.goals) (rw (upto.goes.mode, c.goal_kind-kind.ensures.kind s.base s.variances) at (stopped_refused c.record_constraints.new.table _ c.goal_kind-kind.result (c.try_evaluate_goals.ensures.refuted since (tell_grown h c.args.depth c.requires.search (grown (ran c.in_ok-values.ensures.runs) (grown (ran c.in_ok-record_constraints.ensures.runs) c.in_ok-goals.ensures.grows)) tells) refused)));
       decided = λ s i b d can.
           let h = g.H.GoalHandler.handler s.base c.args.handler.now in
           let since = Since-later (grown (ran there) n.grows) s in

@@ -21,7 +21,6 @@ use Rattle.nts_meaning.proofs.AskedGoals.{trees_kept}
 use Rattle.nts_meaning.proofs.Evaluating.{Goes-trans, Goes-extends, Since-later, IsPosed-later}
 use Rattle.nts_meaning.proofs.Rounds.{grown, search_then}
 use Rattle.nts_meaning.proofs.Searching.{Searches-refl, search_grows, tell_grown}
-use Rattle.nts_meaning.proofs.TraitsAsked.{none-extended}
 use Rattle.nts_trying.specs.Owning.{IsJudgedSo}
 use Rattle.nts_trying.specs.declared.own.Judged.TheVariants as judged
 use Rattle.nts_trying.proofs.Labels.{only_same}
@@ -33,7 +32,7 @@ use Rattle.nts_evaluation.proofs.DecidedGoals.{is_asked_here, region_not_own, ow
 use Rattle.nts_evaluation.proofs.Deciding.{decides_grown, same_search}
 use Rattle.nts_evaluation.proofs.FactTrials.{fact_asked}
 use Rattle.nts_evaluation.proofs.Failing.{own_failed}
-use Rattle.nts_evaluation.proofs.OwnGoals.{own_normalizes_none, posed_plain, judged_before, settled_yes, settled_no, settled_unknown, settled_way, own_holds, own_says, own_none}
+use Rattle.nts_evaluation.proofs.OwnGoals.{posed_plain, judged_before, settled_yes, settled_no, settled_unknown, settled_way, own_holds, own_says, own_none}
 use Rattle.nts_evaluation.proofs.evaluate.+evaluate.Goals as goal
 
 pub compute_goal-evaluate_own-response-requires : goal.compute_goal-evaluate_own-response-requires
@@ -146,15 +145,12 @@ evaluate_own-probe_candidate-response-requires g t c = λ κs k.
         (
           IsPosed-later goes c.requires.posed,
           (
-            none-extended j.grows.extends c.requires.posed.holds (own_normalizes_none c.args.cx.now.nodes c.args.goal c.args.own c.requires.own),
+            g.met.H.GoalHandler.ready_kept _ _ _ c.requires.ready j.grows.extends,
             (
-              g.met.H.GoalHandler.ready_kept _ _ _ c.requires.ready j.grows.extends,
+              rw c.deref.ensures way.1,
               (
-                rw c.deref.ensures way.1,
-                (
-                  args_later c.args.cx.now.nodes c.judge.new.cx.nodes c.args.table.now.entries c.args.table.now.entries c.args.values.now goes.extends goes.continues c.requires.values,
-                  search_grows c.args.depth c.args.depth (omega arith) c.requires.search j.grows,
-                ),
+                args_later c.args.cx.now.nodes c.judge.new.cx.nodes c.args.table.now.entries c.args.table.now.entries c.args.values.now goes.extends goes.continues c.requires.values,
+                search_grows c.args.depth c.args.depth (omega arith) c.requires.search j.grows,
               ),
             ),
           ),
@@ -262,7 +258,7 @@ evaluate_own-returns-in-Way g t c =
       refuted = λ s tells n.
           let h = ruling_since (λ ts. g.H.GoalHandler.handler ts c.args.handler.now) s in
           let same = g.met.H.GoalHandler.handler_kept s.base c.judge.new.cx.nodes c.args.handler.now s.is_ready (Extends-trans s.extends up) in
-          inr (x, judged_before (λ z e p. HasOwnWay z e p x) same up holds known.0, rw (here, c.deref.ensures) at (r.refuted (Since-later j.grows s) (tell_grown h c.args.depth c.requires.search j.grows tells) n));
+          inr (x, judged_before (λ z e p. HasOwnWay z e p x) same up holds known.0, rw (here, c.deref.ensures, predicate) at (r.refuted (Since-later j.grows s) (tell_grown h c.args.depth c.requires.search j.grows tells) n));
       decided = λ s n b d can.
           let same = g.met.H.GoalHandler.handler_kept s.base c.judge.new.cx.nodes c.args.handler.now s.is_ready (Extends-trans s.extends j.grows.extends) in
           r.decided (Since-later j.grows s) n b (rw c.deref.ensures (settled_way same up holds _ j.exact b c.in-Way.way c.in-Way.is known.0 here d)) (decides_grown c.requires.search j.grows can);

@@ -239,7 +239,7 @@ evaluate_subtype-returns-in_err-certainty g t c =
       refuted = λ s tells n.
           let h = ruling_since (λ ts. g.H.GoalHandler.handler ts c.args.handler.now) s in
           let refused : c.try_evaluate_goals.result ≡ Err EvalError.NoSolution = search rules in
-          let no = stopped_refused u c.args.graph.now Kinds.Misc (λ q. cc) (e.refuted (Since-later (ran r.runs) s) (tell_grown h c.args.depth c.requires.search (ran r.runs) tells) refused) in (
+          let no = stopped_refused u c.args.graph.now Kinds.Misc (e.refuted (Since-later (ran r.runs) s) (tell_grown h c.args.depth c.requires.search (ran r.runs) tells) refused) in (
             rw o.mode at left.outside,
             inr (record {
               left = goals_at b.nodes gs;

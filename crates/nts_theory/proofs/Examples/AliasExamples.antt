@@ -1,0 +1,78 @@
+-- Goals about aliases: what a query tells and refutes of them, and which goals say that an alias is equal to a term.
+use Rattle.std.proofs.Common.{◌≡◌, ◌⊎◌, inl, inr, ⊎_elim, List, [], ◌∷◌, refl, sym, ap, ◌∙◌, subst}
+use Rattle.nts_model.specs.declared.labels.AliasHead.{AliasHead}
+use Rattle.nts_model.specs.declared.labels.AliasHead.TheVariants as alias_of
+use Rattle.nts_model.specs.declared.labels.ClauseHead.TheVariants as clause
+use Rattle.nts_model.specs.declared.labels.PredicateHead.TheVariants as predicate
+use Rattle.nts_model.specs.declared.labels.Label.TheVariants as label
+use Rattle.nts_model.specs.declared.labels.Variance.TheVariants as variance
+use Rattle.nts_model.specs.Terms.Trees.{Tree, empty, more, node}
+use Rattle.nts_model.specs.Tables.Contents.{Content}
+use Rattle.nts_model.specs.Derivations.Related.{constructor, alias, alias_goal, IsAlias}
+use Rattle.nts_model.specs.Derivations.Rules.{Mode, coherence, relating, normalization_goal, statement_of, IsHandlers}
+use Rattle.nts_model.specs.Derivations.Handlers.{Handler}
+use Rattle.nts_model.specs.Refutation.Opening.{opened_in}
+use Rattle.nts_theory.specs.Aliasing.{EquatesAlias, NormalizesSide}
+use Rattle.nts_theory.specs.Telling.{Queries, IsCutIn, IsTraitStatement, IsAliasStatement, IsAliasReady, Refutes, all_fail, is_denied, own_fails, is_no_subtype, subtype_refused, aliases_fail, normal_refused, no_outcome}
+use Rattle.nts_theory.proofs.Refutation.Affirming.{denied_no_handlers, way_no_handlers}
+use Rattle.nts_theory.proofs.Refutation.Aliasing.{equated_no_handlers}
+
+-- a statement that an alias normalizes to a term is about an alias; one that a trait holds is not
+abbrev item : Tree
+item = alias (alias_of.Ty 0) empty
+
+abbrev list_type : Tree
+list_type = constructor 1 empty
+
+normalizing_is_about_an_alias : IsAliasStatement (statement_of (normalization_goal (alias_of.Ty 0) empty list_type))
+normalizing_is_about_an_alias = tt
+
+trait_is_about_no_alias : (s : Tree) → IsTraitStatement s → IsAliasStatement s → ⊥
+trait_is_about_no_alias (node (label.Clause (clause.Trait i)) ts) t a = a
+trait_is_about_no_alias (node (label.Clause (clause.HostEffect i)) ts) t a = a
+trait_is_about_no_alias s t a = absurd t
+
+-- outside of coherence a goal about an alias for which nothing is offered is refuted; in coherence none is
+pub alias_without_rules_is_refuted : (Q : Queries) (h : Handler) (mode : Mode) (c : Content) (e g : Tree) (qs : List Tree) → IsCutIn mode → IsAliasReady c e g → h.offers mode e (opened_in c g) ≡ [] → Refutes Q h mode c e g qs
+alias_without_rules_is_refuted Q h mode c e g qs outside ready none = aliases_fail outside ready (rw none no_outcome)
+
+alias_handlers : (s : Tree) → IsAliasStatement s → IsHandlers s
+alias_handlers (node (label.Clause (clause.Projection i)) ts) a = tt
+alias_handlers (node (label.Predicate (predicate.NormalizesTo i)) ts) a = tt
+alias_handlers s a = absurd a
+
+pub alias_is_not_refuted_in_coherence : (Q : Queries) (h : Handler) (c : Content) (e g : Tree) (qs : List Tree) → IsAliasStatement (statement_of (opened_in c g)) → Refutes Q h coherence c e g qs → ⊥
+alias_is_not_refuted_in_coherence Q h c e g qs a (all_fail ready all) = (let t = ready.trait_goal in trait_is_about_no_alias (statement_of (opened_in c g)) t.statement a)
+alias_is_not_refuted_in_coherence Q h c e g qs a (is_denied d) = denied_no_handlers h.judges (statement_of (opened_in c g)) d (alias_handlers (statement_of (opened_in c g)) a)
+alias_is_not_refuted_in_coherence Q h c e g qs a (own_fails x own fails) =
+    (let z = own.way in way_no_handlers h.judges e z.statement x z.way (subst (λ v. IsHandlers (statement_of v)) z.binds_nothing (alias_handlers (statement_of (opened_in c g)) a)))
+alias_is_not_refuted_in_coherence Q h c e g qs a (is_no_subtype outside n) = outside refl
+alias_is_not_refuted_in_coherence Q h c e g qs a (subtype_refused ps there outside l refused) = outside refl
+alias_is_not_refuted_in_coherence Q h c e g qs a (aliases_fail outside ready all) = outside refl
+alias_is_not_refuted_in_coherence Q h c e g qs a (normal_refused p outside left refused) = outside refl
+
+-- a goal says that Item and List are equal: what is left is that Item normalizes to List. Of two aliases no goal says so, and no
+-- trait's goal does
+abbrev item_alias : IsAlias item
+item_alias = record { head = alias_of.Ty 0; parts = empty; is = refl; closed = (tt, ((tt, tt), tt)) }
+
+list_is_no_alias : IsAlias list_type → ⊥
+list_is_no_alias x = by_head x.head x.is
+  where
+    by_head : (h : AliasHead) → list_type ≡ alias h x.parts → ⊥
+    by_head (alias_of.Ty i) e = cc e
+    by_head (alias_of.Const i) e = cc e
+
+pub item_is_normalized : NormalizesSide empty (alias_goal variance.Invariant item list_type) (relating empty (normalization_goal (alias_of.Ty 0) empty list_type))
+item_is_normalized = record { left = item; right = list_type; is = record { says = inl refl; alias = item_alias; plain = list_is_no_alias; kind = refl }; premise = refl }
+
+pub other_aliases_are_not_equated : (g a t : Tree) → IsAlias t → EquatesAlias g a t → ⊥
+other_aliases_are_not_equated g a t x e = e.plain x
+
+pub trait_equates_no_alias : (g a t : Tree) → IsTraitStatement (statement_of g) → EquatesAlias g a t → ⊥
+trait_equates_no_alias g a t s e = equated_no_handlers g a t e (trait_handlers (statement_of g) s)
+  where
+    trait_handlers : (s : Tree) → IsTraitStatement s → IsHandlers s
+    trait_handlers (node (label.Clause (clause.Trait i)) ts) t = tt
+    trait_handlers (node (label.Clause (clause.HostEffect i)) ts) t = tt
+    trait_handlers s t = absurd t

@@ -1,0 +1,166 @@
+//! Goals that an alias is equal to a term.
+ghost use Rattle.std.specs.Prelude.{◌≡◌, true, IfOk, IfSome, IsNone, IsOkUnless};
+ghost use Rattle.nts_model.specs.Terms.Trees.{is_alias, kind_of};
+ghost use Rattle.nts_model.specs.Derivations.Related.{alias_label, IsAlias};
+ghost use Rattle.nts_model.specs.Derivations.Rules.{normalization_goal};
+ghost use Rattle.nts_model.specs.declared.labels.AliasRelationDirection.TheVariants as direction;
+ghost use Rattle.nts_terms.specs.declared.kinds.PredicateKind.TheVariants as statements;
+ghost use Rattle.nts_terms.specs.declared.handles.Term.{Term};
+ghost use Rattle.nts_store.specs.Growth.{tree_at, IsIn};
+ghost use Rattle.nts_terms.specs.Handles.{HoldsGoal, HoldsPredicate, HoldsTerm};
+ghost use Rattle.nts_terms.specs.Rest.{Grows};
+ghost use Rattle.nts_variance.specs.Goals.{is_alias_node};
+ghost use Rattle.nts_trying.specs.Aliasing.{IsEquatedGoal, AreNormalGoals};
+
+use crate::outlives::is_closed_env;
+use nts_certainty::GoalSource;
+use nts_model::{
+    AliasHead, AliasRelationDirection, ConstHead, Label, ListHead, PredicateHead, TyHead,
+};
+use nts_store::Fault;
+use nts_terms::{Cx, Goal, Predicate, PredicateKind, Term, TermKind};
+
+/// An alias, and the term that it is said to be equal to.
+#[derive(Clone, Copy)]
+pub struct EquatedAlias {
+    pub alias: Term,
+    pub term: Term,
+}
+
+/// The terms of which a statement says that they are equal, where one may be an alias.
+fn equal_sides(statement: PredicateKind) -> Option<(Term, Term)>
+    ensures found { IfSome result (λ r. statement ≡ statements.AliasRelate r.0 r.1
+        direction.Equate) }
+    ensures none { IsNone result → (a b : Term) → statement ≡ statements.AliasRelate a b
+        direction.Equate → ⊥ }
+{
+    match statement {
+        PredicateKind::AliasRelate(left, right, direction) => match direction {
+            AliasRelationDirection::Equate => Some((left, right)),
+            AliasRelationDirection::Subtype => None,
+        },
+        _ => None,
+    }
+}
+
+fn is_alias(label: Label) -> bool
+    ensures { result ≡ is_alias label }
+{
+    matches!(
+        label,
+        Label::Ty(TyHead::Alias(_)) | Label::Const(ConstHead::Unevaluated(_))
+    )
+}
+
+/// Whether a term is an alias.
+fn is_alias_term(cx: &Cx, t: Term) -> bool
+    requires { IsIn cx.now.nodes t.node }
+    ensures { result ≡ is_alias_node (tree_at cx.now.nodes t.node) }
+{
+    is_alias(cx.nodes.label(t.node))
+}
+
+/// Whether both terms are types, or both are consts.
+fn are_of_one_sort(cx: &Cx, left: Term, right: Term) -> bool
+    requires left { HoldsTerm cx.now.nodes left }
+    requires right { HoldsTerm cx.now.nodes right }
+    ensures { result ≡ true → kind_of (tree_at cx.now.nodes left.node) ≡
+        kind_of (tree_at cx.now.nodes right.node) }
+{
+    match (left.kind(cx), right.kind(cx)) {
+        (TermKind::Ty(_), TermKind::Ty(_)) => true,
+        (TermKind::Const(_), TermKind::Const(_)) => true,
+        _ => false,
+    }
+}
+
+/// What a goal says that an alias is equal to, where it binds nothing, the other term is no alias, and neither its terms nor its
+/// environment have a bound variable that is without its binder.
+#[inline(never)]
+pub fn equated_in(cx: &Cx, goal: Goal) -> Option<EquatedAlias>
+    requires { HoldsGoal cx.now.nodes goal }
+    ensures { IfSome result (IsEquatedGoal cx.now.nodes goal) }
+{
+    let predicate = goal.predicate.kind(cx);
+    let (left, right) = equal_sides(predicate.value)?;
+    if predicate.vars.len(cx) != 0 {
+        return None;
+    }
+    if !goal.predicate.has_closed_statement(cx) {
+        return None;
+    }
+    if !is_closed_env(cx, goal.param_env) {
+        return None;
+    }
+    if !are_of_one_sort(cx, left, right) {
+        return None;
+    }
+    cx.terms_are_formed();
+    match (is_alias_term(cx, left), is_alias_term(cx, right)) {
+        (true, false) => Some(EquatedAlias {
+            alias: left,
+            term: right,
+        }),
+        (false, true) => Some(EquatedAlias {
+            alias: right,
+            term: left,
+        }),
+        _ => None,
+    }
+}
+
+/// How a goal names the alias that a label is of.
+fn head_of(label: Label) -> AliasHead
+    requires { is_alias label ≡ true }
+    ensures { label ≡ alias_label result }
+{
+    match label {
+        Label::Ty(TyHead::Alias(alias)) => AliasHead::Ty(alias),
+        Label::Const(ConstHead::Unevaluated(ct)) => AliasHead::Const(ct),
+        _ => unreachable!(),
+    }
+}
+
+/// The goal that an alias normalizes to what it is said to be equal to.
+fn normal_goal(cx: &mut Cx, goal: Goal, equated: EquatedAlias) -> Result<Goal, Fault>
+    requires equated { IsEquatedGoal cx.old.nodes goal equated }
+    ensures environment { IfOk result (λ g. g.param_env ≡ goal.param_env) }
+    ensures holds { IfOk result (λ g. HoldsPredicate cx.new.nodes g.predicate) }
+    ensures tree { IfOk result (λ g. (x : IsAlias (tree_at cx.old.nodes equated.alias.node)) →
+        tree_at cx.new.nodes g.predicate.node ≡
+        normalization_goal x.head x.parts (tree_at cx.old.nodes equated.term.node)) }
+    ensures grows { Grows cx.old cx.new }
+    ensures memory { IsOkUnless result Fault.Memory }
+{
+    cx.terms_are_formed();
+    let nodes = &mut cx.nodes;
+    let head = head_of(nodes.label(equated.alias.node));
+    let args = nodes.child(equated.alias.node, 0);
+    let sorts = nodes.make(Label::List(ListHead::Sorts), &[])?;
+    let normalizes = Label::Predicate(PredicateHead::NormalizesTo(head));
+    let statement = nodes.make(normalizes, &[args, equated.term.node])?;
+    let node = nodes.make(Label::List(ListHead::Binder), &[sorts, statement])?;
+    Ok(Goal {
+        param_env: goal.param_env,
+        predicate: Predicate { node },
+    })
+}
+
+/// The goals that are left of a goal that an alias is equal to a term: that the alias normalizes to the term.
+#[inline(never)]
+pub fn normal_goals(
+    cx: &mut Cx,
+    goal: Goal,
+    equated: EquatedAlias,
+) -> Result<Vec<(GoalSource, Goal)>, Fault>
+    requires equated { IsEquatedGoal cx.old.nodes goal equated }
+    ensures goals { IfOk result (λ gs. AreNormalGoals cx.old.nodes cx.new.nodes goal equated
+        gs.items) }
+    ensures grows { Grows cx.old cx.new }
+    ensures memory { IsOkUnless result Fault.Memory }
+{
+    let normal = normal_goal(cx, goal, equated)?;
+    let mut goals = Vec::with_capacity(cx.alloc, 1)?;
+    goals.push((GoalSource::TypeRelating, normal))?;
+    Ok(goals)
+}
