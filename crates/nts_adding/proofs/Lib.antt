@@ -3,3 +3,7 @@ pub mod Walked
 pub mod Known
 pub mod Added
 mod AddingExamples
+pub mod NewVariables
+pub mod Rigidly
+pub mod Relating
+mod RigidExamples

@@ -2,3 +2,4 @@ pub mod Putting
 pub mod Walking
 pub mod Replacing
 pub mod Adding
+pub mod Rigid

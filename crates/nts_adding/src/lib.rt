@@ -4,5 +4,7 @@
 
 mod goals;
 mod putting;
+mod rigid;
 
 pub use goals::{goals_to_add, replace_aliases};
+pub use rigid::relate_rigid_alias;

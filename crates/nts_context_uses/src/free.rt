@@ -62,7 +62,8 @@ fn is_left_open(fixture: &mut Fixture, asked: &Asked) -> Result<bool, EvalError>
     ask(&mut fixture.table, &mut fixture.cx, &rules, lhs, rhs, goal)
 }
 
-fn name_all(
+/// Makes terms, and gives them their names.
+pub(crate) fn name_all(
     fixture: &mut Fixture,
     names: &mut Names,
     made: &[(Name, Make)],

@@ -12,6 +12,10 @@ mod free_tests;
 #[cfg(test)]
 mod related;
 #[cfg(test)]
+mod rigid;
+#[cfg(test)]
+mod rigid_tests;
+#[cfg(test)]
 mod rule;
 #[cfg(test)]
 mod terms;

@@ -5,13 +5,13 @@ use Rattle.std.specs.Prelude.{All, IfOk, IfErr, Result, Ok, Err, OnOk, OnErr}
 use Rattle.std.proofs.lemmas.List.{append-nil, nil_from_length}
 use Rattle.std.proofs.lemmas.List.Elements.{All-append}
 use Rattle.nts_model.specs.declared.labels.Variance.{Variance}
-use Rattle.nts_model.specs.Terms.Trees.{Tree, IsClosed}
-use Rattle.nts_model.specs.Tables.Contents.{Content}
+use Rattle.nts_model.specs.Terms.Trees.{Tree}
 use Rattle.nts_model.proofs.Tables.Slots.{Knows-kept}
 use Rattle.nts_store.specs.declared.fault.EvalError.{EvalError}
 use Rattle.nts_store.specs.declared.nodes.NodeId.{NodeId}
 use Rattle.nts_store.specs.Growth.{tree_at}
 use Rattle.nts_terms.specs.declared.cx.Cx.{Cx}
+use Rattle.nts_terms.specs.declared.handles.AliasTerm.{AliasTerm}
 use Rattle.nts_terms.specs.declared.handles.Goal.{Goal}
 use Rattle.nts_terms.specs.declared.handles.ParamEnv.{ParamEnv}
 use Rattle.nts_terms.proofs.Moved.{Holds-extended}
@@ -20,39 +20,17 @@ use Rattle.nts_certainty.specs.declared.sources.GoalSource.TheVariants as source
 use Rattle.nts_search.specs.declared.kinds.CurrentGoalKind.{CurrentGoalKind}
 use Rattle.nts_search.specs.declared.kinds.CurrentGoalKind.TheVariants as kind
 use Rattle.nts_adding.specs.Adding.{AddsEach, ArePosedIn}
+use Rattle.nts_adding.specs.Rigid.{AddsRigidly}
 use Rattle.nts_adding.proofs.Known.{goals_posed}
 use Rattle.nts_unify.specs.Entries.{Entries}
 use Rattle.nts_unify.specs.Reading.{content_of}
-use Rattle.nts_unify.specs.Changing.{HasClosedSides}
-use Rattle.nts_unify.proofs.Keeping.{sides-added}
 use Rattle.nts_table.specs.Tables.{Table, IsTable}
-use Rattle.nts_variance.specs.Walking.{IsTableGrown}
-use Rattle.nts_solver_relating.specs.Sides.{IsRelatedBy, SolverRelatingKeeps, AreMadeEqual}
+use Rattle.nts_solver_relating.specs.Sides.{IsRelatedBy, AreMadeEqual}
 use Rattle.nts_evaluation.specs.nts_meaning.specs.Evaluation.{Goes, Runs, IsPosed}
 use Rattle.nts_evaluation.specs.nts_trying.specs.Stepping.{ArePosed}
-use Rattle.nts_evaluation.specs.nts_meaning.proofs.Evaluating.{goes, runs-back}
 use Rattle.nts_evaluation.specs.nts_trying.proofs.Stepping.{posed_later}
 use Rattle.nts_contexts.specs.declared.state.EvalState.{EvalState}
-use Rattle.nts_contexts.specs.Related.{IsEnvOf, AddsTo, RelatesAdding, LeavesNothing, AddsRelated, AreEquatedIn}
-
--- what was recorded since is between closed terms
-closed_grown : {c d : Content} → IsTableGrown c d → HasClosedSides c → HasClosedSides d
-closed_grown l h =
-    record {
-      left = sides-added (λ x. IsClosed x.left) (λ x s. s.left) l.visible h.left;
-      right = sides-added (λ x. IsClosed x.right) (λ x s. s.right) l.visible h.right;
-    }
-
--- relating runs on
-pub relate_runs : {A : Type 0} (a b : Cx) (t u : Table) (items : A → List Goal) (declared : ℕ → List Variance) (env : ParamEnv) (v : Variance) (x y : Tree) (r : Result A EvalError) → IsTable a.nodes t → SolverRelatingKeeps a b t u
-    → IfOk r (λ gs. IsRelatedBy declared a.nodes b.nodes t.entries u.entries env v x y (items gs)) → OnErr r (u ≡ t) → Runs a b t u
-relate_runs a b t u items declared env v x y (Ok z) w k e q =
-    let g = k.grows in
-    let m = k.changes in
-    let s = e.related in
-    let n = s.takes in
-    record { goes = goes w g.extends k.table n.continues m.saved m.mode m.hidden (λ h. closed_grown n.later h); rest = g.rest }
-relate_runs a b t u items declared env v x y (Err z) w k e q = (let g = k.grows in runs-back w g.extends g.rest q)
+use Rattle.nts_contexts.specs.Related.{IsEnvOf, AddsTo, RelatesAdding, LeavesNothing, AddsRelated, AddsRelatedRigidly, AreEquatedIn}
 
 -- what relating gave, where the goals were added
 pub where_added : {A : Type 0} (P : Type 0) (r : Result A EvalError) (p : Result (Unit {0}) EvalError) → OnOk r P → IfErr r (λ e. p ≡ Err e) → OnOk p P
@@ -60,6 +38,12 @@ where_added P (Ok a) (Ok z) h f = h
 where_added P (Ok a) (Err e) h f = tt
 where_added P (Err e) (Ok z) h f = (let q : ◌≡◌ {A = Result (Unit {0}) EvalError} (Ok z) (Err e) = f in cc)
 where_added P (Err e) (Err x) h f = tt
+
+pub where_ended : {A : Type 0} (P : Entries → Type 0) (e f : Entries) (r : Result A EvalError) (p : Result (Unit {0}) EvalError) → OnOk p (f ≡ e) → OnOk r (P e) → IfErr r (λ x. p ≡ Err x) → OnOk p (P f)
+where_ended P e f (Ok a) (Ok z) q h k = subst P (sym q) h
+where_ended P e f (Ok a) (Err x) q h k = tt
+where_ended P e f (Err x) (Ok z) q h k = (let n : ◌≡◌ {A = Result (Unit {0}) EvalError} (Ok z) (Err x) = k in cc)
+where_ended P e f (Err x) (Err y) q h k = tt
 
 where_pushed : {A : Type 0} (P Q : A → Type 0) (S R : Type 0) (r : Result A EvalError) (p : Result (Unit {0}) EvalError) → OnOk p S → IfOk r P → IfOk r (λ gs. OnOk p (Q gs)) → IfErr r (λ e. p ≡ Err e) → ((gs : A) → S → P gs → Q gs → R) → OnOk p R
 where_pushed P Q S R (Ok g) (Ok z) s h k f to = to g s h k
@@ -92,6 +76,16 @@ adds_related a b t s u v m n env w x y items r p es ev h add f =
     (λ z q i j. record {
       added = items z;
       related = subst (λ e. RelatesAdding a b t.entries e env w x y (items z)) (sym q) (subst (λ e. RelatesAdding a b e u.entries env w x y (items z)) es i);
+      behind = j;
+    })
+
+pub adds_rigidly : {A : Type 0} (a b : Cx) (t s u v : Table) (m n : EvalState) (env : ParamEnv) (w : Variance) (x : AliasTerm) (y : NodeId) (items : A → List (GoalSource × Goal)) (r : Result A EvalError) (p : Result (Unit {0}) EvalError) → s.entries ≡ t.entries → OnOk p (v.entries ≡ u.entries)
+    → IfOk r (λ z. AddsRigidly a b s.entries u.entries env w x y (items z)) → IfOk r (λ z. OnOk p (n.nested_goals.items ≡ m.nested_goals.items ++ items z)) → IfErr r (λ e. p ≡ Err e) → OnOk p (AddsRelatedRigidly a b t v m n env w x y)
+adds_rigidly a b t s u v m n env w x y items r p es ev h add f =
+    where_pushed (λ z. AddsRigidly a b s.entries u.entries env w x y (items z)) (λ z. n.nested_goals.items ≡ m.nested_goals.items ++ items z) (v.entries ≡ u.entries) (AddsRelatedRigidly a b t v m n env w x y) r p ev h add f
+    (λ z q i j. record {
+      added = items z;
+      related = subst (λ e. AddsRigidly a b t.entries e env w x y (items z)) (sym q) (subst (λ e. AddsRigidly a b e u.entries env w x y (items z)) es i);
       behind = j;
     })
 

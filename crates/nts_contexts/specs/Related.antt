@@ -8,6 +8,7 @@ use Rattle.nts_model.specs.Tables.Resolving.{Knows}
 use Rattle.nts_store.specs.declared.nodes.NodeId.{NodeId}
 use Rattle.nts_store.specs.Growth.{tree_at}
 use Rattle.nts_terms.specs.declared.cx.Cx.{Cx}
+use Rattle.nts_terms.specs.declared.handles.AliasTerm.{AliasTerm}
 use Rattle.nts_terms.specs.declared.handles.Goal.{Goal}
 use Rattle.nts_terms.specs.declared.handles.ParamEnv.{ParamEnv}
 use Rattle.nts_terms.specs.Handles.{HoldsEnv}
@@ -16,6 +17,7 @@ use Rattle.nts_certainty.specs.declared.sources.GoalSource.{GoalSource}
 use Rattle.nts_certainty.specs.declared.sources.GoalSource.TheVariants as source
 use Rattle.nts_search.specs.declared.kinds.CurrentGoalKind.TheVariants as kind
 use Rattle.nts_adding.specs.Adding.{AddsEach}
+use Rattle.nts_adding.specs.Rigid.{AddsRigidly}
 use Rattle.nts_unify.specs.Entries.{Entries}
 use Rattle.nts_unify.specs.Reading.{content_of}
 use Rattle.nts_table.specs.Tables.{Table}
@@ -45,6 +47,12 @@ pub record RelatesAdding (a b : Cx) (e f : Entries) (env : ParamEnv) (v : Varian
 pub record AddsRelated (a b : Cx) (t u : Table) (m n : EvalState) (env : ParamEnv) (v : Variance) (x y : NodeId) : Type 0 where
   pub added : List (GoalSource × Goal)
   pub related : RelatesAdding a b t.entries u.entries env v x y added
+  pub behind : n.nested_goals.items ≡ m.nested_goals.items ++ added
+
+-- an alias was related with a variable, and what stands for the goals that are left is behind the goals that were there
+pub record AddsRelatedRigidly (a b : Cx) (t u : Table) (m n : EvalState) (env : ParamEnv) (v : Variance) (x : AliasTerm) (y : NodeId) : Type 0 where
+  pub added : List (GoalSource × Goal)
+  pub related : AddsRigidly a b t.entries u.entries env v x y added
   pub behind : n.nested_goals.items ≡ m.nested_goals.items ++ added
 
 -- two values were made equal, and nothing is left to be added

@@ -8,6 +8,7 @@ mod evaluating;
 mod goals;
 mod modes;
 mod relating;
+mod rigid;
 mod state;
 mod unconstrained;
 

@@ -5,7 +5,8 @@ use Rattle.nts_solver_relating.proofs.GoalsLeft.{if_ok}
 use Rattle.nts_adding.specs.Adding.{AddsEach}
 use Rattle.nts_adding.proofs.Known.{goals_posed}
 use Rattle.nts_contexts.specs.Related.{RelatesAdding, LeavesNothing}
-use Rattle.nts_contexts.proofs.Relates.{relate_runs, env_later, leaves_nothing}
+use Rattle.nts_adding.proofs.Relating.{relate_runs}
+use Rattle.nts_contexts.proofs.Relates.{env_later, leaves_nothing}
 use Rattle.nts_contexts.proofs.relating.relate_and_stand.Goals as goal
 
 pub returns-in_err-goals-clause-runs : goal.returns-in_err-goals-clause-runs
