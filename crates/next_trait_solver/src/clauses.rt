@@ -1,2 +1,2 @@
 //! A handler that is a list of clauses.
-pub use nts_delegate::{Clause, Clauses};
+pub use nts_delegate::{Clause, Clauses, NormClause};

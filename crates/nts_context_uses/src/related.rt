@@ -181,8 +181,8 @@ fn alias_and_word(cx: &mut Cx) -> Result<Option<(Ty, Ty)>, EvalError> {
     }
 }
 
-/// What is left between `Vec(Item(u8))` and `Vec(u32)`, where `Item` is an alias: a goal that relates `Item(u8)` with `u32`. There is no
-/// answer where a term does not fit.
+/// What is left between `Vec(Item(u8))` and `Vec(u32)`, where `Item` is an alias: a goal that relates `Item(u8)` with `u32`. It has
+/// no solution if the two are to be equal, since no clause says what `Item` is. There is no answer where a term does not fit.
 pub fn goals_of_alias(alloc: Global, variance: Variance) -> Result<Option<Left>, EvalError> {
     let mut cx = Cx::new(alloc);
     let Some((lhs, rhs)) = alias_and_word(&mut cx)? else {

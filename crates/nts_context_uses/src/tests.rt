@@ -31,12 +31,13 @@ fn is_left(found: Option<Left>, answered: usize, added: usize) -> bool {
     }
 }
 
-/// A goal of another kind than a trait goal is ambiguous: nothing is settled by it.
+/// That an alias is equal to a type is left as a goal, which has no solution where no clause says what the alias is. That it is a
+/// subtype is in doubt.
 #[test]
 fn an_alias_leaves_a_goal(rt: HostRuntime) {
     let alloc = rt.alloc();
-    let equal = goals_of_alias(alloc, Variance::Invariant).expect(&rt, "memory");
-    assert!(rt; is_left(equal, 1, 1));
+    let equal = goals_of_alias(alloc, Variance::Invariant);
+    assert!(rt; matches!(equal, Err(EvalError::NoSolution)));
     let lesser = goals_of_alias(alloc, Variance::Covariant).expect(&rt, "memory");
     assert!(rt; is_left(lesser, 1, 1));
 }

@@ -1,3 +1,7 @@
+mod AliasExamples
+pub mod AliasFound
+pub mod AliasSingle
+pub mod AliasTables
 mod AssumedExamples
 pub mod Found
 pub mod Indexing

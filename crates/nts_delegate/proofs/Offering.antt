@@ -48,12 +48,12 @@ names_none fresh (node l c) h =
     (no_name fresh l w.0, names_none fresh c w.1)
 
 -- the children of a node
-children_lack : (p : Label → Bool) (t : Tree) → any_label p t ≡ false → any_label p (children t) ≡ false
+pub children_lack : (p : Label → Bool) (t : Tree) → any_label p t ≡ false → any_label p (children t) ≡ false
 children_lack p empty h = refl
 children_lack p (more a b) h = refl
 children_lack p (node l c) h = (both_false (p l) (any_label p c) h).1
 
-children_named : (fresh : List Sort) (t : Tree) → NamesFresh fresh t → NamesFresh fresh (children t)
+pub children_named : (fresh : List Sort) (t : Tree) → NamesFresh fresh t → NamesFresh fresh (children t)
 children_named fresh empty h = tt
 children_named fresh (more a b) h = tt
 children_named fresh (node l c) h = h.1
@@ -63,7 +63,7 @@ children_leaves l empty o = absurd o
 children_leaves l (more a b) o = absurd o
 children_leaves l (node m t) o = inr o
 
-children_well_bound : (t : Tree) → IsWellBound t → IsWellBound (children t)
+pub children_well_bound : (t : Tree) → IsWellBound t → IsWellBound (children t)
 children_well_bound empty h = tt
 children_well_bound (more a b) h = tt
 children_well_bound (node l c) h = h.1
@@ -132,7 +132,7 @@ pairs_all ts i us vs qs r s e l p =
     let second : row_take i vs ≡ vs = rw long (row_take-all vs s) in
     rw (first, second) at p
 
-pairs_over : (ts : List Tree) (fresh : List Sort) (g : Goal) (us vs : Tree) (qs : List Equation) → AreArgumentPairs ts us vs qs → IsClosed us → IsClosed vs → any_label is_canonical us ≡ false → ((l : Leaf) → Occurs l us → Occurs l (pair (tree_at ts g.param_env.node) (tree_at ts g.predicate.node))) → NamesFresh fresh vs → any_label is_foreign vs ≡ false → IsWellBound us → IsWellBound vs → AreEquations ts fresh g qs
+pub pairs_over : (ts : List Tree) (fresh : List Sort) (g : Goal) (us vs : Tree) (qs : List Equation) → AreArgumentPairs ts us vs qs → IsClosed us → IsClosed vs → any_label is_canonical us ≡ false → ((l : Leaf) → Occurs l us → Occurs l (pair (tree_at ts g.param_env.node) (tree_at ts g.predicate.node))) → NamesFresh fresh vs → any_label is_foreign vs ≡ false → IsWellBound us → IsWellBound vs → AreEquations ts fresh g qs
 pairs_over ts fresh g empty empty [] p cu cv n k f o x y = tt
 pairs_over ts fresh g (more a us) (more b vs) (q ∷ qs) p cu cv n k f o x y =
     let lacks = both_false (any_label is_canonical a) (any_label is_canonical us) n in
@@ -153,7 +153,7 @@ pairs_over ts fresh g (more a us) (more b vs) (q ∷ qs) p cu cv n k f o x y =
 pairs_over ts fresh g us vs qs p cu cv n k f o x y = absurd p
 
 -- a goal that handlers are asked has no positions
-positions : {ts : List Tree} {g : Goal} → IsAskedIn ts g → (any_label is_canonical (tree_at ts g.param_env.node) ≡ false) × (any_label is_canonical (tree_at ts g.predicate.node) ≡ false)
+pub positions : {ts : List Tree} {g : Goal} → IsAskedIn ts g → (any_label is_canonical (tree_at ts g.param_env.node) ≡ false) × (any_label is_canonical (tree_at ts g.predicate.node) ≡ false)
 positions {ts} {g} a =
     let asked = a.asked in
     let env = both_false (any_label is_canonical (tree_at ts g.param_env.node)) (any_label is_canonical (more (tree_at ts g.predicate.node) empty)) asked.no_positions in
@@ -162,7 +162,7 @@ positions {ts} {g} a =
     last : (p : Bool) → (p || false) ≡ false → p ≡ false
     last p h = (both_false p false h).0
 
-asked_nested : (ts : List Tree) (fresh : List Sort) (g : Goal) (ps : List Predicate) → IsAskedIn ts g → AreBodies ts fresh ps → AreNested ts fresh g (map (asked_by g) ps)
+pub asked_nested : (ts : List Tree) (fresh : List Sort) (g : Goal) (ps : List Predicate) → IsAskedIn ts g → AreBodies ts fresh ps → AreNested ts fresh g (map (asked_by g) ps)
 asked_nested ts fresh g [] a b = tt
 asked_nested ts fresh g (p ∷ ps) a b = (
   record {
@@ -180,7 +180,7 @@ pub record AreClosedArguments (t : Tree) : Type 0 where
   pub closed : IsClosed t
 
 -- each of which is closed
-closed_children : (t : Tree) → kind_of t ≡ Some arguments → IsClosed t → IsClosed (children t)
+pub closed_children : (t : Tree) → kind_of t ≡ Some arguments → IsClosed t → IsClosed (children t)
 closed_children empty k h = tt
 closed_children (more a b) k h = tt
 closed_children (node (label.List list.Args) c) k h = h.1

@@ -8,7 +8,7 @@ use Rattle.nts_delegate.specs.declared.clauses.Clause.{Clause}
 use Rattle.nts_delegate.specs.declared.clauses.TraitClauses.{TraitClauses}
 use Rattle.nts_delegate.specs.declared.clauses.Clauses.{Clauses}
 use Rattle.nts_delegate.specs.Places.{IsIndexOf}
-use Rattle.nts_delegate.specs.Clauses.{HoldsClause, AreClauses, clauses_in, head_of_clause, IsIndexed, AreClausesReady}
+use Rattle.nts_delegate.specs.Clauses.{HoldsClause, AreClauses, clauses_in, head_of_clause, IsIndexed, AreNormClauses, said_at, AreClausesReady}
 use Rattle.nts_delegate.proofs.Offering.{clauses_push}
 use Rattle.nts_delegate.proofs.Traits.{get_here}
 use lib.ListN.{set}
@@ -24,8 +24,10 @@ AllReady ts xs = (i : ℕ) → IsReadyAt ts (slice_get xs i)
 all_of : (ts : List Tree) (h : Clauses) → AreClausesReady ts h → AllReady ts h.traits.items
 all_of ts h r = λ i. record { clauses = r.clauses i; indexed = r.indexed i }
 
-ready_of : (ts : List Tree) (h : Clauses) → AllReady ts h.traits.items → AreClausesReady ts h
-ready_of ts h r = record { clauses = λ i. (r i).clauses; indexed = λ i. (r i).indexed }
+-- the aliases of one that is ready are those of the other
+ready_of : (ts : List Tree) (a b : Clauses) → AreClausesReady ts a → b.aliases ≡ a.aliases → AllReady ts b.traits.items → AreClausesReady ts b
+ready_of ts a b k e r =
+    record { clauses = λ i. (r i).clauses; indexed = λ i. (r i).indexed; aliases = λ x. subst (λ z. AreNormClauses ts (said_at z x).clauses) (sym e) (k.aliases x) }
 
 push_ready : (ts : List Tree) (xs : List TraitClauses) (t : TraitClauses) → AllReady ts xs → IsReadyAt ts (Some t) → AllReady ts (xs ++ t ∷ [])
 push_ready ts [] t r h zero = h
@@ -34,10 +36,10 @@ push_ready ts (x ∷ xs) t r h zero = r zero
 push_ready ts (x ∷ xs) t r h (suc i) = push_ready ts xs t (λ j. r (suc j)) h i
 
 -- a trait more, without clauses
-pub ready_push : (ts : List Tree) (a b : Clauses) (t : TraitClauses) → b.traits.items ≡ a.traits.items ++ t ∷ [] → t.clauses.items ≡ [] → IsIndexOf t.heads [] → AreClausesReady ts a → AreClausesReady ts b
-ready_push ts a b t e n x r =
+pub ready_push : (ts : List Tree) (a b : Clauses) (t : TraitClauses) → b.aliases ≡ a.aliases → b.traits.items ≡ a.traits.items ++ t ∷ [] → t.clauses.items ≡ [] → IsIndexOf t.heads [] → AreClausesReady ts a → AreClausesReady ts b
+ready_push ts a b t l e n x r =
     let new : IsReadyAt ts (Some t) = record { clauses = subst (AreClauses ts) (sym n) tt; indexed = subst (λ cs. IsIndexOf t.heads (map (head_of_clause ts) cs)) (sym n) x } in
-    ready_of ts b (subst (AllReady ts) (sym e) (push_ready ts a.traits.items t (all_of ts a r) new))
+    ready_of ts a b r l (subst (AllReady ts) (sym e) (push_ready ts a.traits.items t (all_of ts a r) new))
 
 set_ready : (ts : List Tree) (xs : List TraitClauses) (e : ℕ) (d u : TraitClauses) → AllReady ts xs → e < length xs → d ≡ get_or xs e d → (IsReadyAt ts (Some d) → IsReadyAt ts (Some u)) → AllReady ts (set xs e u)
 set_ready ts [] e d u r h is f i = absurd (omega (arith, h))
@@ -47,10 +49,10 @@ set_ready ts (x ∷ xs) (suc e) d u r h is f zero = r zero
 set_ready ts (x ∷ xs) (suc e) d u r h is f (suc i) = set_ready ts xs e d u (λ j. r (suc j)) (omega (arith, h)) is f i
 
 -- what changes at one place
-pub ready_set : (ts : List Tree) (a b : Clauses) (e : ℕ) (d u : TraitClauses) → b.traits.items ≡ set a.traits.items e u → e < length a.traits.items → d ≡ get_or a.traits.items e d
+pub ready_set : (ts : List Tree) (a b : Clauses) (e : ℕ) (d u : TraitClauses) → b.aliases ≡ a.aliases → b.traits.items ≡ set a.traits.items e u → e < length a.traits.items → d ≡ get_or a.traits.items e d
     → (AreClauses ts d.clauses.items → IsIndexed ts (Some d) → AreClauses ts u.clauses.items × IsIndexed ts (Some u)) → AreClausesReady ts a → AreClausesReady ts b
-ready_set ts a b e d u s h is f r =
-    ready_of ts b (subst (AllReady ts) (sym s) (set_ready ts a.traits.items e d u (all_of ts a r) h is (λ k. let z = f k.clauses k.indexed in record { clauses = z.0; indexed = z.1 })))
+ready_set ts a b e d u l s h is f r =
+    ready_of ts a b r l (subst (AllReady ts) (sym s) (set_ready ts a.traits.items e d u (all_of ts a r) h is (λ k. let z = f k.clauses k.indexed in record { clauses = z.0; indexed = z.1 })))
 
 length-heads : (ts : List Tree) (cs : List Clause) → length cs ≡ length (map (head_of_clause ts) cs)
 length-heads ts [] = refl
@@ -66,8 +68,8 @@ one_more ts d u c h holds is e f all index =
     let heads : map (head_of_clause ts) cs ++ h ∷ [] ≡ map (head_of_clause ts) u.clauses.items = ap (λ z. map (head_of_clause ts) cs ++ z ∷ []) is ∙ sym (map_push (head_of_clause ts) cs c) ∙ ap (map (head_of_clause ts)) (sym e) in
     (subst (AreClauses ts) (sym e) (clauses_push ts cs c all holds), subst (IsIndexOf u.heads) heads found)
 
-pub ready_same : (ts : List Tree) (a b : Clauses) → b.traits.items ≡ a.traits.items → AreClausesReady ts a → AreClausesReady ts b
-ready_same ts a b e r = ready_of ts b (subst (AllReady ts) (sym e) (all_of ts a r))
+pub ready_same : (ts : List Tree) (a b : Clauses) → b.aliases ≡ a.aliases → b.traits.items ≡ a.traits.items → AreClausesReady ts a → AreClausesReady ts b
+ready_same ts a b l e r = ready_of ts a b r l (subst (AllReady ts) (sym e) (all_of ts a r))
 
 -- a trait that has clauses, or has none
 pub at_place : (ts xs : List TraitClauses) (i : ℕ) (t : TraitClauses) → xs ≡ ts → i < length xs → t ≡ get_or xs i t → slice_get ts i ≡ Some t

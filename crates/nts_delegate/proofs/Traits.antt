@@ -4,12 +4,12 @@ use Rattle.std.specs.Prelude.{slice_get}
 use Rattle.nts_delegate.specs.declared.clauses.Clause.{Clause}
 use Rattle.nts_delegate.specs.declared.clauses.TraitClauses.{TraitClauses}
 use Rattle.nts_delegate.specs.declared.clauses.Clauses.{Clauses}
-use Rattle.nts_delegate.specs.Clauses.{clauses_in, coinductive_in}
+use Rattle.nts_delegate.specs.Clauses.{clauses_in, coinductive_in, said_at}
 use Rattle.nts_delegate.specs.Adding.{KeepsClauses, AddsClause}
 use lib.ListN.{set}
 
 pub same_refl : (h : Clauses) → KeepsClauses h h
-same_refl h = record { clauses = λ i. refl; coinductive = λ i. refl }
+same_refl h = record { clauses = λ i. refl; coinductive = λ i. refl; aliases = λ i. refl }
 
 clauses-push : (ts : List TraitClauses) (t : TraitClauses) (i : ℕ) → t.clauses.items ≡ [] → clauses_in (slice_get (ts ++ t ∷ []) i) ≡ clauses_in (slice_get ts i)
 clauses-push [] t zero e = e
@@ -24,11 +24,12 @@ coinductive-push (u ∷ ts) t zero e = refl
 coinductive-push (u ∷ ts) t (suc i) e = coinductive-push ts t i e
 
 -- one more place
-pub same_push : (a b c : Clauses) (t : TraitClauses) → KeepsClauses a b → c.traits.items ≡ b.traits.items ++ t ∷ [] → t.clauses.items ≡ [] → t.is_coinductive ≡ false → KeepsClauses a c
-same_push a b c t s e m k =
+pub same_push : (a b c : Clauses) (t : TraitClauses) → KeepsClauses a b → c.aliases ≡ b.aliases → c.traits.items ≡ b.traits.items ++ t ∷ [] → t.clauses.items ≡ [] → t.is_coinductive ≡ false → KeepsClauses a c
+same_push a b c t s x e m k =
     record {
       clauses = λ i. rw e (clauses-push b.traits.items t i m ∙ s.clauses i);
       coinductive = λ i. rw e (coinductive-push b.traits.items t i k ∙ s.coinductive i);
+      aliases = λ i. ap (λ z. said_at z i) x ∙ s.aliases i;
     }
 
 set_here : (ts : List TraitClauses) (e : ℕ) (u : TraitClauses) → e < length ts → slice_get (set ts e u) e ≡ Some u
@@ -54,11 +55,12 @@ pub record HasOneMore (ts : List TraitClauses) (e : ℕ) (u : TraitClauses) (c :
   pub clauses : u.clauses.items ≡ (get_or ts e d).clauses.items ++ c ∷ []
   pub coinductive : u.is_coinductive ≡ (get_or ts e d).is_coinductive
 
-pub added : (a b n : Clauses) (c : Clause) (e : ℕ) (d u : TraitClauses) → KeepsClauses a b → e ≡ c.trait_id.number → n.traits.items ≡ set b.traits.items e u → HasOneMore b.traits.items e u c d → AddsClause a n c
-added a b n c e d u s m is h =
+pub added : (a b n : Clauses) (c : Clause) (e : ℕ) (d u : TraitClauses) → KeepsClauses a b → n.aliases ≡ b.aliases → e ≡ c.trait_id.number → n.traits.items ≡ set b.traits.items e u → HasOneMore b.traits.items e u c d → AddsClause a n c
+added a b n c e d u s x m is h =
     record {
       clauses = λ i. rw (is, ← s.clauses i) (more_at i (i == c.trait_id.number) refl);
       coinductive = λ i. rw (is, ← s.coinductive i) (still_at i (i == c.trait_id.number) refl);
+      aliases = λ i. ap (λ z. said_at z i) x ∙ s.aliases i;
     }
   where
     here : slice_get b.traits.items e ≡ Some (get_or b.traits.items e d)

@@ -1,22 +1,27 @@
 -- Clauses that a handler may be made of.
 use Rattle.std.specs.Prelude.{◌≡◌, ℕ, Bool, true, false, List, [], ◌∷◌, map, Option, Some, None, slice_get}
+use Rattle.nts_model.specs.declared.labels.AliasHead.{AliasHead}
+use Rattle.nts_model.specs.declared.labels.AliasHead.TheVariants as alias_of
 use Rattle.nts_model.specs.declared.labels.Sort.{Sort}
 use Rattle.nts_model.specs.declared.labels.PredicateHead.{PredicateHead}
 use Rattle.nts_model.specs.declared.labels.PredicateHead.TheVariants as predicate
 use Rattle.nts_model.specs.declared.labels.Label.{Label}
 use Rattle.nts_model.specs.declared.labels.Label.TheVariants as label
 use Rattle.nts_model.specs.declared.labels.TyHead.{TyHead}
-use Rattle.nts_model.specs.Terms.Trees.{Tree, children, any_label, IsClosed}
+use Rattle.nts_model.specs.Terms.Trees.{Tree, children, any_label, a_result, IsClosed}
 use Rattle.nts_model.specs.Terms.Scoping.{IsWellBound}
 use Rattle.nts_store.specs.declared.nodes.NodeId.{NodeId}
 use Rattle.nts_terms.specs.declared.handles.Predicate.{Predicate}
 use Rattle.nts_store.specs.Growth.{tree_at, IsIn}
 use Rattle.nts_model.specs.Terms.Substitutions.{position_of}
-use Rattle.nts_terms.specs.Handles.{HoldsArgs, HoldsPredicate}
+use Rattle.nts_terms.specs.Handles.{Holds, HoldsArgs, HoldsPredicate, alias_head}
 use Rattle.nts_model.specs.Derivations.Handlers.{NamesAt, NamesFresh}
 use Rattle.nts_candidates.specs.Foreign.{is_foreign_leaf}
 use Rattle.nts_delegate.specs.Places.{IsIndexOf}
 use Rattle.nts_delegate.specs.Relevant.{first_built_by}
+use Rattle.nts_delegate.specs.declared.alias_table.NormClause.{NormClause}
+use Rattle.nts_delegate.specs.declared.alias_table.AliasRules.{AliasRules}
+use Rattle.nts_delegate.specs.declared.alias_table.AliasTable.{AliasTable}
 use Rattle.nts_delegate.specs.declared.clauses.Clause.{Clause}
 use Rattle.nts_delegate.specs.declared.clauses.TraitClauses.{TraitClauses}
 use Rattle.nts_delegate.specs.declared.clauses.Clauses.{Clauses}
@@ -82,7 +87,44 @@ abbrev pub IsIndexed : List Tree → Option TraitClauses → Type 0
 IsIndexed ts None = Unit {0}
 IsIndexed ts (Some t) = IsIndexOf t.heads (map (head_of_clause ts) t.clauses.items)
 
--- the clauses are of the store, and their index leads to them
+-- what is said of an alias: its clauses, in the order in which they were added, and whether it is rigid
+pub record SaidOfAlias : Type 0 where
+  pub clauses : List NormClause
+  pub is_rigid : Bool
+
+abbrev pub nothing_said : SaidOfAlias
+nothing_said = record { clauses = []; is_rigid = false }
+
+abbrev pub said_in : Option AliasRules → SaidOfAlias
+said_in None = nothing_said
+said_in (Some r) = record { clauses = r.clauses.items; is_rigid = r.is_rigid }
+
+-- .. by the number of an alias of types, or of a const that is to be evaluated
+abbrev pub said_at : AliasTable → AliasHead → SaidOfAlias
+said_at t (alias_of.Ty i) = said_in (slice_get t.types.items i)
+said_at t (alias_of.Const i) = said_in (slice_get t.consts.items i)
+
+abbrev pub said_of : Clauses → AliasHead → SaidOfAlias
+said_of h a = said_at h.aliases a
+
+-- no alias has a clause, and none is rigid
+abbrev pub SaysNothingOfAliases : Clauses → Type 0
+SaysNothingOfAliases h = (a : AliasHead) → said_of h a ≡ nothing_said
+
+-- a clause for an alias, of the store: its result is a type or a const, as the alias is
+pub record HoldsNormClause (ts : List Tree) (c : NormClause) : Type 0 where
+  pub head_holds : HoldsArgs ts c.head
+  pub head : IsClauseTerm ts c.fresh.items c.head.node
+  pub result_holds : Holds (a_result (alias_head c.alias)) ts c.result.node
+  pub result : IsClauseTerm ts c.fresh.items c.result.node
+  pub body : AreBodies ts c.fresh.items c.body.items
+
+abbrev pub AreNormClauses : List Tree → List NormClause → Type 0
+AreNormClauses ts [] = Unit {0}
+AreNormClauses ts (c ∷ cs) = HoldsNormClause ts c × AreNormClauses ts cs
+
+-- the clauses are of the store, and the index of those of traits leads to them
 pub record AreClausesReady (ts : List Tree) (h : Clauses) : Type 0 where
   pub clauses : (i : ℕ) → AreClauses ts (clauses_of h i)
   pub indexed : (i : ℕ) → IsIndexed ts (slice_get h.traits.items i)
+  pub aliases : (a : AliasHead) → AreNormClauses ts (said_of h a).clauses

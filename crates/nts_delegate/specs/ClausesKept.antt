@@ -8,9 +8,10 @@ use Rattle.nts_terms.specs.declared.handles.Predicate.{Predicate}
 use Rattle.nts_store.specs.Growth.{Extends}
 use Rattle.nts_terms.specs.Handles.{Holds}
 use Rattle.nts_model.specs.Terms.Trees.{Place}
-use Rattle.nts_delegate.specs.Clauses.{IsClauseTerm, AreBodies, HoldsClause, AreClauses, clauses_in, clauses_of, head_of_clause, IsIndexed, AreClausesReady}
+use Rattle.nts_delegate.specs.Clauses.{IsClauseTerm, AreBodies, HoldsClause, AreClauses, clauses_in, clauses_of, head_of_clause, IsIndexed, HoldsNormClause, AreNormClauses, said_of, AreClausesReady}
 use Rattle.nts_delegate.specs.Places.{IsIndexOf}
 use Rattle.nts_delegate.specs.Relevant.{first_built_by}
+use Rattle.nts_delegate.specs.declared.alias_table.NormClause.{NormClause}
 use Rattle.nts_delegate.specs.declared.clauses.TraitClauses.{TraitClauses}
 use Rattle.nts_delegate.specs.declared.clauses.Clause.{Clause}
 use Rattle.nts_delegate.specs.declared.clauses.Clauses.{Clauses}
@@ -58,9 +59,24 @@ indexed_kept : (a b : List Tree) (o : Option TraitClauses) → AreClauses a (cla
 indexed_kept a b None r h e = tt
 indexed_kept a b (Some t) r h e = subst (IsIndexOf t.heads) (sym (heads_kept a b t.clauses.items r e)) h
 
+norm_clause_kept : {a b : List Tree} {c : NormClause} → HoldsNormClause a c → Extends a b → HoldsNormClause b c
+norm_clause_kept {a} {b} {c} h e =
+    record {
+      head_holds = Holds-kept h.head_holds e;
+      head = IsClauseTerm-kept h.head e;
+      result_holds = Holds-kept h.result_holds e;
+      result = IsClauseTerm-kept h.result e;
+      body = AreBodies-kept a b c.fresh.items c.body.items h.body e;
+    }
+
+norm_clauses_kept : (a b : List Tree) (cs : List NormClause) → AreNormClauses a cs → Extends a b → AreNormClauses b cs
+norm_clauses_kept a b [] h e = tt
+norm_clauses_kept a b (c ∷ cs) h e = (norm_clause_kept h.0 e, norm_clauses_kept a b cs h.1 e)
+
 pub AreClausesReady-kept : (a b : List Tree) (h : Clauses) → AreClausesReady a h → Extends a b → AreClausesReady b h
 AreClausesReady-kept a b h r e =
     record {
       clauses = λ i. AreClauses-kept a b (clauses_of h i) (r.clauses i) e;
       indexed = λ i. indexed_kept a b (slice_get h.traits.items i) (r.clauses i) (r.indexed i) e;
+      aliases = λ x. norm_clauses_kept a b (said_of h x).clauses (r.aliases x) e;
     }

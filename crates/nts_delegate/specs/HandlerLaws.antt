@@ -70,14 +70,14 @@ goal_shape (node (label.Clause (clause.Projection i)) ts) h f = inr (record { no
 goal_shape (node (label.Predicate (predicate.NormalizesTo i)) ts) h f = inr (record { none = refl; none_under = λ g. refl })
 goal_shape s h f = absurd h
 
-formed_goal : (e g : Tree) → (h : IsAsked e g) → IsFormed (pair e (unbound h.statement))
+pub formed_goal : (e g : Tree) → (h : IsAsked e g) → IsFormed (pair e (unbound h.statement))
 formed_goal e g h = rw h.binds_nothing at h.formed
 
 pub trait_or_other : (e g : Tree) → IsAsked e g → IsTraitGoal g ⊎ IsOtherGoal g
 trait_or_other e g h = rw h.binds_nothing (goal_shape h.statement h.handlers (formed_goal e g h).1.0.1.1.0)
 
 -- what the clauses that take as many arguments offer
-record IsOfferOf (cs : List ClauseTree) (e us : Tree) (c : Candidate) : Type 0 where
+pub record IsOfferOf (cs : List ClauseTree) (e us : Tree) (c : Candidate) : Type 0 where
   pub of_clause : ClauseTree
   pub among : Among cs of_clause
   pub takes : takes_all us of_clause ≡ true
@@ -92,7 +92,7 @@ offer_first cs d e us c rest true t (inl i) = record { of_clause = d; among = in
 offer_first cs d e us c rest true t (inr b) = offer_later cs d e us c (rest b)
 offer_first cs d e us c rest false t b = offer_later cs d e us c (rest b)
 
-offer_among : (cs : List ClauseTree) (e us : Tree) (c : Candidate) → Among (map (offer_by e us) (filter (takes_all us) cs)) c → IsOfferOf cs e us c
+pub offer_among : (cs : List ClauseTree) (e us : Tree) (c : Candidate) → Among (map (offer_by e us) (filter (takes_all us) cs)) c → IsOfferOf cs e us c
 offer_among [] e us c a = absurd a
 offer_among (d ∷ cs) e us c a = offer_first cs d e us c (λ b. offer_among cs e us c b) (takes_all us d) refl a
 
@@ -111,7 +111,7 @@ offers_renamed_case : (ρ : Renaming) (e us : Tree) (c : ClauseTree) (xs : List 
 offers_renamed_case ρ e us c xs ys one rest true = cc (one, rest)
 offers_renamed_case ρ e us c xs ys one rest false = rest
 
-offers_renamed : (ρ : Renaming) → IsPlain ρ → (e us : Tree) → IsRow us → (cs : List ClauseTree) → AreOwnClauses cs → map (offer_by (rename ρ e) (rename ρ us)) (filter (takes_all (rename ρ us)) cs) ≡ map (renamed_candidate ρ) (map (offer_by e us) (filter (takes_all us) cs))
+pub offers_renamed : (ρ : Renaming) → IsPlain ρ → (e us : Tree) → IsRow us → (cs : List ClauseTree) → AreOwnClauses cs → map (offer_by (rename ρ e) (rename ρ us)) (filter (takes_all (rename ρ us)) cs) ≡ map (renamed_candidate ρ) (map (offer_by e us) (filter (takes_all us) cs))
 offers_renamed ρ p e us r [] o = refl
 offers_renamed ρ p e us r (c ∷ cs) o =
     let xs = filter (takes_all (rename ρ us)) cs in
@@ -135,7 +135,7 @@ pub record IsAskedOf (e us : Tree) : Type 0 where
   pub environment : any_label is_canonical e ≡ false
   pub arguments : any_label is_canonical us ≡ false
 
-or_false : (p : Bool) → (p || false) ≡ false → p ≡ false
+pub or_false : (p : Bool) → (p || false) ≡ false → p ≡ false
 or_false p h = (both_false p false h).0
 
 pub asked_of : (e us : Tree) (i : ℕ) → any_label is_canonical (pair e (trait_goal i us)) ≡ false → IsAskedOf e us
@@ -219,7 +219,7 @@ rules clauses is_coinductive own =
     }
 
 -- candidates keep the environment, and have no foreign leaves, sorts or sources
-own_over : (fresh : List Sort) (e g t : Tree) → IsOwnTerm fresh t → IsOver fresh e g t
+pub own_over : (fresh : List Sort) (e g t : Tree) → IsOwnTerm fresh t → IsOver fresh e g t
 own_over fresh e g t o =
     record { names = o.names; leaves = λ l x. inr (leaves_fixed t o.own l x); formed = o.formed; closed = o.closed; well_bound = o.well_bound }
 
@@ -248,7 +248,7 @@ own_statement (node (label.List list.Binder) (more v (more s empty))) h =
     or_false (any_label is_foreign s) (both_false (any_label is_foreign v) (any_label is_foreign s || false) h).1
 own_statement t h = refl
 
-goals_over : (fresh : List Sort) (e g : Tree) (ps : List Tree) → AreOwnTerms fresh ps → (q : Premise) → Among (map (asked_in e) ps) q → IsNested fresh e g q
+pub goals_over : (fresh : List Sort) (e g : Tree) (ps : List Tree) → AreOwnTerms fresh ps → (q : Premise) → Among (map (asked_in e) ps) q → IsNested fresh e g q
 goals_over fresh e g [] o q i = absurd i
 goals_over fresh e g (p ∷ ps) o q (inl i) =
     rw i (record { environment = refl; predicate = own_over fresh e g p o.0; emitted = emitted (statement_of p) (own_statement p o.0.own); source = tt })
@@ -292,7 +292,7 @@ keep clauses is_coinductive own =
     record { each = λ mode e g c asked among. keep_shape clauses own e g c asked (trait_or_other e g asked) among }
 
 -- the conditions of a clause are asked as such
-asked_sources : (e : Tree) (ps : List Tree) (q : Premise) → Among (map (asked_in e) ps) q → IsHandlersSource q.source
+pub asked_sources : (e : Tree) (ps : List Tree) (q : Premise) → Among (map (asked_in e) ps) q → IsHandlersSource q.source
 asked_sources e [] q i = absurd i
 asked_sources e (p ∷ ps) q (inl i) = rw i tt
 asked_sources e (p ∷ ps) q (inr i) = asked_sources e ps q i
@@ -311,7 +311,7 @@ IsLawfulHandler-clauses clauses is_coinductive own =
     record { commute = commute clauses is_coinductive own; rules = rules clauses is_coinductive own; sources = sources clauses is_coinductive; keep = keep clauses is_coinductive own; judges = objects_judged (handler_by clauses is_coinductive) (λ i. true) refl; at_once = FastAnswersHold-never (handler_by clauses is_coinductive) (λ e g c x. x) }
 
 -- every rule for an instance of a goal is one of an offered candidate
-offer_has : (cs : List ClauseTree) (d : ClauseTree) (e us : Tree) → Among cs d → takes_all us d ≡ true → Among (offers_of_clauses e us cs) (offer_by e us d)
+pub offer_has : (cs : List ClauseTree) (d : ClauseTree) (e us : Tree) → Among cs d → takes_all us d ≡ true → Among (offers_of_clauses e us cs) (offer_by e us d)
 offer_has [] d e us i t = absurd i
 offer_has (c ∷ cs) d e us (inl same) t = rw (ap (takes_all us) (sym same) ∙ t) (inl (ap (offer_by e us) same))
 offer_has (c ∷ cs) d e us (inr i) t = later (takes_all us c) (offer_has cs d e us i t)

@@ -1,4 +1,8 @@
 pub mod Adding
+pub mod AliasGoals
+pub mod AliasLaws
+pub mod AliasOffers
+pub mod AliasRows
 pub mod Assumed
 pub mod AssumedOffers
 pub mod Assuming
@@ -19,5 +23,6 @@ pub mod OwnTerms
 pub mod Places
 pub mod Positioned
 pub mod PositionedTerms
+pub mod ProjectionLaws
 pub mod Relevant
 pub mod SameHandlers

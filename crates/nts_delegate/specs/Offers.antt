@@ -1,5 +1,5 @@
 -- What a handler made of clauses offers for a goal.
-use Rattle.std.specs.Prelude.{◌≡◌, ℕ, ◌==◌, Bool, List, [], ◌∷◌, Option, Some, None, map}
+use Rattle.std.specs.Prelude.{◌≡◌, ℕ, ◌==◌, Bool, List, [], ◌∷◌, Option, Some, None, IsSome, map}
 use Rattle.std.specs.List.{filter}
 use Rattle.nts_model.specs.declared.labels.ClauseHead.TheVariants as clause
 use Rattle.nts_model.specs.declared.labels.Label.TheVariants as label
@@ -41,6 +41,10 @@ read_trait ts (Some r) = Some (r.def_id.number, tree_at ts r.args.node)
 abbrev pub HoldsTrait : List Tree → Option TraitRef → Type 0
 HoldsTrait ts None = Unit {0}
 HoldsTrait ts (Some r) = HoldsArgs ts r.args
+
+-- the goal is of a trait
+abbrev pub IsTraits : List Tree → Goal → Type 0
+IsTraits ts g = IsSome (trait_of (tree_at ts g.predicate.node))
 
 -- an argument of the goal is to be the clause's
 pub record IsArgumentPair (ts : List Tree) (a b : Tree) (q : Equation) : Type 0 where

@@ -7,8 +7,9 @@ ghost use Rattle.nts_terms.specs.Rest.{Grows};
 ghost use Rattle.nts_delegate.specs.Assumptions.{positioned, sorts_in, fits_trait};
 ghost use Rattle.nts_delegate.specs.EnvironmentRows.{one_or_none, IsOfferOfRow};
 
-use crate::clauses::{pairs_of, trait_of_statement};
+use crate::clauses::trait_of_statement;
 use crate::delegate::GoalHandler;
+use crate::offer::pairs_of;
 use nts_candidates::CandidateData;
 use nts_candidates::nts_certainty::{Certainty, RerunCondition};
 use nts_model::{BoundVarIndexKind, Label, Sort};

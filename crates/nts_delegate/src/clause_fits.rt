@@ -2,7 +2,7 @@
 ghost use Rattle.std.specs.Prelude.{◌≡◌, ◌↔◌, IfOk, IsTrue, IsOkUnless};
 ghost use Rattle.nts_store.specs.Growth.{IsIn};
 ghost use Rattle.nts_terms.specs.Handles.{HoldsArgs, HoldsPredicate};
-ghost use Rattle.nts_delegate.specs.Clauses.{MayHave, is_foreign, IsClauseTerm, HoldsClause};
+ghost use Rattle.nts_delegate.specs.Clauses.{MayHave, is_foreign, IsClauseTerm, AreBodies, HoldsClause};
 
 use crate::clauses::{Clause, Clauses};
 use nts_candidates::{is_foreign_leaf_of, names_fresh};
@@ -35,16 +35,11 @@ impl Clauses {
         if !head_fits(cx, &clause.fresh, clause.head)? {
             return Ok(false);
         }
-        for predicate in &clause.body {
-            if !body_fits(cx, &clause.fresh, *predicate)? {
-                return Ok(false);
-            }
-        }
-        Ok(true)
+        Ok(bodies_fit(cx, &clause.fresh, &clause.body)?)
     }
 }
 
-fn head_fits(cx: &Cx, fresh: &[Sort], head: GenericArgs) -> Result<bool, AllocError>
+pub(crate) fn head_fits(cx: &Cx, fresh: &[Sort], head: GenericArgs) -> Result<bool, AllocError>
     ensures { IfOk result (λ b. IsTrue b ↔ (HoldsArgs cx.now.nodes head × IsClauseTerm cx.now.nodes
         fresh.now head.node)) }
 {
@@ -52,6 +47,18 @@ fn head_fits(cx: &Cx, fresh: &[Sort], head: GenericArgs) -> Result<bool, AllocEr
         return Ok(false);
     }
     is_clause_term(cx, fresh, head.node)
+}
+
+/// Whether each predicate may be a condition of a clause over fresh variables of these sorts.
+pub(crate) fn bodies_fit(cx: &Cx, fresh: &[Sort], body: &[Predicate]) -> Result<bool, AllocError>
+    ensures { IfOk result (λ b. IsTrue b ↔ AreBodies cx.now.nodes fresh.now body.now) }
+{
+    for predicate in body {
+        if !body_fits(cx, fresh, *predicate)? {
+            return Ok(false);
+        }
+    }
+    Ok(true)
 }
 
 fn body_fits(cx: &Cx, fresh: &[Sort], predicate: Predicate) -> Result<bool, AllocError>
@@ -64,7 +71,7 @@ fn body_fits(cx: &Cx, fresh: &[Sort], predicate: Predicate) -> Result<bool, Allo
     is_clause_term(cx, fresh, predicate.node)
 }
 
-fn is_clause_term(cx: &Cx, fresh: &[Sort], t: NodeId) -> Result<bool, AllocError>
+pub(crate) fn is_clause_term(cx: &Cx, fresh: &[Sort], t: NodeId) -> Result<bool, AllocError>
     requires { IsIn cx.now.nodes t }
     ensures { IfOk result (λ b. IsTrue b ↔ IsClauseTerm cx.now.nodes fresh.now t) }
 {

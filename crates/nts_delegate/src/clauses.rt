@@ -1,10 +1,10 @@
 //! A handler made of a list of clauses.
-ghost use Rattle.std.specs.Prelude.{◌≡◌, ◌<◌, ◌↔◌, ◌++◌, ◌∷◌, ℕ, [], false, List, Option, Some, length, map, IfOk, OnOk, OnErr, IsTrue, IsOkUnless};
+ghost use Rattle.std.specs.Prelude.{◌≡◌, ◌<◌, ◌++◌, ◌∷◌, ℕ, [], false, List, Option, Some, length, map, IfOk, OnOk, OnErr, IsOkUnless};
 ghost use Rattle.nts_model.specs.Terms.Trees.{Tree, row_length, children, IsRow};
 ghost use Rattle.nts_store.specs.Growth.{tree_at, Extends};
 ghost use Rattle.nts_terms.specs.Handles.{HoldsArgs};
 ghost use Rattle.nts_terms.specs.Kinds.{tree_of_statement, StatementFits, tree_of_clause, ClauseFits};
-ghost use Rattle.nts_delegate.specs.Offers.{IsOffer, AreArgumentPairs, asked_by, read_trait, trait_of, trait_read, HoldsTrait};
+ghost use Rattle.nts_delegate.specs.Offers.{read_trait, trait_of, trait_read, HoldsTrait};
 ghost use Rattle.nts_terms.specs.Rest.{Grows};
 ghost use Rattle.nts_model.specs.declared.labels.TyHead.{TyHead};
 ghost use Rattle.nts_delegate.specs.Candidates.{IsAskedIn, AreCandidates};
@@ -14,10 +14,11 @@ ghost use Rattle.nts_delegate.specs.Places.{IsIndexOf};
 ghost use Rattle.nts_candidates.specs.Offered.{candidates_of};
 ghost use Rattle.nts_delegate.specs.Relevant.{built_by_label, first_built_by, LeavesOut};
 
+use crate::alias_table::AliasTable;
 use crate::delegate::GoalHandler;
 use crate::head_index::HeadIndex;
-use nts_candidates::nts_certainty::{Certainty, GoalSource, RerunCondition};
-use nts_candidates::{CandidateData, CandidateGoal, Equation, EquationKind};
+use crate::offer::offer_of;
+use nts_candidates::CandidateData;
 use nts_model::{Label, Sort, TyHead};
 use nts_store::Fault;
 use nts_terms::{
@@ -79,26 +80,30 @@ impl TraitClauses {
     }
 }
 
-/// A handler made of clauses, in the order in which they were added.
+/// A handler made of clauses, in the order in which they were added: of traits, and of aliases that they normalize.
+/// A goal of a projection has one candidate: that its alias is related with its term.
 #[derive(Drop)]
 pub struct Clauses {
-    alloc: Global,
+    pub(crate) alloc: Global,
     traits: Vec<TraitClauses>,
+    pub(crate) aliases: AliasTable,
 }
 
 impl Clauses {
-    ghost use Rattle.nts_delegate.specs.Clauses.{HoldsClause, AreClausesReady, clauses_of, coinductive_of};
+    ghost use Rattle.nts_delegate.specs.Clauses.{HoldsClause, AreClausesReady, clauses_of, coinductive_of, SaysNothingOfAliases};
     ghost use Rattle.nts_delegate.specs.Adding.{KeepsClauses, AddsClause, MakesCoinductive};
 
     /// No clauses. It takes no memory.
     pub fn new(alloc: Global) -> Self
         ensures clauses { (i : ℕ) → clauses_of result i ≡ [] }
         ensures coinductive { (i : ℕ) → coinductive_of result i ≡ false }
+        ensures aliases { SaysNothingOfAliases result }
         ensures ready { (ts : List Tree) → AreClausesReady ts result }
     {
         Clauses {
             alloc,
             traits: Vec::new(alloc),
+            aliases: AliasTable::new(alloc),
         }
     }
 
@@ -164,7 +169,7 @@ impl GoalHandler for Clauses {
     ghost use Rattle.nts_candidates.specs.Offered.{candidates_of};
     ghost use Rattle.nts_delegate.specs.Relevant.{LeavesOut};
     ghost use Rattle.nts_terms.specs.Modes.{mode_of};
-    ghost use Rattle.nts_delegate.specs.Offers.{AreOffers};
+    ghost use Rattle.nts_delegate.specs.Offers.{AreOffers, IsTraits};
     ghost use Rattle.nts_store.specs.Growth.{tree_at};
 
     ghost ready = { AreClausesReady };
@@ -179,17 +184,21 @@ impl GoalHandler for Clauses {
     ) -> Result<Vec<CandidateData>, Fault>
         requires ready { AreClausesReady cx.old.nodes self.now }
         requires goal { IsAskedIn cx.old.nodes goal }
-        ensures offers { IfOk result (λ cs. AreOffers cx.new.nodes goal self.now cs.items) }
+        ensures offers { IsTraits cx.old.nodes goal → IfOk result (λ cs. AreOffers cx.new.nodes
+            goal self.now cs.items) }
         ensures offered { IfOk result (λ cs. candidates_of cx.new.nodes cs.items ≡
             (handler_of cx.new.nodes self.now).offers (mode_of mode.now)
             (tree_at cx.new.nodes goal.param_env.node) (tree_at cx.new.nodes goal.predicate.node)) }
-        ensures same { cx.new ≡ cx.old }
+        ensures same { IsTraits cx.old.nodes goal → cx.new ≡ cx.old }
         ensures candidates { IfOk result (λ cs. AreCandidates cx.new.nodes goal cs.items) }
         ensures grows { Grows cx.old cx.new }
         ensures memory { IsOkUnless result Fault.Memory }
     {
         let _ = mode;
-        self.offers(cx, goal)
+        let mut found = self.offers_of_alias(cx, goal)?;
+        let mut more = self.offers(cx, goal)?;
+        found.append(&mut more)?;
+        Ok(found)
     }
 
     fn relevant_candidates(
@@ -204,12 +213,15 @@ impl GoalHandler for Clauses {
         ensures offered { IfOk result (λ cs. LeavesOut ((handler_of cx.new.nodes self.now).offers
             (mode_of mode.now) (tree_at cx.new.nodes goal.param_env.node)
             (tree_at cx.new.nodes goal.predicate.node)) (candidates_of cx.new.nodes cs.items)) }
-        ensures same { cx.new ≡ cx.old }
+        ensures same { IsTraits cx.old.nodes goal → cx.new ≡ cx.old }
         ensures grows { Grows cx.old cx.new }
         ensures memory { IsOkUnless result Fault.Memory }
     {
         let _ = mode;
-        self.relevant_offers(cx, goal)
+        let mut found = self.offers_of_alias(cx, goal)?;
+        let mut more = self.relevant_offers(cx, goal)?;
+        found.append(&mut more)?;
+        Ok(found)
     }
 
     fn trait_is_coinductive(&self, id: TraitId) -> bool
@@ -417,75 +429,4 @@ fn trait_of_clause(kind: ClauseKind) -> Option<TraitRef>
         ClauseKind::ConstEvaluatable(_) => None,
         ClauseKind::UnstableFeature(_) => None,
     }
-}
-
-/// What a clause offers for a goal with these arguments: its head's arguments are the goal's, and its
-/// body is to be proved.
-fn offer_of(
-    alloc: Global,
-    cx: &Cx,
-    clause: &Clause,
-    goal: Goal,
-    args: GenericArgs,
-) -> Result<CandidateData, Fault>
-    requires args { HoldsArgs cx.now.nodes args }
-    requires head { HoldsArgs cx.now.nodes clause.now.head }
-    requires row { IsRow (children (tree_at cx.now.nodes clause.now.head.node)) }
-    requires long { row_length (children (tree_at cx.now.nodes args.node)) ≡ row_length (children
-        (tree_at cx.now.nodes clause.now.head.node)) }
-    ensures offer { IfOk result (IsOffer cx.now.nodes goal
-        (tree_at cx.now.nodes args.node) clause.now) }
-    ensures memory { IsOkUnless result Fault.Memory }
-{
-    Ok(CandidateData {
-        fresh: Vec::from_slice(alloc, &clause.fresh)?,
-        equations: pairs_of(alloc, cx, args, clause.head)?,
-        region_constraints: Vec::new(alloc),
-        hidden_types: Vec::new(alloc),
-        goals: asked_of(alloc, goal, &clause.body)?,
-        certainty: Certainty::Yes,
-        accesses: RerunCondition::Never,
-    })
-}
-
-/// Each argument with the one of the head at its position.
-pub(crate) fn pairs_of(
-    alloc: Global,
-    cx: &Cx,
-    args: GenericArgs,
-    head: GenericArgs,
-) -> Result<Vec<Equation>, AllocError>
-    requires args { HoldsArgs cx.now.nodes args }
-    requires head { HoldsArgs cx.now.nodes head }
-    requires row { IsRow (children (tree_at cx.now.nodes head.node)) }
-    requires long { row_length (children (tree_at cx.now.nodes args.node)) ≡ row_length (children
-        (tree_at cx.now.nodes head.node)) }
-    ensures { IfOk result (λ qs. AreArgumentPairs cx.now.nodes
-        (children (tree_at cx.now.nodes args.node))
-        (children (tree_at cx.now.nodes head.node)) qs.items) }
-{
-    let mut equations = Vec::new(alloc);
-    for i in 0..args.len(cx) {
-        equations.push(Equation {
-            kind: EquationKind::Related,
-            lhs: args.get(cx, i),
-            rhs: head.get(cx, i),
-        })?;
-    }
-    Ok(equations)
-}
-
-/// A clause's body as goals, in the environment of the goal.
-fn asked_of(alloc: Global, goal: Goal, body: &[Predicate]) -> Result<Vec<CandidateGoal>, AllocError>
-    ensures { IfOk result (λ gs. gs.items ≡ map (asked_by goal) body.now) }
-{
-    body.iter()
-        .map(|predicate| CandidateGoal {
-            source: GoalSource::ImplWhereBound,
-            goal: Goal {
-                param_env: goal.param_env,
-                predicate: *predicate,
-            },
-        })
-        .collect(alloc)
 }

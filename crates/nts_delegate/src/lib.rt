@@ -1,6 +1,8 @@
 //! What offers the rules of traits: the handler and its laws, and a handler that is a list of clauses.
 #![tactic(auto)]
 
+mod alias_offers;
+mod alias_table;
 mod assembly;
 mod assumptions;
 mod both;
@@ -8,7 +10,10 @@ mod clause_fits;
 mod clauses;
 mod delegate;
 mod head_index;
+mod norm_clauses;
+mod offer;
 
+pub use alias_table::NormClause;
 pub use assembly::Assembly;
 pub use assumptions::Assumptions;
 pub use both::Both;

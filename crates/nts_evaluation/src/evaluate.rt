@@ -29,8 +29,9 @@ use nts_table::InferCtxt;
 use nts_terms::{Cx, GenericArg, Goal, TypingMode};
 use nts_trying::{
     AvailableDepth, EquatedAlias, GoalRow, Judged, OwnGoal, Step, Trial, TypePair, answer_outlives,
-    are_plain, check_leaks, enter_forall, equate, fast_answer, goal_kind, goal_row, judge, keep_response,
-    merge_responses, normal_goals, record_constraints, relate_types, relevant_candidates,
+    are_plain, check_leaks, enter_forall, equate, fast_answer, goal_kind, goal_row, judge,
+    keep_response, merge_responses, normal_goals, record_constraints, relate_types,
+    relevant_candidates,
 };
 
 /// Evaluates a goal in a query of its own: its leaves give place to positions, the search answers the query, and the response is
@@ -339,16 +340,7 @@ fn evaluate_alias<H: GoalHandler>(
         let doubt = boxed_response(table, cx, values, Certainty::AMBIGUOUS)?;
         return Ok(doubt);
     }
-    evaluate_candidates(
-        table,
-        cx,
-        handler,
-        graph,
-        goal,
-        &candidates,
-        values,
-        depth,
-    )
+    evaluate_candidates(table, cx, handler, graph, goal, &candidates, values, depth)
 }
 
 /// Answers a goal that an alias is equal to a term: asks whether the alias normalizes to the term, and answers what was found out. In

@@ -4,6 +4,7 @@ ghost use Rattle.nts_table.specs.Tables.{IsTable};
 ghost use Rattle.nts_terms.specs.Handles.{HoldsArg, HoldsGoal, HoldsPredicate};
 ghost use Rattle.nts_terms.specs.Rest.{Grows};
 
+use crate::aliases::{Aliased, alias_statement};
 use crate::own::{Own, own_of};
 use crate::steps::{Of, outlives_of, predicate_of, types_of};
 use nts_asking::GoalStalledOn;
@@ -35,6 +36,8 @@ pub enum Wanted {
     Coerce(Name, Name),
     /// A statement of a kind that the engine answers by itself, in an empty environment.
     Says(Own),
+    /// A statement about an alias, in an empty environment.
+    Alias(Aliased),
 }
 
 /// What a goal is answered.
@@ -202,6 +205,7 @@ fn predicate_wanted(cx: &mut Cx, names: &Names, wanted: Wanted) -> Result<Predic
         Wanted::Subtype(a, b) => types_of(cx, names, false, a, b),
         Wanted::Coerce(a, b) => types_of(cx, names, true, a, b),
         Wanted::Says(own) => own_of(cx, names, own),
+        Wanted::Alias(says) => alias_statement(cx, names, says),
     }
 }
 

@@ -2,6 +2,10 @@
 #![tactic(auto)]
 
 #[cfg(test)]
+mod alias_tests;
+#[cfg(test)]
+mod aliases;
+#[cfg(test)]
 mod asking;
 #[cfg(test)]
 mod evaluation_tests;

@@ -5,6 +5,7 @@ ghost use Rattle.nts_table.specs.Tables.{IsTable};
 ghost use Rattle.nts_terms.specs.Handles.{HoldsPredicate};
 ghost use Rattle.nts_terms.specs.Rest.{Grows};
 
+use crate::aliases::{Norm, normalize_all};
 use crate::asking::{Asked, ask_all};
 use nts_asking::GoalStalledOn;
 use nts_certainty::Certainty;
@@ -51,7 +52,9 @@ pub enum By {
     Clauses,
     /// The same, and the environment.
     Assembly,
-    /// The same, with a leak check.
+    /// A list of clauses, and what the alias of the number 0 normalizes to.
+    Aliases(&'static [Norm]),
+    /// A list of clauses, with a leak check.
     LeakChecked,
     /// The trait of the number 0 is so sure.
     Marker(Certainty),
@@ -145,6 +148,10 @@ fn play(
         By::Assembly => {
             let assembly = Assembly::new(clauses);
             ask_all(rt, table, cx, names, kept, &assembly, asked)
+        }
+        By::Aliases(norms) => {
+            normalize_all(rt, cx, names, &mut clauses, norms);
+            ask_all(rt, table, cx, names, kept, &clauses, asked)
         }
         By::LeakChecked => {
             let checked = LeakChecked { rules: clauses };

@@ -1,7 +1,7 @@
 use Rattle.nts_model.specs.Terms.Trees.{children, row_take}
 use Rattle.nts_store.specs.Growth.{tree_at}
 use Rattle.nts_delegate.specs.Offers.{AreArgumentPairs}
-use Rattle.nts_delegate.proofs.clauses.pairs_of.Given as goal
+use Rattle.nts_delegate.proofs.offer.pairs_of.Given as goal
 
 abbrev pub invariant-loop-i : goal.invariant-loop-i
 invariant-loop-i l =

@@ -2,7 +2,7 @@ use Rattle.std.proofs.Common.{◌≡◌, ◌<◌, refl, arith}
 use Rattle.nts_model.specs.Terms.Trees.{children, row_length}
 use Rattle.nts_store.specs.Growth.{tree_at}
 use Rattle.nts_delegate.proofs.Offering.{pairs_push, pairs_all}
-use Rattle.nts_delegate.proofs.clauses.pairs_of.Goals as goal
+use Rattle.nts_delegate.proofs.offer.pairs_of.Goals as goal
 
 pub loop-i-preserved : goal.loop-i-preserved
 loop-i-preserved c =

@@ -1,0 +1,139 @@
+//! Goals about aliases: what clauses normalize an alias to, what is refused, and what is left in doubt.
+use crate::aliases::Aliased::{Equal, Normalizes, Projects};
+use crate::aliases::Norm;
+use crate::asking::Answer::{Is, NotAdmitted, Refused};
+use crate::asking::Asked::{self, Goal, Resolves};
+use crate::asking::DOUBT;
+use crate::asking::Wanted::Alias;
+use crate::steps::Given::{self, Let, Trait};
+use crate::steps::{By, Of, Part, Rule, plays};
+use nts_certainty::{Certainty, HasChanged};
+use nts_fixtures::{BYTE, Make, Type, WORD};
+use nts_model::{Sort, VariableKind};
+use nts_terms::TypingMode;
+
+const YES: Certainty = Certainty::Yes;
+
+const GIVEN: &[Given] = &[
+    Trait(&[Sort::Ty]),
+    Let("byte", BYTE),
+    Let("word", WORD),
+    Let("alias", Make::AliasOf("byte")),
+    Let("x", Make::Var(VariableKind::Ty)),
+    Let("y", Make::Var(VariableKind::Ty)),
+];
+
+/// A goal may not be asked what an alias normalizes to, but what it is equal to.
+#[test]
+fn what_an_alias_normalizes_to_is_not_asked(rt: HostRuntime) {
+    const NORMS: &[Norm] = &[Norm(&[], "byte", "word", None)];
+    const ASKED: &[Asked] = &[
+        Goal(Alias(Normalizes("byte", "word")), NotAdmitted),
+        Goal(Alias(Equal("alias", "word")), Is(YES, HasChanged::No)),
+    ];
+    const PARTS: &[Part] = &[Part(By::Aliases(NORMS), &[], ASKED)];
+    plays(&rt, rt.alloc(), TypingMode::PostAnalysis, GIVEN, PARTS);
+}
+
+/// A clause normalizes the alias of each type that it is for, and no other alias.
+#[test]
+fn an_alias_normalizes_to_what_a_clause_says(rt: HostRuntime) {
+    const GENERAL: &[Given] = &[
+        Let("any", Make::Type(Type::Position(0))),
+        Let("word", WORD),
+        Let("some", Make::Wrap("any")),
+        Let("wrapped", Make::Wrap("word")),
+        Let("alias", Make::AliasOf("wrapped")),
+        Let("other", Make::AliasOf("word")),
+        Let("x", Make::Var(VariableKind::Ty)),
+    ];
+    const NORMS: &[Norm] = &[Norm(&[Sort::Ty], "some", "any", None)];
+    const ASKED: &[Asked] = &[
+        Goal(Alias(Equal("other", "word")), Refused),
+        Goal(Alias(Equal("alias", "wrapped")), Refused),
+        Goal(Alias(Equal("alias", "x")), Is(YES, HasChanged::Yes)),
+        Resolves("x", "word"),
+        Goal(Alias(Projects("wrapped", "x")), Is(YES, HasChanged::No)),
+    ];
+    const PARTS: &[Part] = &[Part(By::Aliases(NORMS), &[], ASKED)];
+    plays(&rt, rt.alloc(), TypingMode::PostAnalysis, GENERAL, PARTS);
+}
+
+/// An alias is equal to what it normalizes to, on either side, and is a projection that is this.
+#[test]
+fn an_alias_is_what_it_normalizes_to(rt: HostRuntime) {
+    const NORMS: &[Norm] = &[Norm(&[], "byte", "word", None)];
+    const ASKED: &[Asked] = &[
+        Goal(Alias(Equal("alias", "word")), Is(YES, HasChanged::No)),
+        Goal(Alias(Equal("word", "alias")), Is(YES, HasChanged::No)),
+        Goal(Alias(Equal("alias", "byte")), Refused),
+        Goal(Alias(Projects("byte", "word")), Is(YES, HasChanged::No)),
+        Goal(Alias(Projects("byte", "byte")), Refused),
+        Goal(Alias(Equal("x", "alias")), Is(YES, HasChanged::Yes)),
+        Resolves("x", "word"),
+        Goal(Alias(Projects("byte", "y")), Is(YES, HasChanged::Yes)),
+        Resolves("y", "word"),
+    ];
+    const PARTS: &[Part] = &[Part(By::Aliases(NORMS), &[], ASKED)];
+    plays(&rt, rt.alloc(), TypingMode::PostAnalysis, GIVEN, PARTS);
+}
+
+/// A clause serves where its condition holds. Where two serve, the goal is in doubt.
+#[test]
+fn a_clause_of_an_alias_has_a_condition(rt: HostRuntime) {
+    const HOLDS: &[Rule] = &[Rule(&[], Of(0, &["byte"]), None)];
+    const ONE: &[Norm] = &[
+        Norm(&[], "byte", "word", Some(Of(0, &["byte"]))),
+        Norm(&[], "byte", "byte", Some(Of(0, &["word"]))),
+    ];
+    const BOTH: &[Norm] = &[
+        Norm(&[], "byte", "word", Some(Of(0, &["byte"]))),
+        Norm(&[], "byte", "byte", Some(Of(0, &["byte"]))),
+    ];
+    const REFUSED: &[Asked] = &[Goal(Alias(Equal("alias", "word")), Refused)];
+    const DOUBTED: &[Asked] = &[
+        Goal(Alias(Equal("alias", "x")), Is(DOUBT, HasChanged::No)),
+        Resolves("x", "x"),
+    ];
+    const FOUND: &[Asked] = &[
+        Goal(Alias(Equal("alias", "byte")), Refused),
+        Goal(Alias(Equal("alias", "x")), Is(YES, HasChanged::Yes)),
+        Resolves("x", "word"),
+    ];
+    const PARTS: &[Part] = &[
+        Part(By::Aliases(ONE), &[], REFUSED),
+        Part(By::Aliases(BOTH), HOLDS, DOUBTED),
+        Part(By::Aliases(ONE), HOLDS, FOUND),
+    ];
+    plays(&rt, rt.alloc(), TypingMode::PostAnalysis, GIVEN, PARTS);
+}
+
+/// What an alias normalizes to may have an alias. That is not normalized further yet, and in doubt.
+#[test]
+fn an_alias_within_a_result_is_in_doubt(rt: HostRuntime) {
+    const NORMS: &[Norm] = &[
+        Norm(&[], "word", "alias", None),
+        Norm(&[], "byte", "word", None),
+    ];
+    const ASKED: &[Asked] = &[
+        Goal(Alias(Projects("word", "word")), Is(DOUBT, HasChanged::No)),
+        Goal(Alias(Projects("word", "byte")), Is(DOUBT, HasChanged::No)),
+        Goal(Alias(Equal("alias", "alias")), Is(DOUBT, HasChanged::No)),
+    ];
+    const PARTS: &[Part] = &[Part(By::Aliases(NORMS), &[], ASKED)];
+    plays(&rt, rt.alloc(), TypingMode::PostAnalysis, GIVEN, PARTS);
+}
+
+/// In coherence goals about aliases are in doubt.
+#[test]
+fn aliases_are_in_doubt_in_coherence(rt: HostRuntime) {
+    const NORMS: &[Norm] = &[Norm(&[], "byte", "word", None)];
+    const ASKED: &[Asked] = &[
+        Goal(Alias(Equal("alias", "word")), Is(DOUBT, HasChanged::No)),
+        Goal(Alias(Equal("alias", "byte")), Is(DOUBT, HasChanged::No)),
+        Goal(Alias(Projects("byte", "x")), Is(DOUBT, HasChanged::No)),
+        Resolves("x", "x"),
+    ];
+    const PARTS: &[Part] = &[Part(By::Aliases(NORMS), &[], ASKED)];
+    plays(&rt, rt.alloc(), TypingMode::Coherence, GIVEN, PARTS);
+}
