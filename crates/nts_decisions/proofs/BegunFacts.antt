@@ -44,7 +44,7 @@ use Rattle.nts_theory.proofs.Refutation.Choosing.{fresh_known, AreOfTable, equat
 use Rattle.nts_theory.proofs.Refutation.Freshening.{knows_leaf}
 use Rattle.nts_theory.proofs.Refutation.Freshening.{freshened_world}
 use Rattle.nts_theory.proofs.Refutation.Trying.{KnowsEquations, equated_world}
-use Rattle.nts_theory.specs.Telling.{IsBegun}
+use Rattle.nts_theory.specs.RelatingCandidates.{IsBegun}
 use Rattle.std.proofs.Common.{ℕ, ◌≡◌, inl, inr, List, [], ◌∷◌, length, refl, sym, ap, subst, ◌∙◌, arith, Some, slice_get, true}
 use Rattle.std.proofs.Common.{◌≡◌, inl, inr, ℕ, zero, suc, List, [], ◌∷◌, map, get_or, length, refl, sym, ap, ◌∙◌, subst}
 use Rattle.std.specs.Prelude.{◌⊎◌}

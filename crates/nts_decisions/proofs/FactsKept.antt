@@ -47,7 +47,7 @@ use Rattle.nts_model.proofs.Tables.Open.{Knows-deeply_resolved}
 use Rattle.nts_model.proofs.Tables.Worlds.{inst-deeply_resolved}
 use Rattle.nts_model.proofs.Tables.Instances.{inst-agrees, Agrees-refl, Agrees-trans}
 use Rattle.nts_model.proofs.Tables.Slots.{Knows-kept, KeepsKinds as KeepsVariables, KeepsKinds-refl, KeepsKinds-trans}
-use Rattle.nts_theory.specs.Telling.{IsBegun}
+use Rattle.nts_theory.specs.RelatingCandidates.{IsBegun}
 use Rattle.nts_theory.proofs.Refutation.Freshening.{freshened_world, freshened_back, filled_agree}
 use Rattle.nts_theory.proofs.Refutation.Trying.{equated_world, equated_back}
 use Rattle.nts_theory.proofs.Refutation.Choosing.{AreOfTable, equations_known, fresh_known, filled_known}

@@ -32,8 +32,10 @@ use Rattle.nts_model.specs.Canonical.Numbered.{position}
 use Rattle.nts_model.specs.Derivations.Sequents.{Premise}
 use Rattle.nts_model.specs.Derivations.Rules.{Mode}
 use Rattle.nts_model.specs.Derivations.Handlers.{Handler}
-use Rattle.nts_theory.specs.Telling.{Queries, Reaches, asks_nothing, then_asks, goals_with}
-use Rattle.nts_theory.specs.Telling.{IsBegun, IsResponseOf, AreTermsOfKinds}
+use Rattle.nts_theory.specs.Telling.{Queries, Reaches, asks_nothing, then_asks}
+use Rattle.nts_theory.specs.RelatingCandidates.{goals_with}
+use Rattle.nts_theory.specs.Telling.{IsResponseOf, AreTermsOfKinds}
+use Rattle.nts_theory.specs.RelatingCandidates.{IsBegun}
 use Rattle.nts_theory.proofs.Refutation.Freshening.{knows_leaf}
 use Rattle.nts_decisions.proofs.DecidingRenamed.{among_back}
 use Rattle.nts_decisions.proofs.FactsKept.{IsApart, IsOfTerms, IsNotConstant, IsGoalTerm, AreGoalTerms, stays_variable}

@@ -22,7 +22,8 @@ use Rattle.nts_model.specs.Refutation.Opening.{binds}
 use Rattle.nts_model.proofs.Terms.Substituting.{replace-replace, replace-equal, replace-leaf, IsFormed-replace, KeepsKinds}
 use Rattle.nts_model.proofs.Terms.Unpositioned.{or_false, false_or, known_no_positions, known_well_bound, pair_no_positions}
 use Rattle.nts_model.proofs.Canonical.Numbering.{HasNoPositions, first_none, filled-replace, AllLeaves}
-use Rattle.nts_theory.specs.Telling.{IsTraitStatement, IsTraitGoal, goals_with}
+use Rattle.nts_theory.specs.Telling.{IsTraitStatement, IsTraitGoal}
+use Rattle.nts_theory.specs.RelatingCandidates.{goals_with}
 use Rattle.nts_theory.proofs.Refutation.Freshening.{knows_leaf}
 use Rattle.nts_decisions.specs.Deciding.{blurred_leaf, blurred_but_static, blurred, blurred_environment, blurred_candidate, IsUniform}
 use Rattle.nts_decisions.specs.Faring.{none_asked, AreDecidedHere, no_world, by_goals, OneFares, no_more, next_fails, next_holds}

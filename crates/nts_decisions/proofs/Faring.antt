@@ -27,7 +27,7 @@ use Rattle.nts_model.specs.Refutation.Forcing.{seen_as, AddsBy, AddsAll}
 use Rattle.nts_model.proofs.Terms.Unpositioned.{filled-none}
 use Rattle.nts_model.proofs.Tables.Solvable.{reading-solves}
 use Rattle.nts_model.proofs.Tables.Kept.{deeply_resolved-no_variables}
-use Rattle.nts_theory.specs.Telling.{goals_with}
+use Rattle.nts_theory.specs.RelatingCandidates.{goals_with}
 use Rattle.nts_decisions.specs.Deciding.{blurred_leaf, blurred, blurred_environment, blurred_premise, blurred_candidate, MeetsBlurred, FixesGoals, IsDecided, OneHolds, none_left, then_fails, then_holds, CandidateIs, is_unmet, is_met, GoalsAre, all_yes, one_yes, one_no, IsGoalDecided}
 use Rattle.nts_theory.proofs.Refutation.Trying.{equated_back}
 use Rattle.nts_theory.proofs.Refutation.Freshening.{freshened_back}

@@ -11,7 +11,7 @@ use Rattle.nts_model.specs.Derivations.Sequents.{Premise}
 use Rattle.nts_model.specs.Derivations.Rules.{Mode}
 use Rattle.nts_model.specs.Derivations.Handlers.{Handler, Candidate}
 use Rattle.nts_model.specs.Refutation.Choosing.{IsCandidateMet}
-use Rattle.nts_theory.specs.Telling.{IsBegun, goals_with}
+use Rattle.nts_theory.specs.RelatingCandidates.{IsBegun, goals_with}
 use Rattle.nts_decisions.specs.Deciding.{IsGoalDecided}
 use Rattle.nts_decisions.specs.Queries.{HasNoVariables}
 

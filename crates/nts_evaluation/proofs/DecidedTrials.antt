@@ -12,7 +12,7 @@ use Rattle.nts_model.specs.Derivations.Handlers.{Handler, Candidate, premise_by}
 use Rattle.nts_model.specs.Refutation.Choosing.{IsCandidateMet}
 use Rattle.nts_model.specs.Refutation.Forcing.{AddsAll}
 use Rattle.nts_model.proofs.Tables.ResolvedTerms.{IsFormed-deeply_resolved}
-use Rattle.nts_theory.specs.Telling.{goals_with}
+use Rattle.nts_theory.specs.RelatingCandidates.{goals_with}
 use Rattle.nts_decisions.specs.Faring.{IsBegunHere, AreDecidedHere, Fares, no_world, by_goals}
 use Rattle.nts_decisions.proofs.Faring.{among_by}
 use Rattle.nts_decisions.proofs.DecidingRenamed.{IsMapped, among_back}

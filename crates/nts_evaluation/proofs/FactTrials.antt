@@ -7,7 +7,8 @@ use Rattle.nts_model.specs.Derivations.Handlers.{Handler, Candidate, IsLawfulHan
 use Rattle.nts_model.specs.Derivations.Rules.{Mode}
 use Rattle.nts_model.specs.Refutation.Choosing.{IsCandidateMet}
 use Rattle.nts_model.specs.Refutation.Opening.{binds}
-use Rattle.nts_theory.specs.Telling.{IsTraitGoal, IsResponseOf, IsBegun, AreTermsOfKinds}
+use Rattle.nts_theory.specs.Telling.{IsTraitGoal, IsResponseOf, AreTermsOfKinds}
+use Rattle.nts_theory.specs.RelatingCandidates.{IsBegun}
 use Rattle.nts_decisions.specs.Faring.{Fares, no_world, by_goals}
 use Rattle.nts_decisions.specs.FirstTables.{IsSettledFact}
 use Rattle.nts_decisions.proofs.FactsSettled.{fact_over, are_places, reached_nothing}

@@ -6,7 +6,8 @@ use Rattle.nts_model.specs.Tables.Contents.{Content}
 use Rattle.nts_model.specs.Derivations.Rules.{Meaning, Mode, statement_of}
 use Rattle.nts_model.specs.Derivations.Handlers.{Handler, Candidate}
 use Rattle.nts_theory.specs.Affirming.{SaysAffirmed, IsDenied, HasOwnWay}
-use Rattle.nts_theory.specs.Telling.{IsResponseOf, IsPlainResponse, IsCutIn, kind_for}
+use Rattle.nts_theory.specs.Telling.{IsResponseOf, IsPlainResponse, kind_for}
+use Rattle.nts_theory.specs.RelatingCandidates.{IsCutIn}
 use Rattle.nts_meaning.specs.Telling.{Ruling, Replies, Fails}
 use Rattle.nts_model.specs.Derivations.Proofs.{Assumed, passed}
 use Rattle.nts_model.specs.Searching.Stacks.{IsDerivedFrom, HoldsCandidateFrom, assumptions}

@@ -39,7 +39,7 @@ use Rattle.nts_response.specs.Forms.{premise_at, response_at}
 use Rattle.nts_response.specs.Applicable.{ShowsConstraints, IsApplicable, IsResponseApplied}
 use Rattle.nts_theory.specs.Telling.{IsInputFor, Verdict}
 use Rattle.nts_meaning.specs.Telling.{Ruling, QueryTells, QueryRefutes, Asked, Refused}
-use Rattle.nts_theory.specs.Telling.{IsCutIn}
+use Rattle.nts_theory.specs.RelatingCandidates.{IsCutIn}
 use Rattle.nts_meaning.specs.Meant.{IsQueryRefuted, IsRefusedIn, EvaluatesGoal}
 use Rattle.nts_meaning.specs.Searching.{IsCut, IsGoalCut, IsHead}
 use Rattle.nts_certainty.specs.declared.sources.PathKind.{PathKind}

@@ -30,7 +30,8 @@ use Rattle.nts_model.specs.Canonical.Inputs.{PositionKind}
 use Rattle.nts_model.specs.Answers.Responses.{answer_sequent}
 use Rattle.nts_candidates.specs.Offered.{source_of, candidate_of, candidates_of}
 use Rattle.nts_meaning.specs.Telling.{Ruling, Tells, Refutes, Outcomes, Replies, Fails, Reaches, RefusesOne, Asked, Refused, QueryTells, QueryRefutes}
-use Rattle.nts_theory.specs.Telling.{IsPlainResponse, goals_with, IsBegun}
+use Rattle.nts_theory.specs.Telling.{IsPlainResponse}
+use Rattle.nts_theory.specs.RelatingCandidates.{goals_with, IsBegun}
 use Rattle.nts_meaning.specs.Evaluation.{goals_at}
 use Rattle.nts_meaning.specs.Running.{StaysProved}
 use Rattle.nts_certainty.specs.declared.certainty.Certainty.{Certainty}

@@ -19,7 +19,8 @@ use Rattle.nts_search.specs.declared.stack.SearchGraph.{SearchGraph}
 use Rattle.nts_search.specs.Searching.{entries_at, IsStack}
 use Rattle.nts_meaning.specs.Answering.{IsQueryInput, IsAnswerTo, verdict_at}
 use Rattle.nts_meaning.specs.Telling.{Ruling, QueryTells, QueryRefutes}
-use Rattle.nts_theory.specs.Telling.{IsCutIn, IsInputFor}
+use Rattle.nts_theory.specs.Telling.{IsInputFor}
+use Rattle.nts_theory.specs.RelatingCandidates.{IsCutIn}
 use Rattle.nts_model.specs.Derivations.Sequents.{inductive}
 use Rattle.nts_candidates.specs.Offered.{path_kind_of}
 use Rattle.nts_model.specs.Tables.Contents.{Content}

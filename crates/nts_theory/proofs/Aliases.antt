@@ -7,10 +7,12 @@ pub mod BuiltIn
 pub mod ByEngine
 pub mod ByOwnWay
 pub mod WithCandidate
+pub mod RelatingCandidate
 pub mod SettledGoals
 pub mod RelatedRows
 pub mod OpenedRules
 pub mod OpenedWith
+pub mod OpenedRelating
 pub mod Renormalized
 pub mod Unfolding
 pub mod Unfolded

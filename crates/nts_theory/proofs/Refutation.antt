@@ -25,6 +25,8 @@ pub mod Subtyping
 pub mod Aliasing
 pub mod ReachedGoals
 pub mod Queried
+pub mod Apart
+pub mod PlainParts
 pub mod Begun
 pub mod Witnesses
 pub mod Refuted

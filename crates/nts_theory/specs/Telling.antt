@@ -34,7 +34,8 @@ use Rattle.nts_model.specs.Derivations.Proving.{HoldsTerms, AreConstraintsOf}
 use Rattle.nts_theory.specs.Affirming.{SaysAffirmed, IsDenied, HasOwnWay}
 use Rattle.nts_theory.specs.Outliving.{IsOutlives}
 use Rattle.nts_theory.specs.Subtyping.{LeavesPremises, IsNoSubtype}
-use Rattle.nts_theory.specs.Aliasing.{NormalizesSide}
+use Rattle.nts_theory.specs.Aliasing.{NormalizesSides}
+use Rattle.nts_theory.specs.RelatingCandidates.{IsCutIn, equated_part, Begins, IsUnrelated, HasTypesApart}
 use Rattle.nts_model.specs.Answers.Responses.{Findings, AreFindings, Response, response_of, IsResponseTo, Applies, RefusesResponse}
 
 -- a response, and whether it is certain
@@ -124,26 +125,9 @@ pub record ChangesNothing (qs : List Tree) (v : Verdict) : Type 0 where
 abbrev pub StandsForAll : List Tree → List Verdict → Verdict → Type 0
 StandsForAll qs vs v = Among vs v × (ChangesNothing qs v ⊎ ((w : Verdict) → Among vs w → w ≡ v))
 
--- a candidate's goals, with the values in place of its positions
-abbrev pub goals_with : List Tree → List Premise → List Premise
-goals_with vs ps = map (premise_by (filled vs)) ps
-
--- the values are new variables under which a candidate's equations and constraints hold
-pub record IsBegun (c : Content) (x : Candidate) (vs : List Tree) (met : Content) : Type 0 where
-  pub made : Content
-  pub equal : Content
-  pub freshens : Freshens c.universe x.fresh vs c made
-  pub equates : EquatesAll vs x.equations made equal
-  pub adds : AddsAll vs x.constraints equal met
-
 -- what kind of goal it is for a handler, for the steps from it
 abbrev pub kind_for : Handler → Tree → GoalKind
 kind_for h g = statement_kind h.is_coinductive (statement_of g)
-
--- in coherence an inductive cycle is in doubt, and elsewhere it has no solution; there alone subtypes are related, and aliases
--- normalized
-abbrev pub IsCutIn : Mode → Type 0
-IsCutIn mode = mode ≡ coherence → ⊥
 
 -- a table in which goals are asked: no variable leads back to itself, and none is of a universe above the current one
 pub record CanAsk (c : Content) : Type 0 where
@@ -167,10 +151,9 @@ IsAliasStatement (node (label.Clause (clause.Projection i)) ts) = Unit {0}
 IsAliasStatement (node (label.Predicate (predicate.NormalizesTo i)) ts) = Unit {0}
 IsAliasStatement t = ⊥
 
--- a goal that says so, in the parts of whose alias, in whose term and in whose environment no alias stands
-pub record IsAliasGoal (e g : Tree) : Type 0 where
-  pub statement : IsAliasStatement (statement_of g)
-  pub no_alias : any_label is_alias (pair e g) ≡ false
+-- a goal that says so, or a trait goal in whose terms or environment an alias stands
+abbrev pub IsAliasGoal : Tree → Tree → Type 0
+IsAliasGoal e g = IsAliasStatement (statement_of g) ⊎ IsTraitStatement (statement_of g) × (any_label is_alias (pair e g) ≡ true)
 
 -- a goal that the handler is asked for, opened if it binds variables: it is known to the table in which it is answered
 pub record IsReady (c : Content) (e g : Tree) : Type 0 where
@@ -225,7 +208,7 @@ mutual
   -- of a goal that the handler affirms, yes, where the table is as before; or, of one that has one way by the engine, the verdict of that;
   -- or, outside of coherence, of a goal that one type is a subtype of another, what the two, once related, and the goals that this
   -- left came to; of one about an alias the verdict that stands for those of the candidates; and of one that an alias is equal to a
-  -- term, what the goal came to that the alias normalizes to that term
+  -- term, what the goals came to by which the two are one
   pub data Tells (Q : Queries) (h : Handler) (mode : Mode) : List PositionKind → Content → Tree → Tree → List Tree → Verdict → Type 0 where
     tells_nothing : {ks : List PositionKind} {c : Content} {e g : Tree} {qs : List Tree} {v : Verdict} (d : Content) → (d ≡ c) ⊎ (d ≡ entered_table c g) → v.is_yes ≡ false → IsPlainResponse d qs v.response → Tells Q h mode ks c e g qs v
     says_nothing : {ks : List PositionKind} {c : Content} {e g : Tree} {qs : List Tree} {v : Verdict} → SaysNothing ks v.response → Tells Q h mode ks c e g qs v
@@ -240,38 +223,41 @@ mutual
         → Reaches Q h mode ps met found → IsFound (entered_table c g) e (opened_in c g) found → SaysOf (entered_table c g) found qs v → Tells Q h mode ks c e g qs v
     tells_alias : {ks : List PositionKind} {c : Content} {e g : Tree} {qs : List Tree} {v : Verdict} (vs : List Verdict) → IsCutIn mode → IsAliasReady c e g → Outcomes Q h mode (entered_table c g) e (opened_in c g) qs (h.offers mode e (opened_in c g)) vs → StandsForAll qs vs v
         → Tells Q h mode ks c e g qs v
-    tells_normal : {ks : List PositionKind} {c : Content} {e g : Tree} {qs : List Tree} {v : Verdict} (p : Premise) (found : Content) → IsCutIn mode → NormalizesSide e (opened_in c g) p → Reaches Q h mode (p ∷ []) (entered_table c g) found
+    tells_normal : {ks : List PositionKind} {c : Content} {e g : Tree} {qs : List Tree} {v : Verdict} (ps : List Premise) (met found : Content) → IsCutIn mode → NormalizesSides (entered_table c g) met e (opened_in c g) ps → Reaches Q h mode ps met found
         → IsFound (entered_table c g) e (opened_in c g) found → SaysOf (entered_table c g) found qs v → Tells Q h mode ks c e g qs v
 
   -- each candidate fails, or the one way by the engine, or the handler denies the goal; or the one type is no subtype of the other, or
-  -- one of the goals that relating them left is refused; or each candidate for a goal about an alias fails; or the goal is refused that
-  -- an alias normalizes to what it is to be equal to
+  -- one of the goals that relating them left is refused; or each candidate for a goal about an alias fails; or a goal is refused by
+  -- which an alias and a term are one
   pub data Refutes (Q : Queries) (h : Handler) (mode : Mode) : Content → Tree → Tree → List Tree → Type 0 where
     all_fail : {c : Content} {e g : Tree} {qs : List Tree} → IsReady c e g → Outcomes Q h mode (entered_table c g) e (opened_in c g) qs (h.offers mode e (opened_in c g)) [] → Refutes Q h mode c e g qs
     is_denied : {c : Content} {e g : Tree} {qs : List Tree} → IsDenied h.judges (statement_of (opened_in c g)) → Refutes Q h mode c e g qs
-    own_fails : {c : Content} {e g : Tree} {qs : List Tree} (x : Candidate) → IsOwnWayIn h c e g x → Fails Q h mode (kind_for h (opened_in c g)) (entered_table c g) x → Refutes Q h mode c e g qs
+    own_fails : {c : Content} {e g : Tree} {qs : List Tree} (x : Candidate) → IsOwnWayIn h c e g x → Fails Q h mode (kind_for h (opened_in c g)) (entered_table c g) e x → Refutes Q h mode c e g qs
     is_no_subtype : {c : Content} {e g : Tree} {qs : List Tree} → IsCutIn mode → IsNoSubtype Q.variances (entered_table c g) (opened_in c g) → Refutes Q h mode c e g qs
     subtype_refused : {c : Content} {e g : Tree} {qs : List Tree} (ps : List Premise) (met : Content) → IsCutIn mode → LeavesPremises Q.variances (entered_table c g) met e (opened_in c g) ps → RefusesOne Q h mode other_goal ps met → Refutes Q h mode c e g qs
     aliases_fail : {c : Content} {e g : Tree} {qs : List Tree} → IsCutIn mode → IsAliasReady c e g → Outcomes Q h mode (entered_table c g) e (opened_in c g) qs (h.offers mode e (opened_in c g)) [] → Refutes Q h mode c e g qs
-    normal_refused : {c : Content} {e g : Tree} {qs : List Tree} (p : Premise) → IsCutIn mode → NormalizesSide e (opened_in c g) p → RefusesOne Q h mode other_goal (p ∷ []) (entered_table c g) → Refutes Q h mode c e g qs
+    normal_refused : {c : Content} {e g : Tree} {qs : List Tree} (ps : List Premise) (met : Content) → IsCutIn mode → NormalizesSides (entered_table c g) met e (opened_in c g) ps → RefusesOne Q h mode other_goal ps met → Refutes Q h mode c e g qs
 
   -- candidate by candidate, it fails or has a verdict
   pub data Outcomes (Q : Queries) (h : Handler) (mode : Mode) : Content → Tree → Tree → List Tree → List Candidate → List Verdict → Type 0 where
     no_outcome : {c : Content} {e g : Tree} {qs : List Tree} → Outcomes Q h mode c e g qs [] []
-    then_fails : {c : Content} {e g : Tree} {qs : List Tree} {xs : List Candidate} {vs : List Verdict} {x : Candidate} → Outcomes Q h mode c e g qs xs vs → Fails Q h mode (kind_for h g) c x → Outcomes Q h mode c e g qs (xs ++ x ∷ []) vs
+    then_fails : {c : Content} {e g : Tree} {qs : List Tree} {xs : List Candidate} {vs : List Verdict} {x : Candidate} → Outcomes Q h mode c e g qs xs vs → Fails Q h mode (kind_for h g) c e x → Outcomes Q h mode c e g qs (xs ++ x ∷ []) vs
     then_replies : {c : Content} {e g : Tree} {qs : List Tree} {xs : List Candidate} {vs : List Verdict} {x : Candidate} {v : Verdict} → Outcomes Q h mode c e g qs xs vs → Replies Q h mode c e g qs x v → Outcomes Q h mode c e g qs (xs ++ x ∷ []) (vs ++ v ∷ [])
 
-  -- the reply of a candidate: its equations and constraints hold, some of its goals were asked, and the table says what it found
+  -- the reply of a candidate: it is begun, some of what is left of it was asked, and the table says what it found
   pub data Replies (Q : Queries) (h : Handler) (mode : Mode) : Content → Tree → Tree → List Tree → Candidate → Verdict → Type 0 where
-    replies : {c : Content} {e g : Tree} {qs : List Tree} {x : Candidate} {v : Verdict} (values : List Tree) (met found : Content) → IsBegun c x values met → Reaches Q h mode (goals_with values x.goals) met found → IsFound c e g found → SaysOf c found qs v
+    replies : {c : Content} {e g : Tree} {qs : List Tree} {x : Candidate} {v : Verdict} (ps : List Premise) (met found : Content) → Begins Q.variances mode c e x met ps → Reaches Q h mode ps met found → IsFound c e g found → SaysOf c found qs v
         → Replies Q h mode c e g qs x v
 
-  -- a candidate for a goal of that kind fails: no world of the table meets its equations, or a goal is refused; or the handler's
-  -- leak check says of what was found that nothing which the root names meets its region constraints
-  pub data Fails (Q : Queries) (h : Handler) (mode : Mode) : GoalKind → Content → Candidate → Type 0 where
-    is_unmet : {k : GoalKind} {c : Content} {x : Candidate} → (IsCandidateMet c x → ⊥) → Fails Q h mode k c x
-    is_refused : {k : GoalKind} {c : Content} {x : Candidate} (values : List Tree) (met : Content) → IsBegun c x values met → RefusesOne Q h mode k (goals_with values x.goals) met → Fails Q h mode k c x
-    is_leaky : {k : GoalKind} {c : Content} {x : Candidate} (values : List Tree) (met found : Content) → IsBegun c x values met → Reaches Q h mode (goals_with values x.goals) met found → h.leaks found 0 → Fails Q h mode k c x
+  -- a candidate for a goal of that kind, in that environment, fails: no world of the table meets what is made equal of it at once; or it
+  -- equates types that are apart; or, outside of coherence, no settled solution relates its equations with aliases; or a goal is refused;
+  -- or the handler's leak check says of what was found that nothing which the root names meets its region constraints
+  pub data Fails (Q : Queries) (h : Handler) (mode : Mode) : GoalKind → Content → Tree → Candidate → Type 0 where
+    is_unmet : {k : GoalKind} {c : Content} {e : Tree} {x : Candidate} → (IsCandidateMet c (equated_part mode x) → ⊥) → Fails Q h mode k c e x
+    has_types_apart : {k : GoalKind} {c : Content} {e : Tree} {x : Candidate} → HasTypesApart x → Fails Q h mode k c e x
+    is_unrelated : {k : GoalKind} {c : Content} {e : Tree} {x : Candidate} → IsCutIn mode → IsUnrelated Q.variances c x → Fails Q h mode k c e x
+    is_refused : {k : GoalKind} {c : Content} {e : Tree} {x : Candidate} (ps : List Premise) (met : Content) → Begins Q.variances mode c e x met ps → RefusesOne Q h mode k ps met → Fails Q h mode k c e x
+    is_leaky : {k : GoalKind} {c : Content} {e : Tree} {x : Candidate} (ps : List Premise) (met found : Content) → Begins Q.variances mode c e x met ps → Reaches Q h mode ps met found → h.leaks found 0 → Fails Q h mode k c e x
 
   -- some of the goals were asked, in any order and more than once
   pub data Reaches (Q : Queries) (h : Handler) (mode : Mode) : List Premise → Content → Content → Type 0 where

@@ -24,7 +24,7 @@ use Rattle.nts_candidates.specs.Offered.{premise_of, source_of}
 use Rattle.nts_response.specs.Forms.{premise_at}
 use Rattle.nts_meaning.specs.Evaluation.{IsPosed, AreValues, asked_terms, AsksOnly, goals_at}
 use Rattle.nts_trying.specs.Instances.{IsGoalInstance}
-use Rattle.nts_theory.specs.Telling.{goals_with}
+use Rattle.nts_theory.specs.RelatingCandidates.{goals_with}
 use Rattle.nts_trying.specs.Stepping.{ArePosed, terms_of}
 use Rattle.nts_trying.specs.Adding.{AreAdded}
 use Rattle.nts_meaning.proofs.Evaluating.{Goes-extends, IsPosed-later, nested_at}

@@ -34,7 +34,8 @@ use Rattle.nts_delegate.specs.Candidates.{AreNested}
 use Rattle.nts_candidates.specs.Offered.{constraint_of, premise_of, candidate_of}
 use Rattle.nts_response.specs.Forms.{premise_at}
 use Rattle.nts_trying.specs.Choices.{EquatesCandidate}
-use Rattle.nts_theory.specs.Telling.{IsBegun, goals_with, kind_for}
+use Rattle.nts_theory.specs.Telling.{kind_for}
+use Rattle.nts_theory.specs.RelatingCandidates.{IsBegun, goals_with}
 use Rattle.nts_theory.specs.Telling.Fails.{is_refused}
 use Rattle.nts_trying.specs.Stepping.{ArePosed, AreSettled, terms_of}
 use Rattle.nts_trying.specs.Adding.{AreAdded}

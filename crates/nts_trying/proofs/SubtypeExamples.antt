@@ -18,7 +18,8 @@ use Rattle.nts_model.specs.Derivations.Related.{Constraint, alias, Related, one_
 use Rattle.nts_model.specs.Derivations.Rules.{Meaning, Mode, coherence}
 use Rattle.nts_model.specs.Derivations.Proofs.{Assumed}
 use Rattle.nts_theory.specs.Subtyping.{IsNoSubtype}
-use Rattle.nts_theory.specs.Telling.{Verdict, IsCutIn, IsPlainResponse}
+use Rattle.nts_theory.specs.Telling.{Verdict, IsPlainResponse}
+use Rattle.nts_theory.specs.RelatingCandidates.{IsCutIn}
 use Rattle.nts_certainty.specs.Certainties.{ambiguous}
 use Rattle.nts_certainty.specs.declared.certainty.Certainty.TheVariants as certainty
 use Rattle.nts_canonical.specs.declared.types.Canonical.{Canonical}

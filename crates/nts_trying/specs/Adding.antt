@@ -12,7 +12,7 @@ use Rattle.nts_table.specs.Tables.{Table}
 use Rattle.nts_candidates.specs.declared.data.CandidateGoal.{CandidateGoal}
 use Rattle.nts_candidates.specs.Offered.{premise_of}
 use Rattle.nts_meaning.specs.Evaluation.{asked_terms, goals_at}
-use Rattle.nts_theory.specs.Telling.{goals_with}
+use Rattle.nts_theory.specs.RelatingCandidates.{goals_with}
 use Rattle.nts_trying.specs.Stepping.{ArePosed, terms_of}
 
 -- these are the goals of a candidate for the goal g, with the values in place of its positions, in the store b that has grown

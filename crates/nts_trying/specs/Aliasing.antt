@@ -11,7 +11,8 @@ use Rattle.nts_model.specs.Derivations.Proofs.{Assumed}
 use Rattle.nts_model.specs.Derivations.Sequents.{Premise}
 use Rattle.nts_model.specs.Searching.Stacks.{IsProvedFrom}
 use Rattle.nts_theory.specs.Aliasing.{EquatesAlias, NormalizesSide}
-use Rattle.nts_theory.specs.Telling.{IsAliasStatement, Verdict, IsCutIn, IsFound, SaysOf, StandsForAll, IsPlainResponse}
+use Rattle.nts_theory.specs.Telling.{IsAliasStatement, Verdict, IsFound, SaysOf, StandsForAll, IsPlainResponse}
+use Rattle.nts_theory.specs.RelatingCandidates.{IsCutIn}
 use Rattle.nts_store.specs.Growth.{tree_at}
 use Rattle.nts_certainty.specs.declared.sources.GoalSource.{GoalSource}
 use Rattle.nts_certainty.specs.declared.sources.GoalSource.TheVariants as source

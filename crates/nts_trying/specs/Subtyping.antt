@@ -15,7 +15,8 @@ use Rattle.nts_model.specs.Derivations.Sequents.{Premise}
 use Rattle.nts_model.specs.Searching.Stacks.{IsProvedFrom}
 use Rattle.nts_variance_model.specs.Variances.AnsweredGoals.{RelatedUnder}
 use Rattle.nts_theory.specs.Subtyping.{IsSubtyping, LeavesPremises, IsNoSubtype}
-use Rattle.nts_theory.specs.Telling.{Verdict, IsCutIn, IsFound, SaysOf, IsPlainResponse}
+use Rattle.nts_theory.specs.Telling.{Verdict, IsFound, SaysOf, IsPlainResponse}
+use Rattle.nts_theory.specs.RelatingCandidates.{IsCutIn}
 use Rattle.nts_store.specs.Growth.{tree_at}
 use Rattle.nts_certainty.specs.Certainties.{ambiguous}
 use Rattle.nts_certainty.specs.declared.sources.GoalSource.{GoalSource}

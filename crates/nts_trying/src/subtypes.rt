@@ -11,7 +11,7 @@ ghost use Rattle.nts_terms.specs.Signatures.{variances_in};
 ghost use Rattle.nts_unify.specs.Reading.{content_of};
 ghost use Rattle.nts_table.specs.Tables.{IsTable};
 ghost use Rattle.nts_theory.specs.Subtyping.{SaysSubtype, IsNoSubtype};
-ghost use Rattle.nts_theory.specs.Telling.{IsCutIn};
+ghost use Rattle.nts_theory.specs.RelatingCandidates.{IsCutIn};
 ghost use Rattle.nts_meaning.specs.Evaluation.{Runs, IsPosed};
 ghost use Rattle.nts_trying.specs.Subtyping.{AreTypesIn, SaysTypes, IsSubtypeGoal, IsTypeVariable, AreTypeVariables, with_source, RelatesTypes, JoinsTypes, AreLeftOfTypes};
 

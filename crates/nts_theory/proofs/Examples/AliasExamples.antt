@@ -13,7 +13,8 @@ use Rattle.nts_model.specs.Derivations.Rules.{Mode, coherence, relating, normali
 use Rattle.nts_model.specs.Derivations.Handlers.{Handler}
 use Rattle.nts_model.specs.Refutation.Opening.{opened_in}
 use Rattle.nts_theory.specs.Aliasing.{EquatesAlias, NormalizesSide}
-use Rattle.nts_theory.specs.Telling.{Queries, IsCutIn, IsTraitStatement, IsAliasStatement, IsAliasReady, Refutes, all_fail, is_denied, own_fails, is_no_subtype, subtype_refused, aliases_fail, normal_refused, no_outcome}
+use Rattle.nts_theory.specs.Telling.{Queries, IsTraitStatement, IsAliasStatement, IsAliasReady, Refutes, all_fail, is_denied, own_fails, is_no_subtype, subtype_refused, aliases_fail, normal_refused, no_outcome}
+use Rattle.nts_theory.specs.RelatingCandidates.{IsCutIn}
 use Rattle.nts_theory.proofs.Refutation.Affirming.{denied_no_handlers, way_no_handlers}
 use Rattle.nts_theory.proofs.Refutation.Aliasing.{equated_no_handlers}
 
@@ -49,7 +50,7 @@ alias_is_not_refuted_in_coherence Q h c e g qs a (own_fails x own fails) =
 alias_is_not_refuted_in_coherence Q h c e g qs a (is_no_subtype outside n) = outside refl
 alias_is_not_refuted_in_coherence Q h c e g qs a (subtype_refused ps there outside l refused) = outside refl
 alias_is_not_refuted_in_coherence Q h c e g qs a (aliases_fail outside ready all) = outside refl
-alias_is_not_refuted_in_coherence Q h c e g qs a (normal_refused p outside left refused) = outside refl
+alias_is_not_refuted_in_coherence Q h c e g qs a (normal_refused ps met outside left refused) = outside refl
 
 -- a goal says that Item and List are equal: what is left is that Item normalizes to List. Of two aliases no goal says so, and no
 -- trait's goal does

@@ -24,8 +24,11 @@ use Rattle.nts_model.specs.Terms.Substitutions.{leaf_tree}
 use Rattle.nts_theory.proofs.Refutation.Agreeing.{nothing_is_identity}
 use Rattle.nts_theory.proofs.Refutation.Affirming.{denied_no_handlers, way_no_handlers}
 use Rattle.nts_theory.proofs.Refutation.Subtyping.{subtyping_no_handlers}
-use Rattle.nts_theory.proofs.Refutation.Aliasing.{equated_no_handlers}
-use Rattle.nts_theory.specs.Telling.{Verdict, Queries, IsReady, SaysNothing, ChangesNothing, StandsForAll, goals_with, Refutes, all_fail, is_denied, own_fails, is_no_subtype, subtype_refused, aliases_fail, normal_refused, kind_for, Outcomes, no_outcome, then_fails, then_replies, Fails, is_unmet, is_refused, is_leaky, RefusesOne, refuses_one, cuts_one}
+use Rattle.nts_theory.proofs.Refutation.Aliasing.{sides_no_handlers}
+use Rattle.nts_theory.specs.Telling.{Verdict, Queries, IsReady, SaysNothing, ChangesNothing, StandsForAll, Refutes, all_fail, is_denied, own_fails, is_no_subtype, subtype_refused, aliases_fail, normal_refused, kind_for, Outcomes, no_outcome, then_fails, then_replies, Fails, is_unmet, has_types_apart, is_unrelated, is_refused, is_leaky, RefusesOne, refuses_one, cuts_one}
+use Rattle.nts_theory.specs.RelatingCandidates.{goals_with, HasPlainEquations}
+use Rattle.nts_theory.proofs.Refutation.Apart.{apart_unmet}
+use Rattle.nts_theory.proofs.Refutation.PlainParts.{part_met}
 
 -- the answer without constraints says nothing, in each universe
 unconstrained_says_nothing : (ks : List PositionKind) → SaysNothing ks (unconstrained ks)
@@ -48,16 +51,19 @@ both_one = record { findings = record { values = position sort.Ty 0 ∷ position
 two_made_one_say_something : SaysNothing two_variables both_one → ⊥
 two_made_one_say_something e = (let many : 1 ≡ 2 = ap (λ (r : Response). length r.kinds) e in omega (arith, many))
 
--- a candidate without constraints and goals that is met does not fail, where the handler reports no leak
+-- a candidate without constraints, goals and aliases that is met does not fail, where the handler reports no leak
 pub no_refusal : (Q : Queries) (h : Handler) (mode : Mode) (c : Content) (k : GoalKind) (vs : List Tree) (gs : List Premise) → gs ≡ [] → RefusesOne Q h mode k (goals_with vs gs) c → ⊥
 no_refusal Q h mode c k vs [] e (refuses_one d p r i n q) = i
 no_refusal Q h mode c k vs [] e (cuts_one d p r i s n) = i
 no_refusal Q h mode c k vs (g ∷ gs) e r = cc e
 
-pub fact_never_fails : (Q : Queries) (h : Handler) (mode : Mode) (c : Content) (x : Candidate) → HasNoLeaks h → IsCandidateMet c x → x.constraints ≡ [] → x.goals ≡ [] → (k : GoalKind) → Fails Q h mode k c x → ⊥
-fact_never_fails Q h mode c x tight met constraints goals k (is_unmet n) = n met
-fact_never_fails Q h mode c x tight met constraints goals k (is_refused values there begun refused) = no_refusal Q h mode there k values x.goals goals refused
-fact_never_fails Q h mode c x tight met constraints goals k (is_leaky values there found begun reach leaks) = tight found 0 leaks
+pub fact_never_fails : (Q : Queries) (h : Handler) (mode : Mode) (c : Content) (e : Tree) (x : Candidate) → HasNoLeaks h → IsCandidateMet c x → x.constraints ≡ [] → x.goals ≡ [] → HasPlainEquations x → (k : GoalKind) → Fails Q h mode k c e x → ⊥
+fact_never_fails Q h mode c e x tight met constraints goals plain k (is_unmet n) = n (part_met mode c x met)
+fact_never_fails Q h mode c e x tight met constraints goals plain k (has_types_apart y) = apart_unmet c x y met
+fact_never_fails Q h mode c e x tight met constraints goals plain k (is_unrelated outside n) = n.some plain
+fact_never_fails Q h mode c e x tight met constraints goals plain k (is_refused ps there (inl (vs, in_one, begun, same)) refused) = no_refusal Q h mode there k vs x.goals goals (subst (λ z. RefusesOne Q h mode k z there) same refused)
+fact_never_fails Q h mode c e x tight met constraints goals plain k (is_refused ps there (inr (outside, begun)) refused) = begun.some plain
+fact_never_fails Q h mode c e x tight met constraints goals plain k (is_leaky ps there found begun reach leaks) = tight found 0 leaks
 
 -- where no verdict is left, each candidate failed
 among_ends : {A : Type 0} (xs : List A) (x y : A) → Among (xs ++ x ∷ []) y → Among xs y ⊎ (y ≡ x)
@@ -70,21 +76,21 @@ not_empty : {A : Type 0} (xs : List A) (x : A) → xs ++ x ∷ [] ≡ [] → ⊥
 not_empty [] x e = cc e
 not_empty (y ∷ xs) x e = cc e
 
-all_failed : {Q : Queries} {h : Handler} {mode : Mode} {c : Content} {e g : Tree} {qs : List Tree} {xs : List Candidate} {vs : List Verdict} → Outcomes Q h mode c e g qs xs vs → vs ≡ [] → (x : Candidate) → Among xs x → Fails Q h mode (kind_for h g) c x
+all_failed : {Q : Queries} {h : Handler} {mode : Mode} {c : Content} {e g : Tree} {qs : List Tree} {xs : List Candidate} {vs : List Verdict} → Outcomes Q h mode c e g qs xs vs → vs ≡ [] → (x : Candidate) → Among xs x → Fails Q h mode (kind_for h g) c e x
 all_failed no_outcome none x i = absurd i
-all_failed {Q} {h} {mode} {c} {e} {g} (then_fails {xs = xs} {x = y} before fails) none x i = elim (among_ends xs y x i) [ inl j ↦ all_failed before none x j | inr q ↦ subst (Fails Q h mode (kind_for h g) c) (sym q) fails ]
+all_failed {Q} {h} {mode} {c} {e} {g} (then_fails {xs = xs} {x = y} before fails) none x i = elim (among_ends xs y x i) [ inl j ↦ all_failed before none x j | inr q ↦ subst (Fails Q h mode (kind_for h g) c e) (sym q) fails ]
 all_failed (then_replies {vs = vs} {v = v} before reply) none x i = absurd (not_empty vs v none)
 
--- so a query does not refute a goal for which a candidate without constraints and goals is met: a handler that offers a fact
-pub fact_is_not_refuted : (Q : Queries) (h : Handler) (mode : Mode) (c : Content) (e g : Tree) (qs : List Tree) (x : Candidate) → HasNoLeaks h → Among (h.offers mode e (opened_in c g)) x → IsCandidateMet (entered_table c g) x → x.constraints ≡ [] → x.goals ≡ []
+-- so a query does not refute a goal for which a candidate without constraints, goals and aliases is met: a handler that offers a fact
+pub fact_is_not_refuted : (Q : Queries) (h : Handler) (mode : Mode) (c : Content) (e g : Tree) (qs : List Tree) (x : Candidate) → HasNoLeaks h → Among (h.offers mode e (opened_in c g)) x → IsCandidateMet (entered_table c g) x → x.constraints ≡ [] → x.goals ≡ [] → HasPlainEquations x
     → IsHandlers (statement_of (opened_in c g)) → Refutes Q h mode c e g qs → ⊥
-fact_is_not_refuted Q h mode c e g qs x tight offered met constraints goals is (is_denied d) = denied_no_handlers h.judges (statement_of (opened_in c g)) d is
-fact_is_not_refuted Q h mode c e g qs x tight offered met constraints goals is (own_fails y own fails) = (let z = own.way in way_no_handlers h.judges e z.statement y z.way (subst (λ v. IsHandlers (statement_of v)) z.binds_nothing is))
-fact_is_not_refuted Q h mode c e g qs x tight offered met constraints goals is (is_no_subtype outside n) = subtyping_no_handlers (opened_in c g) n.left n.right n.is is
-fact_is_not_refuted Q h mode c e g qs x tight offered met constraints goals is (subtype_refused ps there outside l refused) = subtyping_no_handlers (opened_in c g) l.left l.right l.is is
-fact_is_not_refuted Q h mode c e g qs x tight offered met constraints goals is (all_fail ready all) = fact_never_fails Q h mode (entered_table c g) x tight met constraints goals (kind_for h (opened_in c g)) (all_failed all refl x offered)
-fact_is_not_refuted Q h mode c e g qs x tight offered met constraints goals is (aliases_fail outside ready all) = fact_never_fails Q h mode (entered_table c g) x tight met constraints goals (kind_for h (opened_in c g)) (all_failed all refl x offered)
-fact_is_not_refuted Q h mode c e g qs x tight offered met constraints goals is (normal_refused p outside left refused) = equated_no_handlers (opened_in c g) left.left left.right left.is is
+fact_is_not_refuted Q h mode c e g qs x tight offered met constraints goals plain is (is_denied d) = denied_no_handlers h.judges (statement_of (opened_in c g)) d is
+fact_is_not_refuted Q h mode c e g qs x tight offered met constraints goals plain is (own_fails y own fails) = (let z = own.way in way_no_handlers h.judges e z.statement y z.way (subst (λ v. IsHandlers (statement_of v)) z.binds_nothing is))
+fact_is_not_refuted Q h mode c e g qs x tight offered met constraints goals plain is (is_no_subtype outside n) = subtyping_no_handlers (opened_in c g) n.left n.right n.is is
+fact_is_not_refuted Q h mode c e g qs x tight offered met constraints goals plain is (subtype_refused ps there outside l refused) = subtyping_no_handlers (opened_in c g) l.left l.right l.is is
+fact_is_not_refuted Q h mode c e g qs x tight offered met constraints goals plain is (all_fail ready all) = fact_never_fails Q h mode (entered_table c g) e x tight met constraints goals plain (kind_for h (opened_in c g)) (all_failed all refl x offered)
+fact_is_not_refuted Q h mode c e g qs x tight offered met constraints goals plain is (aliases_fail outside ready all) = fact_never_fails Q h mode (entered_table c g) e x tight met constraints goals plain (kind_for h (opened_in c g)) (all_failed all refl x offered)
+fact_is_not_refuted Q h mode c e g qs x tight offered met constraints goals plain is (normal_refused ps there outside left refused) = sides_no_handlers (entered_table c g) there e (opened_in c g) ps left is
 
 -- and it refutes one for which nothing is offered
 pub no_candidate_is_refuted : (Q : Queries) (h : Handler) (mode : Mode) (c : Content) (e g : Tree) (qs : List Tree) → IsReady c e g → h.offers mode e (opened_in c g) ≡ [] → Refutes Q h mode c e g qs

@@ -11,6 +11,8 @@ use Rattle.nts_model.specs.Tables.Worlds.{World, inst}
 use Rattle.nts_model.specs.Derivations.Related.{pair}
 use Rattle.nts_model.specs.Lists.{Among}
 use Rattle.nts_model.specs.Derivations.Sequents.{Premise}
+use Rattle.nts_model.specs.Derivations.Rules.{coherence}
+use Rattle.nts_model.specs.declared.labels.Variance.{Variance}
 use Rattle.nts_model.specs.Terms.Substitutions.{leaf_tree, Occurs, IsConstant, filled}
 use Rattle.nts_model.specs.Derivations.Handlers.{Handler, Candidate, premise_by}
 use Rattle.nts_model.specs.Canonical.Inputs.{Input, originals, OccursIn}
@@ -26,7 +28,8 @@ use Rattle.nts_theory.proofs.Refutation.Answered.{IsAskedFrom, AreTermsOf, still
 use Rattle.nts_theory.proofs.Refutation.Trying.{Reaches as ReachesWorld, reaches_trans, equated_reaches}
 use Rattle.nts_theory.proofs.Refutation.Carriers.{moved, moved_carrying, back_to, back_carrying, carrier}
 use Rattle.nts_theory.proofs.Refutation.Opening.{IsBegunAt, CanBegin, AreTrueIn, added_all}
-use Rattle.nts_theory.specs.Telling.{IsInputFor, IsBegun, goals_with, CanAsk}
+use Rattle.nts_theory.specs.Telling.{IsInputFor, CanAsk}
+use Rattle.nts_theory.specs.RelatingCandidates.{IsBegun, Begins, goals_with}
 use Rattle.nts_theory.proofs.Refutation.Queried.{Leads, Reached}
 
 -- the caller and its query
@@ -121,6 +124,11 @@ module _ (truth : Truth) (Proves : Tree → Tree → Type 0) where
           predicates = λ q i. (let g = premise_among xs x.goals q i in subst (λ z. Knows met z.predicate) (sym g.2) (Knows-kept b.made met (filled xs g.0.predicate) later.keeps (one.known.predicates g.0 g.1)));
         };
       }
+
+  -- .. in coherence no equations are related
+  pub begun_with : (declared : ℕ → List Variance) (c met : Content) (w : World) (e : Tree) (x : Candidate) (ps : List Premise) → Begins declared coherence c e x met ps → CanBegin truth Proves c w x → BegunAt truth Proves c met w ps
+  begun_with declared c met w e x ps (inl (xs, in_one, b, same)) k = subst (BegunAt truth Proves c met w) (sym same) (begun_at c met w xs x b k)
+  begun_with declared c met w e x ps (inr (outside, b)) k = absurd (outside refl)
 
   -- one more goal is asked; all of them stay
   pub asks_more : (c d e : Content) (gs : List Premise) (p : Premise) → Among gs p → AreTermsOf c gs → CanAsk d → Reached truth Proves c d gs → Leads truth Proves d e (deeply_resolved d p.environment) (deeply_resolved d p.predicate) → Reached truth Proves c e gs

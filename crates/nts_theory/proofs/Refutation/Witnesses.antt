@@ -30,9 +30,10 @@ use Rattle.nts_theory.proofs.Refutation.Recording.{recorded_true}
 use Rattle.nts_theory.proofs.Refutation.Readying.{some_begins}
 use Rattle.nts_theory.proofs.Refutation.Affirming.{denied_inst, denied_before}
 use Rattle.nts_theory.proofs.Refutation.Stating.{own_begins}
-use Rattle.nts_theory.specs.Telling.{Verdict, Queries, AreTermsOfKinds, StandsForAll, SaysOf, IsFound, without_constraints, IsPlainResponse, goals_with, Tells, tells_nothing, says_nothing, tells_one, tells_outlives, tells_affirmed, tells_own, tells_subtype, tells_alias, tells_normal, Refutes, all_fail, is_denied, own_fails, is_no_subtype, subtype_refused, aliases_fail, normal_refused, Outcomes, no_outcome, then_fails, then_replies, Replies, replies, Fails, is_unmet, is_refused, is_leaky, Reaches, asks_nothing, then_asks, RefusesOne, refuses_one, cuts_one, Asked, asked_by, Refused, by_query, by_response}
+use Rattle.nts_theory.specs.Telling.{Verdict, Queries, AreTermsOfKinds, StandsForAll, SaysOf, IsFound, without_constraints, IsPlainResponse, Tells, tells_nothing, says_nothing, tells_one, tells_outlives, tells_affirmed, tells_own, tells_subtype, tells_alias, tells_normal, Refutes, all_fail, is_denied, own_fails, is_no_subtype, subtype_refused, aliases_fail, normal_refused, Outcomes, no_outcome, then_fails, then_replies, Replies, replies, Fails, is_unmet, has_types_apart, is_unrelated, is_refused, is_leaky, Reaches, asks_nothing, then_asks, RefusesOne, refuses_one, cuts_one, Asked, asked_by, Refused, by_query, by_response}
 use Rattle.nts_theory.proofs.Refutation.Queried.{BeginsEach, Leads, Reached, IsSolved, IsQuery, first_query, IsTried, tried, tried_knows, found_table, solution_without, entered_solution, says_contains, says_long}
-use Rattle.nts_theory.proofs.Refutation.Begun.{asked_from, BegunAt, begun_at, asks_more, goal_known, goal_there}
+use Rattle.nts_theory.proofs.Refutation.Apart.{apart_unmet}
+use Rattle.nts_theory.proofs.Refutation.Begun.{asked_from, BegunAt, begun_with, asks_more, goal_known, goal_there}
 use Rattle.nts_theory.proofs.Refutation.QueryLabels.{entered_query, query_without}
 
 -- each verdict of candidates has as many values as there are positions
@@ -44,7 +45,7 @@ reply_long c found qs v (inr (y, inr r)) = says_long (without_constraints c) qs 
 pub outcome_long : {Q : Queries} {h : Handler} {mode : Mode} {c : Content} {e g : Tree} {qs : List Tree} {xs : List Candidate} {vs : List Verdict} → Outcomes Q h mode c e g qs xs vs → (v : Verdict) → Among vs v → (let r = v.response in let x = r.findings in length x.values ≡ length qs)
 outcome_long no_outcome v i = absurd i
 outcome_long (then_fails before fails) v i = outcome_long before v i
-outcome_long {c = c} {qs = qs} (then_replies {vs = vs} {v = u} before (replies values met found begun reach is says)) v i =
+outcome_long {c = c} {qs = qs} (then_replies {vs = vs} {v = u} before (replies ps met found begun reach is says)) v i =
     elim (among_split vs (u ∷ []) v i) [
       | inl j ↦ outcome_long before v j
       | inr j ↦ (elim j [ inl e ↦ subst (λ (z : Verdict). (let r = z.response in let x = r.findings in length x.values ≡ length qs)) (sym e) (reply_long c found qs u says) | inr k ↦ absurd k ])
@@ -113,7 +114,7 @@ module _ (Q : Queries) (begins : BeginsEach Q) (h : Handler) (truth : Truth) (Pr
         subst (ContainsSolution truth v.response) s.images (replies_contain reply (tried ks c e g qs q) w (entered_solution truth c g w s.solution) begins)
     tells_contain (tells_subtype ps met found outside related reach is says) q ts w s = absurd (outside refl)
     tells_contain (tells_alias vs outside ready all stands) q ts w s = absurd (outside refl)
-    tells_contain (tells_normal p found outside left reach is says) q ts w s = absurd (outside refl)
+    tells_contain (tells_normal ps met found outside left reach is says) q ts w s = absurd (outside refl)
 
     pub refutes_none : {ks : List PositionKind} {c : Content} {e g : Tree} {qs : List Tree} → Refutes Q h coherence c e g qs → IsQuery ks c e g qs → (ts : List Tree) (w : World) → IsSolved truth Proves ks c e g qs ts w → ⊥
     refutes_none {ks} {c} {e} {g} {qs} (all_fail ready all) q ts w s =
@@ -126,7 +127,7 @@ module _ (Q : Queries) (begins : BeginsEach Q) (h : Handler) (truth : Truth) (Pr
     refutes_none (is_no_subtype outside none) q ts w s = outside refl
     refutes_none (subtype_refused ps met outside related refused) q ts w s = outside refl
     refutes_none (aliases_fail outside ready all) q ts w s = outside refl
-    refutes_none (normal_refused p outside left refused) q ts w s = outside refl
+    refutes_none (normal_refused ps met outside left refused) q ts w s = outside refl
 
     outcomes_contain : {ks : List PositionKind} {c : Content} {e g : Tree} {qs : List Tree} {xs : List Candidate} {vs : List Verdict} → Outcomes Q h coherence c e g qs xs vs → IsTried ks c e g qs
         → (w : World) → IsSolution truth 0 c w → (x : Candidate) → Among xs x → CanBegin truth Proves c w x → OneContains truth vs (map (inst w) qs)
@@ -149,16 +150,18 @@ module _ (Q : Queries) (begins : BeginsEach Q) (h : Handler) (truth : Truth) (Pr
 
     replies_contain : {ks : List PositionKind} {c : Content} {e g : Tree} {qs : List Tree} {x : Candidate} {v : Verdict} → Replies Q h coherence c e g qs x v → IsTried ks c e g qs
         → (w : World) → IsSolution truth 0 c w → CanBegin truth Proves c w x → ContainsSolution truth v.response (map (inst w) qs)
-    replies_contain {ks} {c} {e} {g} {qs} {x} {v} (replies values met found begun reach is says) t w s k =
-        let b = begun_at truth Proves c met w values x begun k in
-        some_says ks c met found w e g qs v (goals_with values x.goals) t is s b (reaches_keep reach b.terms) says
+    replies_contain {ks} {c} {e} {g} {qs} {x} {v} (replies ps met found begun reach is says) t w s k =
+        let b = begun_with truth Proves Q.variances c met w e x ps begun k in
+        some_says ks c met found w e g qs v ps t is s b (reaches_keep reach b.terms) says
 
-    fails_never : {k : GoalKind} {c : Content} {x : Candidate} → Fails Q h coherence k c x → (w : World) → IsSolution truth 0 c w → CanBegin truth Proves c w x → ⊥
+    fails_never : {k : GoalKind} {c : Content} {e : Tree} {x : Candidate} → Fails Q h coherence k c e x → (w : World) → IsSolution truth 0 c w → CanBegin truth Proves c w x → ⊥
     fails_never (is_unmet n) w s k = n k.is_met
-    fails_never {c} {x} (is_refused values met begun refused) w s k =
-        let b = begun_at truth Proves c met w values x begun k in refuses_goals refused b.terms b.reaches.world b.goals
-    fails_never {c} {x} (is_leaky values met found begun reach leaks) w s k =
-        let b = begun_at truth Proves c met w values x begun k in
+    fails_never {c = c} {x = x} (has_types_apart y) w s k = apart_unmet c x y k.is_met
+    fails_never (is_unrelated outside n) w s k = outside refl
+    fails_never {c = c} {e = e} {x = x} (is_refused ps met begun refused) w s k =
+        let b = begun_with truth Proves Q.variances c met w e x ps begun k in refuses_goals refused b.terms b.reaches.world b.goals
+    fails_never {c = c} {e = e} {x = x} (is_leaky ps met found begun reach leaks) w s k =
+        let b = begun_with truth Proves Q.variances c met w e x ps begun k in
         let r = reaches_keep reach b.terms in
         let there = r.solutions.each b.reaches.world b.goals in
         respects.none found 0 there.world leaks there.solves.solution

@@ -1,0 +1,150 @@
+-- Candidates whose equations have aliases: outside of coherence such equations are related, which leaves goals, once the others were
+-- made equal.
+use Rattle.std.specs.Prelude.{◌≡◌, ◌⊎◌, ◌&&◌, ◌||◌, ℕ, Bool, true, false, if◌then◌else◌, Option, Some, List, [], ◌∷◌, ◌++◌, map}
+use Rattle.nts_model.specs.declared.labels.Variance.{Variance}
+use Rattle.nts_model.specs.declared.labels.Variance.TheVariants as variance
+use Rattle.nts_model.specs.declared.labels.TyHead.{TyHead}
+use Rattle.nts_model.specs.declared.labels.Label.TheVariants as label
+use Rattle.nts_model.specs.Lists.{Among}
+use Rattle.nts_model.specs.Terms.Trees.{Tree, NodeKind, of_sort, kind_of, label_of, any_label, is_alias}
+use Rattle.nts_model.specs.Terms.Substitutions.{filled}
+use Rattle.nts_model.specs.Tables.Contents.{Content}
+use Rattle.nts_model.specs.Tables.Resolving.{Knows, deeply_resolved}
+use Rattle.nts_model.specs.Derivations.Related.{Constraint}
+use Rattle.nts_model.specs.Derivations.Sequents.{Premise, inductive}
+use Rattle.nts_model.specs.Derivations.Rules.{Meaning, Mode, coherence, Equation, related, alike, relating, goal_kind, step_kind}
+use Rattle.nts_model.specs.Derivations.Proofs.{Assumed, passed}
+use Rattle.nts_model.specs.Derivations.Proving.{IsTermOf, AreEquated, IsHeldAt}
+use Rattle.nts_model.specs.Derivations.Handlers.{Candidate, premise_by, AreValuesOf}
+use Rattle.nts_model.specs.Searching.Stacks.{IsProvedFrom, IsProvedFromAt}
+use Rattle.nts_model.specs.Refutation.Choosing.{Freshens, EquatesAll, left_of, right_of}
+use Rattle.nts_model.specs.Refutation.Forcing.{AddsAll}
+use Rattle.nts_variance_model.specs.Variances.Relations.{Relating}
+use Rattle.nts_variance_model.specs.Variances.AnsweredGoals.{RelatedUnder}
+use Rattle.nts_variance_model.specs.Variances.Leaving.{Refuses}
+use Rattle.nts_variance_model.specs.Variances.RelatingBy.{AreGoalsOf}
+use Rattle.nts_theory.specs.Subtyping.{LeavesGoals}
+
+-- in coherence an inductive cycle is in doubt, and elsewhere it has no solution; there alone subtypes are related, and aliases
+-- normalized
+abbrev pub IsCutIn : Mode → Type 0
+IsCutIn mode = mode ≡ coherence → ⊥
+
+-- what may be an argument: a type, a region or a const
+abbrev pub may_be_argument : Option NodeKind → Bool
+may_be_argument (Some (of_sort s)) = true
+may_be_argument k = false
+
+-- an equation relates two arguments, and an alias stands in one of them
+abbrev pub relates_aliases : Equation → Bool
+relates_aliases (related a b) = may_be_argument (kind_of b) && (any_label is_alias a || any_label is_alias b)
+relates_aliases (alike a b) = false
+
+-- the equations that do, and the others
+abbrev pub aliased_equations : List Equation → List Equation
+aliased_equations [] = []
+aliased_equations (q ∷ qs) = if relates_aliases q then q ∷ aliased_equations qs else aliased_equations qs
+
+abbrev pub plain_equations : List Equation → List Equation
+plain_equations [] = []
+plain_equations (q ∷ qs) = if relates_aliases q then plain_equations qs else q ∷ plain_equations qs
+
+-- no equation of a candidate relates aliases
+abbrev pub HasPlainEquations : Candidate → Type 0
+HasPlainEquations x = aliased_equations x.equations ≡ []
+
+-- a candidate with the plain ones of its equations
+abbrev pub plain_part : Candidate → Candidate
+plain_part x = record x { equations = plain_equations x.equations }
+
+-- what is made equal of a candidate at once: in coherence aliases stand for themselves
+abbrev pub equated_part : Mode → Candidate → Candidate
+equated_part coherence x = x
+equated_part m x = plain_part x
+
+-- a candidate's goals, with the values in place of its positions
+abbrev pub goals_with : List Tree → List Premise → List Premise
+goals_with vs ps = map (premise_by (filled vs)) ps
+
+-- the two sides of each equation, with the values in place of positions, as pairs that do not vary
+abbrev pub pair_with : List Tree → Equation → Relating
+pair_with vs q = record { variance = variance.Invariant; left = filled vs (left_of q); right = filled vs (right_of q) }
+
+abbrev pub pairs_with : List Tree → List Equation → List Relating
+pairs_with vs qs = map (pair_with vs) qs
+
+-- the values are new variables under which a candidate's equations and constraints hold
+pub record IsBegun (c : Content) (x : Candidate) (vs : List Tree) (met : Content) : Type 0 where
+  pub made : Content
+  pub equal : Content
+  pub freshens : Freshens c.universe x.fresh vs c made
+  pub equates : EquatesAll vs x.equations made equal
+  pub adds : AddsAll vs x.constraints equal met
+
+-- .. so it is for the plain part of a candidate, and then the equations with aliases were related, which left premises in the
+-- environment e: these come before the candidate's goals
+pub record IsBegunByRelating (declared : ℕ → List Variance) (c : Content) (e : Tree) (x : Candidate) (met : Content) (ps : List Premise) : Type 0 where
+  pub some : HasPlainEquations x → ⊥
+  pub values : List Tree
+  pub before : Content
+  pub begun : IsBegun c (plain_part x) values before
+  pub pairs : List Relating
+  pub related : LeavesGoals declared before met (pairs_with values (aliased_equations x.equations)) pairs
+  pub goals : List Tree
+  pub of_pairs : AreGoalsOf pairs goals
+  pub premises : ps ≡ map (relating e) goals ++ goals_with values x.goals
+
+-- .. no settled solution of the table in which the plain part holds relates them
+pub record IsUnrelated (declared : ℕ → List Variance) (c : Content) (x : Candidate) : Type 0 where
+  pub some : HasPlainEquations x → ⊥
+  pub values : List Tree
+  pub before : Content
+  pub begun : IsBegun c (plain_part x) values before
+  pub refused : Refuses declared before (pairs_with values (aliased_equations x.equations))
+
+-- two types that are built by different constructors, and neither of which is an alias
+pub record AreTypesApart (a b : Tree) : Type 0 where
+  pub left : TyHead
+  pub right : TyHead
+  pub of_left : label_of a ≡ Some (label.Ty left)
+  pub of_right : label_of b ≡ Some (label.Ty right)
+  pub apart : left ≡ right → ⊥
+  pub left_plain : is_alias (label.Ty left) ≡ false
+  pub right_plain : is_alias (label.Ty right) ≡ false
+
+-- an equation of the candidate relates two such types
+pub record HasTypesApart (x : Candidate) : Type 0 where
+  pub left : Tree
+  pub right : Tree
+  pub equation : Among x.equations (related left right)
+  pub apart : AreTypesApart left right
+
+-- a candidate is begun in an environment, and these premises are left to be asked: its equations and constraints hold, in coherence or
+-- where none of its equations relates aliases; or, outside of coherence, those that do were related
+abbrev pub IsBegunPlainly : Mode → Content → Candidate → Content → List Premise → Type 0
+IsBegunPlainly mode c x met ps = (vs : List Tree) × ((mode ≡ coherence) ⊎ HasPlainEquations x) × IsBegun c x vs met × (ps ≡ goals_with vs x.goals)
+
+abbrev pub Begins : (ℕ → List Variance) → Mode → Content → Tree → Candidate → Content → List Premise → Type 0
+Begins declared mode c e x met ps = IsBegunPlainly mode c x met ps ⊎ IsCutIn mode × IsBegunByRelating declared c e x met ps
+
+-- two terms were related under a table, and what that left is proved there in the environment e, behind an inductive step
+pub record IsRelatedFrom (m : Meaning) (mode : Mode) (A : List Assumed) (c : Content) (e a b : Tree) : Type 0 where
+  pub left : IsTermOf c a
+  pub right : IsTermOf c b
+  pub goals : List Tree
+  pub proved : (g : Tree) → Among goals g → IsTermOf c g × IsProvedFrom m mode (passed inductive A) c e g
+  pub related : RelatedUnder m.variances c (map (deeply_resolved c) goals) variance.Invariant a b
+
+-- .. an equation holds so for these values, or its sides are one
+abbrev pub HoldsEquationFrom : Meaning → Mode → List Assumed → Content → Tree → List Tree → Equation → Type 0
+HoldsEquationFrom m mode A c e vs (related a b) = AreEquated c vs a b ⊎ IsRelatedFrom m mode A c e (filled vs a) (filled vs b)
+HoldsEquationFrom m mode A c e vs (alike a b) = AreEquated c vs a b
+
+-- a candidate for the goal g of the environment e holds under the table: its equations do, and each of its goals is proved
+pub record HoldsByRelating (m : Meaning) (mode : Mode) (A : List Assumed) (c : Content) (e g : Tree) (d : Candidate) : Type 0 where
+  pub chosen : List Tree
+  pub values : AreValuesOf d.fresh chosen
+  pub known : (v : Tree) → Among chosen v → Knows c v
+  pub equations : (q : Equation) → Among d.equations q → HoldsEquationFrom m mode A c e chosen q
+  pub constraints : (x : Constraint) → Among d.constraints x → IsHeldAt c chosen x
+  pub goals : (q : Premise) → Among d.goals q → IsProvedFromAt m mode (passed (step_kind (goal_kind m g) q.source) A) c chosen q
