@@ -22,6 +22,8 @@ use Rattle.nts_model.specs.Refutation.Opening.{binds, placeholder_in, entered_ta
 use Rattle.nts_model.proofs.Terms.Listed.{either as two_ways}
 use Rattle.nts_model.proofs.Terms.Unpositioned.{or_false, false_or}
 use Rattle.nts_decisions.specs.Deciding.{blurred, blurred_but_static, blurred_environment, blurred_candidate, SaysOfRegion, IsPlainGoal, IsRegionGoal, IsJudged, IsJudgedGoal, IsOwnWayGoal, CandidateIs, OneHolds, top_level, opened_next, IsGoalDecided}
+use Rattle.nts_theory.specs.RelatingCandidates.{HasPlainEquations}
+use Rattle.nts_decisions.proofs.PlainOffers.{offered_plain}
 use Rattle.nts_decisions.proofs.BlurredWorlds.{merged_leaf}
 use Rattle.nts_decisions.proofs.Deciding.{DecidedBy, DecidedByWay, DecidedAs, as_offered, as_of_region, as_judged, as_its_way, decided_by}
 use Rattle.nts_decisions.proofs.OwnWays.{way_sure}
@@ -248,6 +250,7 @@ pub record IsDecidedHere (h : Handler) (mode : Mode) (n : ℕ) (c : Content) (e 
   pub plain : IsPlainGoal (blurred_environment e) (blurred o)
   pub fares : OneFares h mode n c (h.offers mode e o) b
   pub sure : (x : Candidate) → Among (h.offers mode e o) x → x.certainty ≡ certain
+  pub no_aliases : (x : Candidate) → Among (h.offers mode e o) x → HasPlainEquations x
 
 module _ (h : Handler) (law : IsLawfulHandler h) (mode : Mode) (n : ℕ) (c : Content) (e g : Tree) (b : Bool) (u : c.universe ≡ top_level (pair (blurred_environment e) (blurred g))) (constants : AreConstants c.universe (pair e g))
     (d : IsGoalDecided h mode n e g b) (t : IsOfTermsOpened e (opened_in c g)) (sound : IsSound (entered_table c g)) (solvable : IsSolvable (entered_table c g)) where
@@ -275,6 +278,7 @@ module _ (h : Handler) (law : IsLawfulHandler h) (mode : Mode) (n : ℕ) (c : Co
         plain = plain;
         fares = all_fare h mode e env (entered_table c g) sound solvable n (h.offers mode e (opened_in c g)) n b each (omega arith) (subst (λ z. OneHolds h mode (blurred_environment e) n z b) (sym offers) x.holds);
         sure = λ y i. v.sure (blurred_candidate y) (subst (λ z. Among z (blurred_candidate y)) offers (among_by blurred_candidate (h.offers mode e (opened_in c g)) y i));
+        no_aliases = λ y i. offered_plain e (opened_in c g) x.candidates (h.offers mode e (opened_in c g)) (λ z j. keep.each mode e (opened_in c g) z asked j) offers v.formed y i;
       }
 
   named : AreConstants (entered_table c g).universe (pair e (opened_in c g))

@@ -15,7 +15,7 @@ use Rattle.nts_model.specs.Derivations.Rules.{coherence, Equation, related, stat
 use Rattle.nts_model.specs.Terms.Substitutions.{leaf_tree, filled}
 use Rattle.nts_model.specs.Derivations.Handlers.{Handler, never_leaks, never_at_once, no_judgements, Candidate, certain, never, IsAsked}
 use Rattle.nts_model.specs.Refutation.Choosing.{left_of, right_of}
-use Rattle.nts_decisions.specs.Deciding.{blurred, blurred_candidate, MeetsBlurred, IsPlainGoal, IsRegionGoal, IsFormedCandidate, IsUniform, IsDecided, by_candidates, by_region, none_left, then_fails, then_holds, is_met, all_yes, one_no}
+use Rattle.nts_decisions.specs.Deciding.{HasNoAliases, blurred, blurred_candidate, MeetsBlurred, IsPlainGoal, IsRegionGoal, IsFormedCandidate, IsUniform, IsDecided, by_candidates, by_region, none_left, then_fails, then_holds, is_met, all_yes, one_no}
 use Rattle.nts_theory.proofs.Examples.InputExamples.{no_clauses as nowhere}
 use Rattle.nts_theory.proofs.Examples.ProofExamples.{no_predicates}
 
@@ -74,16 +74,20 @@ unfolding plain uniform_one
 no_candidate = by_candidates [] (plain 1) uniform_one none_left
 
 formed_both : (x : Candidate) → Among (by_goal ∷ fact (list_goal 0) ∷ []) x → IsFormedCandidate x
-formed_both x (inl e) = subst IsFormedCandidate (sym e) (record { equations = λ q i. absurd i; goals = λ p i. goal_formed p i })
+formed_both x (inl e) = subst IsFormedCandidate (sym e) (record { equations = λ q i. absurd i; no_aliases = λ q i. absurd i; goals = λ p i. goal_formed p i })
   where
     goal_formed : (p : Premise) → Among (let g = by_goal in g.goals) p → IsFormed p.predicate
     goal_formed p (inl e) = subst (λ z. IsFormed z.predicate) (sym e) (list_formed 1)
     goal_formed p (inr i) = absurd i
-formed_both x (inr (inl e)) = subst IsFormedCandidate (sym e) (record { equations = λ q i. equation_formed q i; goals = λ p i. absurd i })
+formed_both x (inr (inl e)) = subst IsFormedCandidate (sym e) (record { equations = λ q i. equation_formed q i; no_aliases = λ q i. no_alias_there q i; goals = λ p i. absurd i })
   where
     equation_formed : (q : Equation) → Among (related (list_goal 0) (list_goal 0) ∷ []) q → IsFormed (left_of q) × IsFormed (right_of q)
     equation_formed q (inl e) = subst (λ z. IsFormed (left_of z) × IsFormed (right_of z)) (sym e) (list_formed 0, list_formed 0)
     equation_formed q (inr i) = absurd i
+
+    no_alias_there : (q : Equation) → Among (related (list_goal 0) (list_goal 0) ∷ []) q → HasNoAliases q
+    no_alias_there q (inl e) = subst HasNoAliases (sym e) (refl, refl)
+    no_alias_there q (inr i) = absurd i
 formed_both x (inr (inr i)) = absurd i
 
 sure_both : (x : Candidate) → Among (by_goal ∷ fact (list_goal 0) ∷ []) x → x.certainty ≡ certain

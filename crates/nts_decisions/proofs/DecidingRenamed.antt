@@ -353,6 +353,13 @@ formed_renamed ρ p x f =
           (let r = among_back (equation_by (rename ρ)) x.equations q i in
           let k = f.equations r.of r.found in
           (subst IsFormed (sym (ap left_of r.same ∙ left_by (rename ρ) r.of)) (IsFormed-instance (by_renaming ρ p) (left_of r.of) k.0), subst IsFormed (sym (ap right_of r.same ∙ right_by (rename ρ) r.of)) (IsFormed-instance (by_renaming ρ p) (right_of r.of) k.1)));
+      no_aliases = λ q i.
+          (let r = among_back (equation_by (rename ρ)) x.equations q i in
+          let k = f.equations r.of r.found in
+          let n = f.no_aliases r.of r.found in (
+            ap (any_label is_alias) (ap left_of r.same ∙ left_by (rename ρ) r.of) ∙ labels_renamed is_alias ρ.to (λ l. refl) (left_of r.of) k.0 ∙ n.0,
+            ap (any_label is_alias) (ap right_of r.same ∙ right_by (rename ρ) r.of) ∙ labels_renamed is_alias ρ.to (λ l. refl) (right_of r.of) k.1 ∙ n.1,
+          ));
       goals = λ q i.
           (let r = among_back (premise_by (rename ρ)) x.goals q i in
           subst (λ z. IsFormed z.predicate) (sym r.same) (IsFormed-instance (by_renaming ρ p) (let y = r.of in y.predicate) (f.goals r.of r.found)));

@@ -14,7 +14,7 @@ use Rattle.nts_model.specs.Derivations.Rules.{coherence, Equation, related}
 use Rattle.nts_model.specs.Derivations.Handlers.{Handler, never_leaks, never_at_once, no_judgements, Candidate, certain, never, IsAsked}
 use Rattle.nts_model.specs.Tables.Worlds.{World, IsValue, SolvesState}
 use Rattle.nts_model.specs.Refutation.Choosing.{IsCandidateMet, left_of, right_of}
-use Rattle.nts_decisions.specs.Deciding.{blurred, blurred_candidate, IsFormedCandidate, IsUniform}
+use Rattle.nts_decisions.specs.Deciding.{HasNoAliases, blurred, blurred_candidate, IsFormedCandidate, IsUniform}
 use Rattle.nts_model.specs.Terms.Regions.{of_variable}
 use Rattle.nts_decisions.specs.Facts.{Valuation, CanBeMet, IsOpenGoal, IsFactIn, IsOnlyFactIn, here, later, IsOnlyMet, valued}
 use Rattle.nts_decisions.proofs.DecidingExamples.{list_goal}
@@ -57,11 +57,15 @@ abbrev pub two_facts : Handler
 two_facts = record { applies = λ mode a. ⊥; offers = λ mode e g. fact_of 1 (blurred g) ∷ fact_of 2 (blurred g) ∷ []; is_coinductive = λ i. false; leaks = never_leaks; judges = no_judgements; at_once = never_at_once }
 
 fact_formed : (i : ℕ) → IsFormedCandidate (fact_of i variable_goal)
-fact_formed i = record { equations = λ q a. equation_formed q a; goals = λ p a. absurd a }
+fact_formed i = record { equations = λ q a. equation_formed q a; no_aliases = λ q a. no_alias_there q a; goals = λ p a. absurd a }
   where
     equation_formed : (q : Equation) → Among (let x = fact_of i variable_goal in x.equations) q → IsFormed (left_of q) × IsFormed (right_of q)
     equation_formed q (inl e) = subst (λ z. IsFormed (left_of z) × IsFormed (right_of z)) (sym e) ((let a = variable_asked in let f = a.formed in f.1.0), ((refl, (refl, tt)), ((tt, tt), (((refl, tt), (((tt, tt), (((refl, tt), ((tt, tt), tt)), tt)), tt)), tt))))
     equation_formed q (inr a) = absurd a
+
+    no_alias_there : (q : Equation) → Among (let x = fact_of i variable_goal in x.equations) q → HasNoAliases q
+    no_alias_there q (inl e) = subst HasNoAliases (sym e) (refl, refl)
+    no_alias_there q (inr a) = absurd a
 
 one_uniform : IsUniform one_fact coherence nowhere variable_goal (fact_of 1 variable_goal ∷ [])
 one_uniform =

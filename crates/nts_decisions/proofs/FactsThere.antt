@@ -29,6 +29,8 @@ use Rattle.nts_decisions.specs.Deciding.{blurred_leaf, blurred_but_static, blurr
 use Rattle.nts_decisions.specs.Faring.{none_asked, AreDecidedHere, no_world, by_goals, OneFares, no_more, next_fails, next_holds}
 use Rattle.nts_decisions.specs.Facts.{CanBeMet, NoneCanBeMet, IsOpenGoal, IsOnlyMet, here, later}
 use Rattle.nts_decisions.specs.FirstTables.{IsSettledFact}
+use Rattle.nts_theory.specs.RelatingCandidates.{HasPlainEquations}
+use Rattle.nts_decisions.proofs.PlainOffers.{offered_plain}
 use Rattle.nts_decisions.proofs.BlurredWorlds.{blurred_kinds, blurred_leaf_formed}
 use Rattle.nts_decisions.proofs.AskedGoals.{by_leaves, asked_raw}
 use Rattle.nts_decisions.proofs.DecidingRenamed.{labels_renamed, uniform_renamed}
@@ -239,6 +241,12 @@ module _ (i j : Input) (p : IsInput i) (r : IsInput j) (ρ : Renaming) (m : Rena
         let u = uniform_there in
         u.sure (blurred_candidate y) (subst (λ z. Among z (blurred_candidate y)) offers_uniform (among_by blurred_candidate (h.offers mode j.environment j.predicate) y k))
 
+    pub plain_there : (y : Candidate) → Among (h.offers mode j.environment j.predicate) y → HasPlainEquations y
+    plain_there y k =
+        let u = uniform_there in
+        let keep = law.keep in
+        offered_plain j.environment j.predicate (map (renamed_candidate (off_regions ρ)) o.candidates) (h.offers mode j.environment j.predicate) (λ z l. keep.each mode j.environment j.predicate z asked_there l) offers_uniform u.formed y k
+
     -- what a world meets there, values meet here
     not_met_there : (x y : Candidate) → Among (h.offers mode j.environment j.predicate) y → blurred_candidate y ≡ moved ρ x → (CanBeMet x → ⊥) → IsCandidateMet q y → ⊥
     not_met_there x y k e none met =
@@ -295,5 +303,6 @@ module _ (i j : Input) (p : IsInput i) (r : IsInput j) (ρ : Renaming) (m : Rena
             binds_nothing = binds_nothing_there;
             fares = only_there n;
             sure = sure_there;
+            no_aliases = plain_there;
             no_goals = λ y k met. met_has_no_goals (h.offers mode i.environment i.predicate) (h.offers mode j.environment j.predicate) (λ w z. z) (offers_there ∙ twice_moved ρ (h.offers mode i.environment i.predicate)) n y k met;
           }

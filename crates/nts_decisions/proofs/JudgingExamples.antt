@@ -83,7 +83,7 @@ error_in_one_way =
       alike = λ f s k ee es.
           (let x = formed_raw merged_leaf s error (sym (as_leaves s) ∙ es) in
           record { way = plain_way [] []; is_way = subst (λ z. IsOwnWay (let h = names_none in h.judges) f z (plain_way [] [])) (sym x.is) (by_goals refl); same = refl });
-      way = record { equations = λ q i. absurd i; goals = λ q i. absurd i };
+      way = record { equations = λ q i. absurd i; no_aliases = λ q i. absurd i; goals = λ q i. absurd i };
       formed = ((tt, tt), (((refl, (refl, tt)), ((tt, tt), ((((λ e. cc e), tt), ((tt, tt), tt)), tt))), tt));
       closed = ((tt, tt), ((tt, ((tt, tt), tt)), tt));
       statements = λ ps p e i. absurd (subst (IsInRow p) (no_predicates ps e) i);

@@ -32,6 +32,7 @@ pub mod OwnAnswers
 pub mod OwnResponses
 pub mod OwnWays
 pub mod OwnWaysHere
+pub mod PlainOffers
 pub mod RelatedRegions
 pub mod Reopening
 pub mod RootedInputs

@@ -9,6 +9,8 @@ use Rattle.nts_model.specs.Canonical.Inputs.{Input, canonical_of, IsInput, is_st
 use Rattle.nts_decisions.specs.Deciding.{blurred, blurred_candidate, blurred_leaf}
 use Rattle.nts_model.proofs.Canonical.Numbering.{first_none, AllLeaves, rest_none, numbered-replace, replace-tells, extends-trans, extends-seen, filled-replace}
 use Rattle.nts_model.proofs.Canonical.CanonicalForms.{forms_tell_inputs, making_gives_form, originals_are_leaves, distinct-originals}
+use Rattle.nts_theory.specs.RelatingCandidates.{HasPlainEquations}
+use Rattle.nts_theory.specs.Telling.{IsTraitGoal}
 use Rattle.nts_decisions.proofs.DecidingRenamed.{among_back, left_by, right_by}
 use Rattle.nts_decisions.proofs.DecidedInputs.{off_regions, off_plain, off_same}
 use Rattle.std.proofs.Common.{zero, suc}
@@ -27,7 +29,7 @@ use Rattle.nts_model.specs.Tables.Worlds.{World, Solves, inst}
 use Rattle.nts_model.specs.Terms.Regions.{of_variable}
 use Rattle.nts_model.specs.Derivations.Rules.{related, alike}
 use Rattle.nts_decisions.proofs.OfferedFacts.{no_goals_there}
-use Rattle.nts_decisions.proofs.FactsThere.{offers_there}
+use Rattle.nts_decisions.proofs.FactsThere.{offers_there, plain_there, trait_there}
 use Rattle.nts_decisions.specs.Facts.{IsAskedAs, IsOpenGoal}
 use Rattle.nts_decisions.proofs.FactWorlds.{MergedWorld, low, proper, moving, moving_carries, image, asked_trees, entered_merged}
 use Rattle.nts_model.specs.Answers.Responses.{read_in}
@@ -184,6 +186,12 @@ module _ (h : Handler) (law : IsLawfulHandler h) (mode : Mode) (c : Content) (w 
   -- what the handler offers there
   all_offered : map blurred_candidate (h.offers mode j.environment j.predicate) ≡ map (renamed_candidate ρ') (map blurred_candidate (h.offers mode i.environment i.predicate))
   all_offered = offers_there i j input made ρ maps q known goal.asked h law mode goal
+
+  pub plain_offered_there : (y : Candidate) → Among (h.offers mode j.environment j.predicate) y → HasPlainEquations y
+  plain_offered_there y k = plain_there i j input made ρ maps q known goal.asked h law mode goal y k
+
+  pub trait_goal_there : IsTraitGoal j.environment j.predicate
+  trait_goal_there = trait_there i j input made ρ maps q known goal.asked goal.trait_goal
 
   pub record IsOfferedThere (x : Candidate) : Type 0 where
     pub candidate : Candidate

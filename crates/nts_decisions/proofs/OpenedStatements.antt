@@ -21,8 +21,6 @@ use Rattle.nts_model.proofs.Terms.Substituting.{leaf_alone, no_children}
 use Rattle.nts_theory.specs.Outliving.{SaysOutlives, region_outlives, type_outlives, IsOutlives}
 use Rattle.nts_theory.specs.Affirming.{SaysAffirmed, IsDenied, HasOwnWay}
 use Rattle.nts_theory.specs.Telling.{IsTraitStatement, IsAliasStatement}
-use Rattle.nts_theory.specs.Aliasing.{EquatesAlias}
-use Rattle.nts_theory.proofs.Refutation.Aliasing.{equated_no_handlers}
 use Rattle.nts_theory.proofs.Refutation.Affirming.{affirmed_no_handlers, denied_no_handlers, way_no_handlers}
 use Rattle.nts_theory.proofs.Refutation.Subtyping.{subtyping_no_handlers}
 use Rattle.nts_theory.specs.Subtyping.{IsSubtyping}
@@ -65,25 +63,22 @@ pub trait_outlives_nothing : (g : Tree) (x : Constraint) → IsTraitStatement (s
 trait_outlives_nothing g x t o = says_not_both o.statement x (subst (λ z. IsTraitStatement (statement_of z)) o.binds_nothing t) o.says
 
 -- .. and no handler affirms or denies it
-trait_handlers : (s : Tree) → IsTraitStatement s → IsHandlers s
-trait_handlers (node (label.Clause (clause.Trait i)) ts) t = tt
-trait_handlers (node (label.Clause (clause.HostEffect i)) ts) t = tt
-trait_handlers s t = absurd t
+pub statement_handlers : (s : Tree) → IsTraitStatement s → IsHandlers s
+statement_handlers (node (label.Clause (clause.Trait i)) ts) t = tt
+statement_handlers (node (label.Clause (clause.HostEffect i)) ts) t = tt
+statement_handlers s t = absurd t
 
 pub trait_not_affirmed : (j : Judgements) (e g : Tree) → IsTraitStatement (statement_of g) → SaysAffirmed j e g → ⊥
-trait_not_affirmed j e g t a = affirmed_no_handlers j e a.statement a.affirmed (trait_handlers a.statement (subst (λ z. IsTraitStatement (statement_of z)) a.binds_nothing t))
+trait_not_affirmed j e g t a = affirmed_no_handlers j e a.statement a.affirmed (statement_handlers a.statement (subst (λ z. IsTraitStatement (statement_of z)) a.binds_nothing t))
 
 pub trait_has_no_way : (j : Judgements) (e g : Tree) (x : Candidate) → IsTraitStatement (statement_of g) → HasOwnWay j e g x → ⊥
-trait_has_no_way j e g x t w = way_no_handlers j e w.statement x w.way (trait_handlers w.statement (subst (λ z. IsTraitStatement (statement_of z)) w.binds_nothing t))
+trait_has_no_way j e g x t w = way_no_handlers j e w.statement x w.way (statement_handlers w.statement (subst (λ z. IsTraitStatement (statement_of z)) w.binds_nothing t))
 
 pub trait_not_denied : (j : Judgements) (g : Tree) → IsTraitStatement (statement_of g) → IsDenied j (statement_of g) → ⊥
-trait_not_denied j g t d = denied_no_handlers j (statement_of g) d (trait_handlers (statement_of g) t)
+trait_not_denied j g t d = denied_no_handlers j (statement_of g) d (statement_handlers (statement_of g) t)
 
 pub trait_says_no_subtype : (g a b : Tree) → IsTraitStatement (statement_of g) → IsSubtyping g a b → ⊥
-trait_says_no_subtype g a b t said = subtyping_no_handlers g a b said (trait_handlers (statement_of g) t)
-
-pub trait_equates_nothing : (g a b : Tree) → IsTraitStatement (statement_of g) → EquatesAlias g a b → ⊥
-trait_equates_nothing g a b t said = equated_no_handlers g a b said (trait_handlers (statement_of g) t)
+trait_says_no_subtype g a b t said = subtyping_no_handlers g a b said (statement_handlers (statement_of g) t)
 
 -- .. is not about an alias
 pub trait_says_no_alias : (s : Tree) → IsTraitStatement s → IsAliasStatement s → ⊥

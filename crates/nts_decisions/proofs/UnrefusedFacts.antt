@@ -1,7 +1,7 @@
 -- A goal with a fact is not refused: its query does not refute it, and each answer is granted to the caller.
-use Rattle.std.proofs.Common.{◌≡◌, inl, inr, ℕ, List, [], ◌∷◌, map, refl, sym, ap, subst, ◌∙◌}
+use Rattle.std.proofs.Common.{◌≡◌, inl, inr, ℕ, true, false, List, [], ◌∷◌, map, refl, sym, ap, subst, ◌∙◌}
 use Rattle.std.specs.Prelude.{length, false}
-use Rattle.nts_model.specs.Terms.Trees.{Tree, node, IsFormed}
+use Rattle.nts_model.specs.Terms.Trees.{Tree, node, any_label, is_alias, IsFormed}
 use Rattle.nts_model.specs.declared.labels.Leaf.{Leaf}
 use Rattle.nts_model.specs.declared.labels.Sort.TheVariants as sort
 use Rattle.nts_model.specs.Lists.{Among}
@@ -16,8 +16,11 @@ use Rattle.nts_model.specs.declared.labels.Label.TheVariants as label
 use Rattle.nts_theory.specs.Affirming.{SaysAffirmed, IsDenied, HasOwnWay}
 use Rattle.nts_theory.specs.Outliving.{IsOutlives}
 use Rattle.nts_theory.specs.Subtyping.{IsSubtyping}
-use Rattle.nts_theory.specs.Aliasing.{EquatesAlias, NormalizesSide}
-use Rattle.nts_decisions.proofs.OpenedStatements.{trait_outlives_nothing, trait_not_affirmed, trait_not_denied, trait_has_no_way, trait_says_no_subtype, trait_says_no_alias, trait_equates_nothing}
+use Rattle.nts_theory.specs.Aliasing.{NormalizesSides}
+use Rattle.nts_theory.proofs.Refutation.Aliasing.{sides_no_handlers}
+use Rattle.nts_theory.proofs.Refutation.Apart.{apart_unmet}
+use Rattle.nts_theory.proofs.Refutation.PlainParts.{part_met}
+use Rattle.nts_decisions.proofs.OpenedStatements.{trait_outlives_nothing, trait_not_affirmed, trait_not_denied, trait_has_no_way, trait_says_no_subtype, trait_says_no_alias, statement_handlers}
 use Rattle.nts_model.specs.Derivations.Sequents.{Premise}
 use Rattle.nts_model.specs.Derivations.Rules.{Mode, GoalKind, Equation, statement_of}
 use Rattle.nts_model.specs.Derivations.Handlers.{Handler, Candidate, IsAsked, IsLawfulHandler, HasNoLeaks, IsCandidateFor, AreValuesOf}
@@ -25,8 +28,8 @@ use Rattle.nts_model.specs.Canonical.Inputs.{Input, PositionKind, type_variable,
 use Rattle.nts_model.specs.Canonical.Numbered.{numbered, no_leaf}
 use Rattle.nts_model.specs.Refutation.Opening.{binds, opened_in, entered_table}
 use Rattle.nts_model.specs.Answers.Responses.{Response, IsResponseTo, IsQueryTable, read_in, RefusesResponse}
-use Rattle.nts_theory.specs.Telling.{Verdict, Queries, IsInputFor, IsReady, StandsForAll, SaysOf, without_constraints, IsPlainResponse, Tells, tells_nothing, says_nothing, tells_one, tells_outlives, tells_affirmed, tells_own, tells_subtype, tells_alias, tells_normal, IsTraitStatement, IsAliasStatement, IsAliasReady, kind_for, Refutes, all_fail, is_denied, own_fails, is_no_subtype, subtype_refused, aliases_fail, normal_refused, Outcomes, no_outcome, then_fails, then_replies, Replies, replies, Fails, is_unmet, is_refused, is_leaky, Reaches, asks_nothing, then_asks, Refused, by_query, by_response}
-use Rattle.nts_theory.specs.RelatingCandidates.{goals_with}
+use Rattle.nts_theory.specs.Telling.{Verdict, Queries, IsInputFor, IsReady, StandsForAll, SaysOf, without_constraints, IsPlainResponse, Tells, tells_nothing, says_nothing, tells_one, tells_outlives, tells_affirmed, tells_own, tells_subtype, tells_alias, tells_normal, IsTraitStatement, IsAliasStatement, IsAliasReady, IsAliasGoal, IsTraitGoal, kind_for, Refutes, all_fail, is_denied, own_fails, is_no_subtype, subtype_refused, aliases_fail, normal_refused, Outcomes, no_outcome, then_fails, then_replies, Replies, replies, Fails, is_unmet, has_types_apart, is_unrelated, is_refused, is_leaky, Reaches, asks_nothing, then_asks, RefusesOne, Refused, by_query, by_response}
+use Rattle.nts_theory.specs.RelatingCandidates.{goals_with, HasPlainEquations}
 use Rattle.nts_theory.proofs.Refutation.Queried.{IsFirst, BeginsEach, IsQuery, first_query, IsTried, tried, tried_knows, found_table, says_long}
 use Rattle.nts_theory.proofs.Refutation.QueryLabels.{query_without}
 use Rattle.nts_theory.proofs.Refutation.Answered.{among_split}
@@ -37,7 +40,7 @@ use Rattle.nts_decisions.proofs.OneRegion.{blurred_same, HasOneRegion}
 use Rattle.nts_decisions.proofs.FactWorlds.{MergedWorld, entered_merged, asked_trees, asked_values, images_one}
 use Rattle.nts_decisions.proofs.GrantedFacts.{ContainsMerged, says_merged}
 use Rattle.nts_decisions.proofs.MergedAnswers.{identity_merged, merged_granted}
-use Rattle.nts_decisions.proofs.MetFacts.{is_offered_there, IsOfferedThere, values_there, fit_there, one_there, named_there, equal_there, met_there, asks_nothing_there, made_alike}
+use Rattle.nts_decisions.proofs.MetFacts.{plain_offered_there, trait_goal_there, is_offered_there, IsOfferedThere, values_there, fit_there, one_there, named_there, equal_there, met_there, asks_nothing_there, made_alike}
 use Rattle.nts_decisions.proofs.BegunFacts.{begun_there}
 use Rattle.nts_model.specs.Answers.Applying.{IsProperContent}
 use Rattle.nts_model.specs.Refutation.Choosing.{IsCandidateMet, AreNamedValues, left_of, right_of}
@@ -175,11 +178,21 @@ module _ (Q : Queries) (h : Handler) (law : IsLawfulHandler h) (mode : Mode) (ti
     equal : (z : Equation) → Among y.equations z → (let v = entered in read_in (blurred_world v.world) us (left_of z) ≡ read_in (blurred_world v.world) us (right_of z))
     equal = (let m = fact.met in equal_there h law mode c w solves i from fact.goal q u roots have first.begins asked first.knows renaming.0 renaming.1 x y there.same here over m.values m.fit m.named m.equal)
 
+    -- no alias stands in its equations, nor in the goal
+    is_plain : HasPlainEquations y
+    is_plain = plain_offered_there h law mode c w solves i from fact.goal q u roots have first.begins asked first.knows renaming.0 renaming.1 y there.offered
+
+    trait_here : IsTraitGoal e' g'
+    trait_here = trait_goal_there h law mode c w solves i from fact.goal q u roots have first.begins asked first.knows renaming.0 renaming.1
+
     -- the query's fact does not fail
-    never_fails : {k : GoalKind} → Fails Q h mode k q y → ⊥
-    never_fails (is_unmet n) = n is_met
-    never_fails {k} (is_refused values met begun refused) = no_refusal Q h mode met k values y.goals no_goals refused
-    never_fails (is_leaky values met found begun reach leaks) = tight found 0 leaks
+    never_fails : {k : GoalKind} {e : Tree} → Fails Q h mode k q e y → ⊥
+    never_fails (is_unmet n) = n (part_met mode q y is_met)
+    never_fails (has_types_apart a) = apart_unmet q y a is_met
+    never_fails (is_unrelated outside n) = n.some is_plain
+    never_fails {k} (is_refused ps met (inl (values, in_one, begun, same)) refused) = no_refusal Q h mode met k values y.goals no_goals (subst (λ z. RefusesOne Q h mode k z met) same refused)
+    never_fails (is_refused ps met (inr (outside, begun)) refused) = begun.some is_plain
+    never_fails (is_leaky ps met found begun reach leaks) = tight found 0 leaks
 
     -- and what it replies is so in the caller's world
     is_tried : IsTried (canonical_of i).kinds q e' g' (map leaf_tree u)
@@ -191,10 +204,11 @@ module _ (Q : Queries) (h : Handler) (law : IsLawfulHandler h) (mode : Mode) (ti
     says_so found v table m (inr (y, inr r)) = says_merged (canonical_of i).kinds (without_constraints q) (map leaf_tree u) ts v.response is_tried.placed (query_without (canonical_of i).kinds q (map leaf_tree u) is_tried.table) r (without q (map leaf_tree u) ts entered)
 
     fact_replies : (v : Verdict) → Replies Q h mode q e' g' (map leaf_tree u) y v → ContainsMerged v.response ts
-    fact_replies v (replies values met found begun reach is says) =
+    fact_replies v (replies ps met found (inr (outside, begun)) reach is says) = absurd (begun.some is_plain)
+    fact_replies v (replies ps met found (inl (values, in_one, begun, are)) reach is says) =
         let n = entered in
         let b = begun_there q n.world n.solves e' g' first.knows y over us fit one named equal proper values met begun (map leaf_tree u) ts (tried_knows (canonical_of i).kinds q e' g' (map leaf_tree u) is_tried) n.images in
-        let same : found ≡ met = nothing_reached Q h mode met found values y.goals no_goals reach in
+        let same : found ≡ met = nothing_reached Q h mode met found values y.goals no_goals (subst (λ z. Reaches Q h mode z met found) are reach) in
         let table = found_table (canonical_of i).kinds q found e' g' (map leaf_tree u) is_tried is (subst (KeepsKinds q) (sym same) b.1) in
         says_so found v table (subst (λ z. MergedWorld z (map leaf_tree u) ts) (sym same) b.0) says
 
@@ -204,7 +218,7 @@ module _ (Q : Queries) (h : Handler) (law : IsLawfulHandler h) (mode : Mode) (ti
         let rest = λ (k : Among xs y). outcomes_contain before k in
         elim (among_split xs (z ∷ []) y a) [
           | inl k ↦ rest k
-          | inr k ↦ (elim k [ inl e ↦ absurd (never_fails (subst (Fails Q h mode (kind_for h g') q) (sym e) fails)) | inr n ↦ absurd n ])
+          | inr k ↦ (elim k [ inl e ↦ absurd (never_fails (subst (Fails Q h mode (kind_for h g') q e') (sym e) fails)) | inr n ↦ absurd n ])
         ]
     outcomes_contain (then_replies {xs = xs} {vs = vs} {x = z} {v = v} before reply) a =
         let rest = λ (k : Among xs y). outcomes_contain before k in
@@ -229,10 +243,19 @@ module _ (Q : Queries) (h : Handler) (law : IsLawfulHandler h) (mode : Mode) (ti
       outcomes_contain asked proper (tried_here vs all) o.offered
 
   no_alias_here : IsAliasReady q e' g' → ⊥
-  no_alias_here ready = (let a = ready.alias_goal in trait_says_no_alias (statement_of g') is_trait (subst (λ z. IsAliasStatement (statement_of z)) same_goal a.statement))
+  no_alias_here ready = by_case ready.alias_goal
+    where
+      by_case : IsAliasGoal e' (opened_in q g') → ⊥
+      by_case (inl a) = trait_says_no_alias (statement_of g') is_trait (subst (λ z. IsAliasStatement (statement_of z)) same_goal a)
+      by_case (inr (s, some)) =
+          let t = trait_here (subst (IsAsked e') same_goal ready.asked) (subst IsProperContent same_table ready.proper) in
+          let none : any_label is_alias (pair e' g') ≡ false = t.no_alias in
+          let yes : any_label is_alias (pair e' g') ≡ true = subst (λ z. any_label is_alias (pair e' z) ≡ true) same_goal some in
+          let clash : true ≡ false = sym yes ∙ none in
+          cc clash
 
-  equates_nothing_here : {p : Premise} → NormalizesSide e' (opened_in q g') p → ⊥
-  equates_nothing_here x = trait_equates_nothing g' x.left x.right is_trait (subst (λ z. EquatesAlias z x.left x.right) same_goal x.is)
+  equates_nothing_here : {d : Content} {ps : List Premise} → NormalizesSides (entered_table q g') d e' (opened_in q g') ps → ⊥
+  equates_nothing_here {d} {ps} x = sides_no_handlers (entered_table q g') d e' (opened_in q g') ps x (statement_handlers (statement_of (opened_in q g')) (subst (λ z. IsTraitStatement (statement_of z)) (sym same_goal) is_trait))
 
   query_never_refutes : Refutes Q h mode q e' g' (map leaf_tree u) → ⊥
   query_never_refutes (is_denied d) = trait_not_denied h.judges g' is_trait (subst (λ z. IsDenied h.judges (statement_of z)) same_goal d)
@@ -240,7 +263,7 @@ module _ (Q : Queries) (h : Handler) (law : IsLawfulHandler h) (mode : Mode) (ti
   query_never_refutes (is_no_subtype outside n) = trait_says_no_subtype g' n.left n.right is_trait (subst (λ z. IsSubtyping z n.left n.right) same_goal n.is)
   query_never_refutes (subtype_refused ps met outside l refused) = trait_says_no_subtype g' l.left l.right is_trait (subst (λ z. IsSubtyping z l.left l.right) same_goal l.is)
   query_never_refutes (aliases_fail outside ready all) = no_alias_here ready
-  query_never_refutes (normal_refused p outside l refused) = equates_nothing_here l
+  query_never_refutes (normal_refused ps met outside l refused) = equates_nothing_here l
   query_never_refutes (all_fail ready all) = (let o = contains_here [] ready all in o.among)
 
   formed_values : (ks : List PositionKind) (zs : List Tree) → AreInputValues ks zs → (t : Tree) → Among zs t → IsFormed t
@@ -287,7 +310,7 @@ module _ (Q : Queries) (h : Handler) (law : IsLawfulHandler h) (mode : Mode) (ti
   tells_contained v (tells_own y own reply) = absurd (trait_has_no_way h.judges e' g' y is_trait (subst (λ z. HasOwnWay h.judges e' z y) same_goal own.way))
   tells_contained v (tells_subtype ps met found outside l reach is says) = absurd (trait_says_no_subtype g' l.left l.right is_trait (subst (λ z. IsSubtyping z l.left l.right) same_goal l.is))
   tells_contained v (tells_alias vs outside ready all stands) = absurd (no_alias_here ready)
-  tells_contained v (tells_normal p found outside l reach is says) = absurd (equates_nothing_here l)
+  tells_contained v (tells_normal ps met found outside l reach is says) = absurd (equates_nothing_here l)
   tells_contained v (tells_one vs ready all stands) = by_one stands
     where
       by_one : StandsForAll (map leaf_tree u) vs v → ContainsMerged v.response ts

@@ -100,9 +100,14 @@ pub record IsJudgedGoal (h : Handler) (e g : Tree) (b : Bool) : Type 0 where
   pub blurred_environment : blurred_environment e ≡ e
   pub blurred : blurred statement ≡ statement
 
--- the terms of its equations and goals are terms
+-- no alias stands in the sides of an equation
+abbrev pub HasNoAliases : Equation → Type 0
+HasNoAliases q = (any_label is_alias (left_of q) ≡ false) × (any_label is_alias (right_of q) ≡ false)
+
+-- the terms of its equations and goals are terms, and no alias stands in its equations: what it normalizes to would decide
 pub record IsFormedCandidate (x : Candidate) : Type 0 where
   pub equations : (q : Equation) → Among x.equations q → IsFormed (left_of q) × IsFormed (right_of q)
+  pub no_aliases : (q : Equation) → Among x.equations q → HasNoAliases q
   pub goals : (p : Premise) → Among x.goals p → IsFormed p.predicate
 
 -- the one way in which a statement may hold by the engine is this candidate but for regions

@@ -15,6 +15,7 @@ use Rattle.nts_model.specs.Derivations.Rules.{Mode}
 use Rattle.nts_model.specs.Derivations.Handlers.{Handler, Candidate, certain, IsAsked}
 use Rattle.nts_model.specs.Refutation.Choosing.{IsCandidateMet}
 use Rattle.nts_model.specs.Refutation.Opening.{binds}
+use Rattle.nts_theory.specs.RelatingCandidates.{HasPlainEquations}
 use Rattle.nts_model.specs.Answers.Applying.{IsProperContent}
 use Rattle.nts_theory.specs.Telling.{IsTraitGoal}
 use Rattle.nts_decisions.specs.Faring.{OneFares}
@@ -45,3 +46,4 @@ pub record IsSettledFact (h : Handler) (mode : Mode) (c : Content) (e g : Tree) 
   pub fares : OneFares h mode 0 c (h.offers mode e g) true
   pub sure : (x : Candidate) → Among (h.offers mode e g) x → x.certainty ≡ certain
   pub no_goals : (x : Candidate) → Among (h.offers mode e g) x → IsCandidateMet c x → x.goals ≡ []
+  pub no_aliases : (x : Candidate) → Among (h.offers mode e g) x → HasPlainEquations x

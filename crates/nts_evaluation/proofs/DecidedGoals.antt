@@ -17,9 +17,10 @@ use Rattle.nts_decisions.specs.Deciding.{blurred, blurred_environment, top_level
 use Rattle.nts_decisions.specs.Queries.{AreConstants}
 use Rattle.nts_decisions.specs.Faring.{OneFares}
 use Rattle.nts_decisions.proofs.Faring.{LastFares, last_fails, last_holds, last_of, with_failed, with_held, never_held}
-use Rattle.nts_decisions.proofs.DecidedQueries.{IsOfTermsOpened, SaysOutlivesHere, IsDecidedHere, IsRegionHere, IsJudgedHere, IsWayHere, IsUnofferedHere, decided_here, is_asked, no_alias, top_blurred}
+use Rattle.nts_decisions.proofs.DecidedQueries.{IsOfTermsOpened, SaysOutlivesHere, IsDecidedHere, IsJudgedHere, IsWayHere, IsUnofferedHere, decided_here, is_asked, no_alias, top_blurred}
 use Rattle.nts_decisions.proofs.OpenedStatements.{plain_statement, trait_outlives_nothing, trait_not_affirmed, trait_not_denied, region_of, decided_is_closed}
 use Rattle.nts_decisions.specs.Deciding.{SaysOfRegion, IsJudged}
+use Rattle.nts_theory.specs.RelatingCandidates.{HasPlainEquations}
 use Rattle.nts_theory.specs.Telling.{IsTraitStatement}
 use Rattle.nts_theory.specs.Affirming.{IsAffirmed, feature_allowed, has_objects, named_const, value_const, error_const, error_type, evaluated_const, by_type, by_goals, IsDenied, IsOwnWay, HasOwnWay}
 use Rattle.nts_theory.specs.Outliving.{IsOutlives}
@@ -239,6 +240,7 @@ kept_settled h mode n k b {r} {u} o xs same env predicate d out =
     record {
       fares = kept_fares h (mode_of mode) n (content_of r u.entries) k out (rw (same, env, predicate) d.fares);
       sure = λ x i. (let sure : (y : Candidate) → Among (h.offers (mode_of mode) (tree_at r o.param_env.node) (tree_at r o.predicate.node)) y → y.certainty ≡ certain = rw (env, predicate) d.sure in sure x (among_all x out i));
+      plain = λ x i. (let plain : (y : Candidate) → Among (h.offers (mode_of mode) (tree_at r o.param_env.node) (tree_at r o.predicate.node)) y → HasPlainEquations y = rw (env, predicate) d.no_aliases in plain x (among_all x out i));
     }
 
 -- a yes

@@ -1,5 +1,5 @@
 -- A candidate without goals that was run in the first table of a query: its response, if it says nothing, is over the terms of the query.
-use Rattle.std.proofs.Common.{◌≡◌, ℕ, Bool, true, false, List, map, refl, sym, ap, subst, ◌∙◌}
+use Rattle.std.proofs.Common.{◌≡◌, ℕ, Bool, true, false, List, map, refl, sym, ap, subst, ◌∙◌, ⊎_elim}
 use Rattle.nts_model.specs.Terms.Trees.{Tree}
 use Rattle.nts_model.specs.Tables.Contents.{Content}
 use Rattle.nts_model.specs.Tables.Holding.{Continues}
@@ -8,7 +8,7 @@ use Rattle.nts_model.specs.Derivations.Rules.{Mode}
 use Rattle.nts_model.specs.Refutation.Choosing.{IsCandidateMet}
 use Rattle.nts_model.specs.Refutation.Opening.{binds}
 use Rattle.nts_theory.specs.Telling.{IsTraitGoal, IsResponseOf, AreTermsOfKinds}
-use Rattle.nts_theory.specs.RelatingCandidates.{IsBegun}
+use Rattle.nts_theory.specs.RelatingCandidates.{IsBegun, goals_with}
 use Rattle.nts_decisions.specs.Faring.{Fares, no_world, by_goals}
 use Rattle.nts_decisions.specs.FirstTables.{IsSettledFact}
 use Rattle.nts_decisions.proofs.FactsSettled.{fact_over, are_places, reached_nothing}
@@ -30,7 +30,7 @@ use Rattle.nts_response.specs.declared.types.Response.{Response}
 use Rattle.nts_response.specs.Forms.{response_at, recorded_at, HoldsResponse}
 use Rattle.nts_search.proofs.StackLater.{response_same}
 use Rattle.nts_meaning.specs.Asking.{first_values}
-use Rattle.nts_meaning.specs.Telling.{Ruling, queries}
+use Rattle.nts_meaning.specs.Telling.{Ruling, queries, Reaches}
 use Rattle.nts_meaning.specs.Meant.{HasRunTo}
 use Rattle.nts_meaning.specs.Evaluation.{IsPosed, IsAskedGoal}
 use Rattle.nts_trying.specs.Opening.{IsOpenedTo}
@@ -45,35 +45,43 @@ pub query_later : (a b : List Tree) (t u : Table) (g o : Goal) (qs : List Generi
 query_later a b t u g o qs same env predicate values q = record { kinds = q.kinds; values = values ∙ q.values; first = rw (same, env, predicate) q.first }
 
 pub plain_later : (a b : List Tree) (g : Goal) (x y : Candidate) → tree_at b g.param_env.node ≡ tree_at a g.param_env.node → tree_at b g.predicate.node ≡ tree_at a g.predicate.node → y ≡ x → IsPlainCandidate a g x → IsPlainCandidate b g y
-plain_later a b g x y env predicate same p = rw same (record { offered = rw (env, predicate) p.offered; no_goals = p.no_goals })
+plain_later a b g x y env predicate same p = rw same (record { offered = rw (env, predicate) p.offered; no_goals = p.no_goals; plain = p.plain })
+
+-- one that relates no aliases was begun at once
+ran_plainly : (h : Ruling) (s : Table) (a b : List Tree) (u : Table) (g : Goal) (x : CandidateData) → IsPlainCandidate a g (candidate_of a x) → (run : HasRunTo h s.mode a s b u g x)
+    → (vs : List Tree) × IsBegun (content_of a s.entries) (candidate_of a x) vs run.met × Reaches h (mode_of s.mode) (goals_with vs (let y = candidate_of a x in y.goals)) run.met (content_of b u.entries)
+ran_plainly h s a b u g x p run =
+    ⊎_elim (λ w. (w.0, w.2, subst (λ ps. Reaches h (mode_of s.mode) ps run.met (content_of b u.entries)) w.3 run.reaches)) (λ w. absurd (let r = w.1 in r.some p.plain)) run.begun
 
 -- the response of the table that such a candidate left
-pub over_after : (h : Ruling) (s t u : Table) {a b : List Tree} (e : List Tree) (x : CandidateData) (g : Goal) (qs : List GenericArg) (r : Canonical Response) → HasRunTo h s.mode a s b u x → s.entries ≡ t.entries
+pub over_after : (h : Ruling) (s t u : Table) {a b : List Tree} (e : List Tree) (x : CandidateData) (g : Goal) (qs : List GenericArg) (r : Canonical Response) → HasRunTo h s.mode a s b u g x → s.entries ≡ t.entries
     → Continues (content_of a s.entries) (content_of b u.entries) → AreFormed b → IsTable b u
     → IsQueryAtFirst a t g qs → IsPlainCandidate a g (candidate_of a x) → IsResponseOf (content_of b u.entries) (trees_of a qs) (response_at e r) → HoldsResponse e r.value → IsOverIfSilent e (trees_of a qs) r
 over_after h s t u {a} {b} e x g qs r run same continues formed table q p says holds ts up silent =
     let now = table.now in
     let proper = now.proper in
     let terms = term_table formed table in
-    let found : content_of b u.entries ≡ run.met = reached_nothing (queries h.variances) h.handler (mode_of s.mode) run.values _ run.met (content_of b u.entries) p.no_goals run.reaches in
-    let begun : IsBegun (content_of a t.entries) (candidate_of a x) run.values (content_of b u.entries) = rw (← same, found) run.begun in
+    let (chosen, its_begun, its_reaches) = ran_plainly h s a b u g x p run in
+    let found : content_of b u.entries ≡ run.met = reached_nothing (queries h.variances) h.handler (mode_of s.mode) chosen _ run.met (content_of b u.entries) p.no_goals its_reaches in
+    let begun : IsBegun (content_of a t.entries) (candidate_of a x) chosen (content_of b u.entries) = rw (← same, found) its_begun in
     let later : Continues (content_of a t.entries) (content_of b u.entries) = rw (← same) continues in
     let values : trees_of a qs ≡ first_values q.kinds = q.values in
     let one : response_at ts r ≡ response_at e r = response_same e ts r up holds in
     let says_there : IsResponseOf (content_of b u.entries) (first_values q.kinds) (response_at ts r) = rw one (subst (λ z. IsResponseOf (content_of b u.entries) z (response_at e r)) values says) in
     let none = silent.2 in
     subst (AreTermsOfKinds (map kind_of_var r.var_kinds.items)) (sym values)
-    (fact_over (content_of a t.entries) (value_leaves 0 q.kinds) (tree_at a g.param_env.node) (tree_at a g.predicate.node) q.first (candidate_of a x) p.offered run.values (content_of b u.entries) begun (record { grows = later.grows; kinds = later.kinds })
+    (fact_over (content_of a t.entries) (value_leaves 0 q.kinds) (tree_at a g.param_env.node) (tree_at a g.predicate.node) q.first (candidate_of a x) p.offered chosen (content_of b u.entries) begun (record { grows = later.grows; kinds = later.kinds })
     now.sound proper.solvable terms.values (response_at ts r) says_there (are_places (trees_of ts r.value.var_values.items) silent.1) (ap (map (recorded_at ts)) none.0))
 
 -- what a handler kept of what it offers: how it fares, and that what is met has no goals
 pub facts_kept : (h : Handler) (law : IsLawfulHandler h) (mode : TypingMode) (a : List Tree) (t : Table) (g : Goal) (xs : List CandidateData) → IsSettledFact h (mode_of mode) (content_of a t.entries) (tree_at a g.param_env.node) (tree_at a g.predicate.node)
     → LeavesOut (h.offers (mode_of mode) (tree_at a g.param_env.node) (tree_at a g.predicate.node)) (candidates_of a xs) → CandidatesSettled h mode 0 a t xs true × ArePlainCandidates a t g xs
 facts_kept h law mode a t g xs f out = (
-  record { fares = kept_fares h (mode_of mode) 0 (content_of a t.entries) true out f.fares; sure = λ x i. f.sure x (among_all x out i) },
+  record { fares = kept_fares h (mode_of mode) 0 (content_of a t.entries) true out f.fares; sure = λ x i. f.sure x (among_all x out i); plain = λ x i. f.no_aliases x (among_all x out i) },
   λ x i met. record {
     offered = (let k = law.keep in k.each (mode_of mode) (tree_at a g.param_env.node) (tree_at a g.predicate.node) x f.asked (among_all x out i));
     no_goals = f.no_goals x (among_all x out i) met;
+    plain = f.no_aliases x (among_all x out i);
   },
 )
 

@@ -1,10 +1,10 @@
 -- A goal of the engine's own kinds, which was opened: what is known of it where it was opened is known of the goal; and what decides it.
-use Rattle.std.proofs.Common.{◌≡◌, ◌≢◌, inl, inr, ℕ, Bool, true, false, List, refl, sym, ap, subst, ◌∙◌}
+use Rattle.std.proofs.Common.{◌≡◌, inl, inr, ℕ, Bool, true, false, List, refl, sym, ap, subst, ◌∙◌}
 use Rattle.nts_model.specs.declared.labels.Variance.{Variance}
 use Rattle.nts_model.specs.Terms.Trees.{Tree, any_label, is_alias}
 use Rattle.nts_model.specs.Tables.Holding.{Continues}
 use Rattle.nts_model.specs.Derivations.Rules.{Mode, statement_of}
-use Rattle.nts_model.specs.Derivations.Handlers.{Handler, Candidate, Judgements, certain, meaning, IsLawfulHandler}
+use Rattle.nts_model.specs.Derivations.Handlers.{Handler, Judgements, certain, meaning, IsLawfulHandler}
 use Rattle.nts_model.specs.Derivations.Proofs.{Assumed}
 use Rattle.nts_model.specs.Searching.Stacks.{IsProvedFrom}
 use Rattle.nts_store.specs.Growth.{tree_at, Extends}
@@ -26,8 +26,9 @@ use Rattle.nts_meaning.specs.Meant.{IsTold, IsRefuted}
 use Rattle.nts_trying.specs.Opening.{IsOpenedTo}
 use Rattle.std.specs.Global.{Box}
 use Rattle.nts_candidates.specs.declared.data.CandidateData.{CandidateData}
+use Rattle.nts_theory.specs.RelatingCandidates.{HasPlainEquations}
 use Rattle.nts_theory.specs.Affirming.{SaysAffirmed, IsDenied, HasOwnWay}
-use Rattle.nts_trying.specs.Owning.{IsOwnGoal, IsPlainGoal, IsWay, IsAllJudged, tree_of_own}
+use Rattle.nts_trying.specs.Owning.{IsOwnGoal, IsPlainGoal, IsWay, IsAllJudged}
 use Rattle.nts_trying.specs.declared.own.Judged.{Judged}
 use Rattle.nts_trying.specs.declared.own.Judged.TheVariants as judged
 use Rattle.nts_decisions.specs.Faring.{Fares}
@@ -107,14 +108,15 @@ module _ {h k : Handler} {a b : List Tree} {g : Goal} (same : MeansSame h k) (up
     settled_unknown c q (inl y) = judged_unknown c q y
     settled_unknown c q (inr y) = subst IsWay q (known_way c y)
 
-    pub settled_way : (c : Bool) (w : Box CandidateData) → x ≡ judged.Way w → HasOwnWay h.judges (tree_at b g.param_env.node) (tree_at b g.predicate.node) (candidate_of b w.value) → content_of b t.entries ≡ content_of a t.entries → IsOwnSettled k mode n a t g c → IsSettled k mode n b t w.value c
-    settled_way c w q has here (inl y) = absurd (judged_way c w q y)
-    settled_way c w q has here (inr y) =
+    pub settled_way : (c : Bool) (w : Box CandidateData) → x ≡ judged.Way w → HasOwnWay h.judges (tree_at b g.param_env.node) (tree_at b g.predicate.node) (candidate_of b w.value) → HasPlainEquations (candidate_of b w.value) → content_of b t.entries ≡ content_of a t.entries → IsOwnSettled k mode n a t g c → IsSettled k mode n b t w.value c
+    settled_way c w q has plain here (inl y) = absurd (judged_way c w q y)
+    settled_way c w q has plain here (inr y) =
         let before = judged_before (λ j e p. HasOwnWay j e p (candidate_of b w.value)) same up holds has in
         let one : y.way ≡ candidate_of b w.value = one_own_way k.judges (tree_at a g.param_env.node) (tree_at a g.predicate.node) y.way (candidate_of b w.value) y.has_way before in
         record {
           fares = subst (λ z. Fares k (mode_of mode) n z (candidate_of b w.value) c) (sym here) (subst (λ z. Fares k (mode_of mode) n (content_of a t.entries) z c) one y.fares);
           sure = subst (λ z. z.certainty ≡ certain) one y.sure;
+          plain = plain;
         }
 
 module _ {a b : List Tree} {t u : Table} {g o : Goal} (posed : IsPosed a t g) (opens : IsOpenedTo a b t u g o) (up : Extends a b) (there : IsPosed b u o) (x : OwnGoal) (says : IsOwnGoal b o x) where

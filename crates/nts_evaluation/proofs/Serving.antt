@@ -1,5 +1,8 @@
 -- A candidate that holds, and that is offered, serves the goal.
-use Rattle.std.proofs.Common.{sym, List, subst}
+use Rattle.std.proofs.Common.{◌≡◌, refl, List, inl, inr}
+use Rattle.nts_theory.specs.RelatingCandidates.{IsCutIn, HasPlainEquations, equated_part, plain_part}
+use Rattle.nts_model.specs.Derivations.Rules.{Mode, coherence, post_analysis, erased, analysis, borrowck, post_borrowck}
+use Rattle.nts_model.specs.Tables.Contents.{Content}
 use Rattle.nts_model.specs.Terms.Trees.{Tree}
 use Rattle.nts_model.specs.Lists.{Among}
 use Rattle.nts_model.specs.Derivations.Rules.{Meaning}
@@ -13,10 +16,10 @@ use Rattle.nts_terms.specs.Modes.{mode_of}
 use Rattle.nts_terms.specs.Handles.{HoldsGoal}
 use Rattle.nts_unify.specs.Reading.{content_of}
 use Rattle.nts_table.specs.Tables.{Table}
-use Rattle.nts_meaning.specs.Meant.{offers_of, HoldsSurely, IsServed}
+use Rattle.nts_meaning.specs.Meant.{offers_of, HoldsEither, HoldsSurely, IsServed}
 
 pub served_by : (h : Handler) (m : Meaning) (mode : TypingMode) (A : List Assumed) (b c : List Tree) (u : Table) (g : Goal) (x : Candidate) → Extends b c → HoldsGoal b g → Among (offers_of h (mode_of mode) b g) x
-    → HoldsSurely m (mode_of mode) A (content_of c u.entries) (tree_at b g.predicate.node) x → IsServed h m (mode_of mode) A (content_of c u.entries) (tree_at c g.param_env.node) (tree_at c g.predicate.node)
+    → HoldsSurely m (mode_of mode) A (content_of c u.entries) (tree_at b g.param_env.node) (tree_at b g.predicate.node) x → IsServed h m (mode_of mode) A (content_of c u.entries) (tree_at c g.param_env.node) (tree_at c g.predicate.node)
 served_by h m mode A b c u g x up holds offered y =
     let env = up.kept g.param_env.node holds.env.within in
     let predicate = up.kept g.predicate.node holds.predicate.within in
@@ -24,5 +27,19 @@ served_by h m mode A b c u g x up holds offered y =
       candidate = x;
       offered = rw (env, predicate) offered;
       sure = y.sure;
-      holds = subst (λ z. HoldsCandidateFrom m (mode_of mode) A (content_of c u.entries) z x) (sym predicate) y.holds;
+      holds = rw (env, predicate) y.holds;
     }
+
+-- one that relates no aliases holds at once
+pub held_plain : {m : Meaning} {mode : Mode} {A : List Assumed} {c : Content} {e g : Tree} {x : Candidate} → HasPlainEquations x → HoldsEither m mode A c e g x → HoldsCandidateFrom m mode A c g x
+held_plain plain (inl h) = h
+held_plain plain (inr h) = absurd (h.0 plain)
+
+-- outside of coherence the plain part of a candidate is made equal at once
+pub part_outside : (mode : Mode) (x : Candidate) → IsCutIn mode → equated_part mode x ≡ plain_part x
+part_outside coherence x cut = absurd (cut refl)
+part_outside post_analysis x cut = refl
+part_outside erased x cut = refl
+part_outside (analysis ds) x cut = refl
+part_outside (borrowck ds) x cut = refl
+part_outside (post_borrowck ds) x cut = refl

@@ -6,6 +6,7 @@ use Rattle.nts_model.specs.Derivations.Related.{pair}
 use Rattle.nts_model.specs.Derivations.Rules.{Mode, statement_of}
 use Rattle.nts_model.specs.Derivations.Handlers.{Handler, Judgements, Candidate, certain, IsCandidateFor, HasNoLeaks}
 use Rattle.nts_model.specs.Refutation.Choosing.{IsCandidateMet}
+use Rattle.nts_theory.specs.RelatingCandidates.{HasPlainEquations}
 use Rattle.nts_theory.specs.Affirming.{SaysAffirmed, IsDenied, HasOwnWay}
 use Rattle.nts_theory.specs.Telling.{AreTermsOfKinds}
 use Rattle.nts_model.specs.Tables.Resolving.{deeply_resolved}
@@ -156,14 +157,16 @@ pub record AreRootValues (ts : List Tree) (qs : List GenericArg) : Type 0 where
   pub roots : AreRootKinds 0 kinds
   pub values : trees_of ts qs ≡ first_values kinds
 
--- candidates of a decided goal fare so, and are certain; so does one
+-- candidates of a decided goal fare so, are certain, and relate no aliases; so does one
 pub record CandidatesSettled (h : Handler) (mode : TypingMode) (n : ℕ) (ts : List Tree) (t : Table) (xs : List CandidateData) (b : Bool) : Type 0 where
   pub fares : OneFares h (mode_of mode) n (content_of ts t.entries) (candidates_of ts xs) b
   pub sure : (x : Candidate) → Among (candidates_of ts xs) x → x.certainty ≡ certain
+  pub plain : (x : Candidate) → Among (candidates_of ts xs) x → HasPlainEquations x
 
 pub record IsSettled (h : Handler) (mode : TypingMode) (n : ℕ) (ts : List Tree) (t : Table) (x : CandidateData) (b : Bool) : Type 0 where
   pub fares : Fares h (mode_of mode) n (content_of ts t.entries) (candidate_of ts x) b
   pub sure : (let y = candidate_of ts x in y.certainty ≡ certain)
+  pub plain : HasPlainEquations (candidate_of ts x)
 
 -- goals of a table, each decided lower than n as the table knows it
 abbrev pub GoalsSettled : Handler → TypingMode → ℕ → List Tree → Table → List (GoalSource × Goal) → Bool → Type 0
@@ -180,10 +183,11 @@ pub record IsFactHere (h : Handler) (mode : TypingMode) (ts : List Tree) (t : Ta
   pub query : IsQueryAtFirst ts t g qs
   pub settled : IsSettledFact h (mode_of mode) (content_of ts t.entries) (tree_at ts g.param_env.node) (tree_at ts g.predicate.node)
 
--- a candidate for the goal that has no goals
+-- a candidate for the goal that has no goals, and relates no aliases
 pub record IsPlainCandidate (ts : List Tree) (g : Goal) (x : Candidate) : Type 0 where
   pub offered : IsCandidateFor (tree_at ts g.param_env.node) (tree_at ts g.predicate.node) x
   pub no_goals : x.goals ≡ []
+  pub plain : HasPlainEquations x
 
 -- what is met of these has no goals
 abbrev pub ArePlainCandidates : List Tree → Table → Goal → List CandidateData → Type 0

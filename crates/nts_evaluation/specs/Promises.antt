@@ -178,7 +178,7 @@ OwnTold h mode a t g qs b r =
 abbrev pub OwnRefuted : Ruling → TypingMode → List Tree → Table → Goal → Type 0
 OwnRefuted h mode a t g =
     IsDenied (let m = h.handler in m.judges) (statement_of (tree_at a g.predicate.node))
-    ⊎ ((x : Candidate) × HasOwnWay (let m = h.handler in m.judges) (tree_at a g.param_env.node) (tree_at a g.predicate.node) x × Fails h (mode_of mode) (kind_for h.handler (tree_at a g.predicate.node)) (content_of a t.entries) x)
+    ⊎ ((x : Candidate) × HasOwnWay (let m = h.handler in m.judges) (tree_at a g.param_env.node) (tree_at a g.predicate.node) x × Fails h (mode_of mode) (kind_for h.handler (tree_at a g.predicate.node)) (content_of a t.entries) (tree_at a g.param_env.node) x)
 
 -- such a goal is answered
 pub record AnswersOwn (R : Rules) (a b : Cx) (g h : SearchGraph) (t : Table) (goal : Goal) (values : List GenericArg) (depth : ℕ) (r : Result (Box (Canonical Response)) EvalError) : Type 0 where
@@ -200,7 +200,7 @@ pub record AnswersSubtype (R : Rules) (a b : Cx) (g h : SearchGraph) (t : Table)
   -- two type variables are of one sub-unification class then, and nothing else is said of them
   pub joined : (n m : ℕ) → AreVariablesIn a.nodes t p n m → IsCutIn (mode_of t.mode) → IfAnswered r (IsJoinedAnswer a.nodes b.nodes t (trees_of a.nodes values) n m)
 
--- a goal about an alias is answered by what a handler offers
+-- a goal about an alias, or one in which an alias stands, is answered by what a handler offers
 pub record AnswersAlias (R : Rules) (a b : Cx) (g h : SearchGraph) (t : Table) (goal : Goal) (values : List GenericArg) (r : Result (Box (Canonical Response)) EvalError) : Type 0 where
   pub grows : Grows a b
   pub searches : Searches a b g h
@@ -236,7 +236,7 @@ TriesEach R a b g h t u goal values xs depth r =
 
 abbrev pub TriesOne : Rules → Cx → Cx → SearchGraph → SearchGraph → Table → Table → Goal → List GenericArg → CandidateData → ℕ → Result (Box (Canonical Response)) EvalError → Type 0
 TriesOne R a b g h t u goal values x depth r =
-    AnswersBy (λ A c v. Always R a (λ s. HoldsSince R.handler s t.mode A c v (tree_at a.nodes goal.predicate.node) (candidate_of a.nodes x))) (λ m. RepliesWith m t.mode a.nodes t goal values x b.nodes) (λ m. FailsIn m t.mode a.nodes t goal x) (λ m n k. IsSettled m t.mode n a.nodes t x k)
+    AnswersBy (λ A c v. Always R a (λ s. HoldsSince R.handler s t.mode A c v (tree_at a.nodes goal.param_env.node) (tree_at a.nodes goal.predicate.node) (candidate_of a.nodes x))) (λ m. RepliesWith m t.mode a.nodes t goal values x b.nodes) (λ m. FailsIn m t.mode a.nodes t goal x) (λ m n k. IsSettled m t.mode n a.nodes t x k)
     (λ m. IsQueryAtFirst a.nodes t goal values → IsPlainCandidate a.nodes goal (candidate_of a.nodes x) → IfAnswered r (IsOverIfSilent b.nodes (trees_of a.nodes values))) R a b g h t u goal values depth r
 
 -- a candidate is run, and what it did stays in the table
@@ -244,8 +244,8 @@ pub record RunsOne (R : Rules) (a b : Cx) (g h : SearchGraph) (t u : Table) (goa
   pub runs : Runs a b t u
   pub searches : Searches a b g h
   pub labels : OnOk r (BringsOnlyOf (asked_terms a.nodes goal) a t b u)
-  pub proved : Always R a (λ s. r ≡ Ok certainty.Yes → HoldsSince R.handler s t.mode (assumed_in b.nodes h) b.nodes u (tree_at a.nodes goal.predicate.node) (candidate_of a.nodes x))
-  pub told : WhereTold R a g (λ m. OnOk r (HasRunTo m t.mode a.nodes t b.nodes u x))
+  pub proved : Always R a (λ s. r ≡ Ok certainty.Yes → HoldsSince R.handler s t.mode (assumed_in b.nodes h) b.nodes u (tree_at a.nodes goal.param_env.node) (tree_at a.nodes goal.predicate.node) (candidate_of a.nodes x))
+  pub told : WhereTold R a g (λ m. OnOk r (HasRunTo m t.mode a.nodes t b.nodes u goal x))
   pub refuted : WhereTold R a g (λ m. r ≡ Err error.NoSolution → FailsIn m t.mode a.nodes t goal x)
   pub decided : AnswersDecided R a g h depth (λ m n k. IsSettled m t.mode n a.nodes t x k) r IsYes
 

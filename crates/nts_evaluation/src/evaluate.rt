@@ -12,6 +12,9 @@ ghost use Rattle.nts_trying.specs.Subtyping.{IsSubtypeGoal};
 ghost use Rattle.nts_trying.specs.Aliasing.{IsEquatedGoal};
 ghost use Rattle.nts_table.specs.Tables.{IsTable};
 ghost use Rattle.nts_meaning.specs.Meant.{rules_of};
+ghost use Rattle.nts_candidates.specs.Offered.{candidate_of};
+ghost use Rattle.nts_terms.specs.Modes.{mode_of};
+ghost use Rattle.nts_theory.specs.RelatingCandidates.{IsCutIn, HasPlainEquations};
 ghost use Rattle.nts_evaluation.specs.Promises.{AnswersQuery, AsksGoal, AsksAdded, EndsRound, AnswersGoal, AnswersOwn, AnswersSubtype, AnswersAlias, AnswersEquated, TriesEach, TriesOne, RunsOne, StepsGoals, StepsOnce};
 
 use nts_asking::{
@@ -29,8 +32,8 @@ use nts_table::InferCtxt;
 use nts_terms::{Cx, GenericArg, Goal, TypingMode};
 use nts_trying::{
     AvailableDepth, EquatedAlias, GoalRow, Judged, OwnGoal, Step, Trial, TypePair, answer_outlives,
-    are_plain, check_leaks, enter_forall, equate, fast_answer, goal_kind, goal_row, judge,
-    keep_response, merge_responses, normal_goals, record_constraints, relate_types,
+    begin_relating, check_leaks, enter_forall, equate, fast_answer, goal_kind, goal_row, judge,
+    keep_response, merge_responses, needs_relating, normal_goals, record_constraints, relate_types,
     relevant_candidates,
 };
 
@@ -308,8 +311,7 @@ fn evaluate_subtype<H: GoalHandler>(
     Ok(response)
 }
 
-/// Answers a goal about an alias by the candidates of the handler. It is in doubt in coherence, and where a candidate relates terms in
-/// which an alias stands.
+/// Answers a goal about an alias, or one in which an alias stands, by the candidates of the handler. In coherence it is in doubt.
 #[cycle(evaluate)]
 #[inline(never)]
 fn evaluate_alias<H: GoalHandler>(
@@ -335,16 +337,11 @@ fn evaluate_alias<H: GoalHandler>(
         return Ok(doubt);
     }
     let candidates = relevant_candidates(cx, handler, table.typing_mode(), goal)?;
-    if !are_plain(cx, goal, &candidates) {
-        cx.terms_are_formed();
-        let doubt = boxed_response(table, cx, values, Certainty::AMBIGUOUS)?;
-        return Ok(doubt);
-    }
     evaluate_candidates(table, cx, handler, graph, goal, &candidates, values, depth)
 }
 
-/// Answers a goal that an alias is equal to a term: asks whether the alias normalizes to the term, and answers what was found out. In
-/// coherence it is in doubt.
+/// Answers a goal that an alias is equal to a term: asks whether the alias normalizes to the term, or, of two aliases, whether both
+/// normalize to one; and answers what was found out. In coherence it is in doubt.
 #[cycle(evaluate)]
 #[inline(never)]
 fn evaluate_equated<H: GoalHandler>(
@@ -370,8 +367,8 @@ fn evaluate_equated<H: GoalHandler>(
         let doubt = boxed_response(table, cx, values, Certainty::AMBIGUOUS)?;
         return Ok(doubt);
     }
-    let mut goals = normal_goals(cx, goal, equated)?;
     let snapshot = table.start_snapshot()?;
+    let mut goals = normal_goals(table, cx, goal, equated)?;
     let mut last_steps = 0;
     let certainty = try_evaluate_goals(
         table,
@@ -502,6 +499,9 @@ fn try_candidate<H: GoalHandler>(
     ensures { RunsOne (rules_of H.ready H.handler handler.now) cx.old cx.new graph.old graph.new
         table.old table.new goal candidate.now depth result }
 {
+    if needs_relating(table, cx, goal, candidate) {
+        return try_relating(table, cx, handler, graph, goal, candidate, depth);
+    }
     let kind = goal_kind(cx, handler, goal);
     let values = equate(table, cx, goal, candidate)?;
     let trial = Trial {
@@ -511,6 +511,44 @@ fn try_candidate<H: GoalHandler>(
     };
     record_constraints(table, cx, trial, &candidate.region_constraints)?;
     let mut goals = trial.added_goals(table, cx, &candidate.goals)?;
+    cx.terms_are_formed();
+    let mut last_steps = 0;
+    let certainty = try_evaluate_goals(
+        table,
+        cx,
+        handler,
+        graph,
+        &mut goals,
+        kind,
+        AvailableDepth::Below(depth),
+        &mut last_steps,
+    )?;
+    cx.terms_are_formed();
+    Ok(candidate.certainty.and(certainty))
+}
+
+/// Tries a candidate of whose equations some relate aliases: relating these leaves goals, which are asked with its own in steps.
+#[cycle(evaluate)]
+fn try_relating<H: GoalHandler>(
+    table: &mut InferCtxt,
+    cx: &mut Cx,
+    handler: &H,
+    graph: &mut SearchGraph,
+    goal: Goal,
+    candidate: &CandidateData,
+    depth: usize,
+) -> Result<Certainty, EvalError>
+    requires posed { IsPosed cx.old.nodes table.old goal }
+    requires ready { H.ready cx.old.nodes handler.now }
+    requires candidate { IsCandidate cx.old.nodes goal candidate.now }
+    requires outside { IsCutIn (mode_of table.old.mode) }
+    requires some { HasPlainEquations (candidate_of cx.old.nodes candidate.now) → ⊥ }
+    requires search { IsSearch cx.old graph.old (depth) }
+    ensures { RunsOne (rules_of H.ready H.handler handler.now) cx.old cx.new graph.old graph.new
+        table.old table.new goal candidate.now depth result }
+{
+    let kind = goal_kind(cx, handler, goal);
+    let mut goals = begin_relating(table, cx, goal, candidate)?;
     cx.terms_are_formed();
     let mut last_steps = 0;
     let certainty = try_evaluate_goals(

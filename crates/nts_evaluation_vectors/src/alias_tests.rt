@@ -4,7 +4,7 @@ use crate::aliases::Norm;
 use crate::asking::Answer::{Is, NotAdmitted, Refused};
 use crate::asking::Asked::{self, Goal, Resolves};
 use crate::asking::DOUBT;
-use crate::asking::Wanted::Alias;
+use crate::asking::Wanted::{Alias, Plain};
 use crate::steps::Given::{self, Let, Trait};
 use crate::steps::{By, Of, Part, Rule, plays};
 use nts_certainty::{Certainty, HasChanged};
@@ -21,6 +21,16 @@ const GIVEN: &[Given] = &[
     Let("alias", Make::AliasOf("byte")),
     Let("x", Make::Var(VariableKind::Ty)),
     Let("y", Make::Var(VariableKind::Ty)),
+];
+
+/// .. and another alias.
+const PAIR: &[Given] = &[
+    Trait(&[Sort::Ty]),
+    Let("byte", BYTE),
+    Let("word", WORD),
+    Let("alias", Make::AliasOf("byte")),
+    Let("other", Make::AliasOf("word")),
+    Let("x", Make::Var(VariableKind::Ty)),
 ];
 
 /// A goal may not be asked what an alias normalizes to, but what it is equal to.
@@ -108,20 +118,70 @@ fn a_clause_of_an_alias_has_a_condition(rt: HostRuntime) {
     plays(&rt, rt.alloc(), TypingMode::PostAnalysis, GIVEN, PARTS);
 }
 
-/// What an alias normalizes to may have an alias. That is not normalized further yet, and in doubt.
+/// What an alias normalizes to may be another alias, which is normalized in its turn. Two aliases are equal where both normalize to one
+/// type.
 #[test]
-fn an_alias_within_a_result_is_in_doubt(rt: HostRuntime) {
+fn an_alias_may_normalize_to_another(rt: HostRuntime) {
     const NORMS: &[Norm] = &[
         Norm(&[], "word", "alias", None),
         Norm(&[], "byte", "word", None),
     ];
     const ASKED: &[Asked] = &[
-        Goal(Alias(Projects("word", "word")), Is(DOUBT, HasChanged::No)),
-        Goal(Alias(Projects("word", "byte")), Is(DOUBT, HasChanged::No)),
-        Goal(Alias(Equal("alias", "alias")), Is(DOUBT, HasChanged::No)),
+        Goal(Alias(Projects("word", "word")), Is(YES, HasChanged::No)),
+        Goal(Alias(Projects("word", "byte")), Refused),
+        Goal(Alias(Equal("alias", "alias")), Is(YES, HasChanged::No)),
+        Goal(Alias(Equal("alias", "other")), Is(YES, HasChanged::No)),
+        Goal(Alias(Projects("word", "x")), Is(YES, HasChanged::Yes)),
+        Resolves("x", "word"),
     ];
     const PARTS: &[Part] = &[Part(By::Aliases(NORMS), &[], ASKED)];
-    plays(&rt, rt.alloc(), TypingMode::PostAnalysis, GIVEN, PARTS);
+    plays(&rt, rt.alloc(), TypingMode::PostAnalysis, PAIR, PARTS);
+}
+
+/// Two aliases that normalize to two types are not equal, nor is one that normalizes to nothing.
+#[test]
+fn two_aliases_have_to_normalize_to_one_type(rt: HostRuntime) {
+    const APART: &[Norm] = &[
+        Norm(&[], "byte", "word", None),
+        Norm(&[], "word", "byte", None),
+    ];
+    const ONE: &[Norm] = &[Norm(&[], "byte", "word", None)];
+    const ASKED: &[Asked] = &[Goal(Alias(Equal("alias", "other")), Refused)];
+    const PARTS: &[Part] = &[
+        Part(By::Aliases(APART), &[], ASKED),
+        Part(By::Aliases(ONE), &[], ASKED),
+    ];
+    plays(&rt, rt.alloc(), TypingMode::PostAnalysis, PAIR, PARTS);
+}
+
+/// A trait holds of an alias where it holds of what the alias normalizes to.
+#[test]
+fn a_trait_holds_of_an_alias_by_its_type(rt: HostRuntime) {
+    const NORMS: &[Norm] = &[Norm(&[], "byte", "word", None)];
+    const FOR_WORD: &[Rule] = &[Rule(&[], Of(0, &["word"]), None)];
+    const FOR_BYTE: &[Rule] = &[Rule(&[], Of(0, &["byte"]), None)];
+    const HOLDS: &[Asked] = &[Goal(Plain(Of(0, &["alias"])), Is(YES, HasChanged::No))];
+    const FAILS: &[Asked] = &[Goal(Plain(Of(0, &["alias"])), Refused)];
+    const PARTS: &[Part] = &[
+        Part(By::Aliases(NORMS), FOR_WORD, HOLDS),
+        Part(By::Aliases(NORMS), FOR_BYTE, FAILS),
+        Part(By::Aliases(&[]), FOR_WORD, FAILS),
+    ];
+    plays(&rt, rt.alloc(), TypingMode::PostAnalysis, PAIR, PARTS);
+}
+
+/// .. and so it does where the rule is for an alias, and the goal for its type.
+#[test]
+fn a_rule_for_an_alias_serves_its_type(rt: HostRuntime) {
+    const NORMS: &[Norm] = &[Norm(&[], "byte", "word", None)];
+    const FOR_ALIAS: &[Rule] = &[Rule(&[], Of(0, &["alias"]), None)];
+    const ASKED: &[Asked] = &[
+        Goal(Plain(Of(0, &["word"])), Is(YES, HasChanged::No)),
+        Goal(Plain(Of(0, &["alias"])), Is(YES, HasChanged::No)),
+        Goal(Plain(Of(0, &["byte"])), Refused),
+    ];
+    const PARTS: &[Part] = &[Part(By::Aliases(NORMS), FOR_ALIAS, ASKED)];
+    plays(&rt, rt.alloc(), TypingMode::PostAnalysis, PAIR, PARTS);
 }
 
 /// In coherence goals about aliases are in doubt.

@@ -255,19 +255,19 @@ pub record HasRun (m : Meaning) (mode : Mode) (z : GoalKind) (A : List Assumed) 
   pub goals : EachStays c (PremiseHolds m mode z A vs) x.goals
 
 -- so the candidate holds
-pub has_run : (m : Meaning) (mode : Mode) (A : List Assumed) (c : Content) (x : Candidate) (vs : List Tree) (g : Tree) → IsTermTable c → HasRun m mode (goal_kind m g) A c x vs → HoldsSurely m mode A c g x
-has_run m mode A c x vs g t run =
+pub has_run : (m : Meaning) (mode : Mode) (A : List Assumed) (c : Content) (x : Candidate) (vs : List Tree) (e g : Tree) → IsTermTable c → HasRun m mode (goal_kind m g) A c x vs → HoldsSurely m mode A c e g x
+has_run m mode A c x vs e g t run =
     let same = Continues-refl c t.sound in
     record {
       sure = run.sure;
-      holds = record {
+      holds = inl (record {
         chosen = vs;
         values = run.values;
         known = λ v i. one_known c vs v run.known i;
         equations = λ q i. (let s = each_stays c (EquationHolds vs) x.equations q run.equations i in s.later c t same);
         constraints = λ q i. (let s = each_stays c (ConstraintHolds vs) x.constraints q run.constraints i in s.later c t same);
         goals = λ q i. (let s = each_stays c (PremiseHolds m mode (goal_kind m g) A vs) x.goals q run.goals i in s.later c t same);
-      };
+      });
     }
 
 -- lists of a candidate's parts, whose values stand in a store that grows

@@ -6,12 +6,13 @@ use Rattle.std.proofs.lemmas.List.Elements.{All-cons, All-head, All-tail}
 use Rattle.nts_model.specs.declared.labels.Sort.{Sort}
 use Rattle.nts_model.specs.Terms.Trees.{Tree, Place, more, empty}
 use Rattle.nts_model.specs.Tables.Contents.{Content}
-use Rattle.nts_model.specs.Derivations.Sequents.{PathKind, coinductive, unknown, inductive, forced_ambiguity}
-use Rattle.nts_model.specs.Derivations.Rules.{Meaning, Mode, goal_kind, step_kind}
+use Rattle.nts_model.specs.Derivations.Sequents.{Premise, PathKind, coinductive, unknown, inductive, forced_ambiguity}
+use Rattle.nts_model.specs.Derivations.Rules.{Meaning, Mode, Equation, related, alike, goal_kind, step_kind}
+use Rattle.nts_theory.specs.RelatingCandidates.{HoldsEquationFrom}
 use Rattle.nts_model.specs.Derivations.Proving.{sequent_at}
 use Rattle.nts_model.specs.Derivations.Proofs.{Assumed, passed}
 use Rattle.nts_model.specs.Derivations.Handlers.{Handler, Candidate}
-use Rattle.nts_model.specs.Searching.Stacks.{IsProvedFrom, IsReadSince, AreReadSince, assumptions, path_kind}
+use Rattle.nts_model.specs.Searching.Stacks.{IsProvedFrom, IsProvedFromAt, IsReadSince, AreReadSince, assumptions, path_kind}
 use Rattle.nts_theory.proofs.Searching.Stacks.{read_since_covers}
 use Rattle.nts_model.specs.Canonical.Inputs.{PositionKind, CanonicalInput as Form}
 use Rattle.nts_model.specs.Answers.Responses.{IsResponseTo, IsOverPositions}
@@ -33,7 +34,7 @@ use Rattle.nts_response.specs.declared.types.Response.{Response}
 use Rattle.nts_response.specs.Applicable.{IsOverSorts, IsHiddenOver, IsGoalOver, IsApplicable, response_sorts}
 use Rattle.nts_response.proofs.Each.{response_kept}
 use Rattle.nts_meaning.specs.Answering.{IsFormOf, IsQueryInput, IsAnswerTo, TellsNoMore}
-use Rattle.nts_meaning.specs.Meant.{IsServed, HoldsSurely}
+use Rattle.nts_meaning.specs.Meant.{IsServed, HoldsEither, HoldsSurely}
 use Rattle.nts_meaning.specs.Running.{Stays}
 use Rattle.nts_meaning.specs.Telling.{Ruling, QueryTells}
 use Rattle.nts_candidates.specs.Offered.{path_kind_of}
@@ -241,27 +242,29 @@ none_passed forced_ambiguity = refl
 pub stays_more : {c : Content} {m : Meaning} {mode : Mode} {A B : List Assumed} {e p : Tree} → Covers A B → Stays c (λ d. IsProvedFrom m mode A d e p) → Stays c (λ d. IsProvedFrom m mode B d e p)
 stays_more {c} {m} {mode} {A} {B} {e} {p} f s = record { later = λ d t k. derived_more m mode A B (sequent_at d e p) f (s.later d t k) }
 
-pub held_more : {m : Meaning} {mode : Mode} {A B : List Assumed} {c : Content} {g : Tree} {d : Candidate} → Covers A B → HoldsSurely m mode A c g d → HoldsSurely m mode B c g d
-held_more {m} {mode} {A} {B} {c} {g} f s =
-    let x = s.holds in
-    record {
-      sure = s.sure;
-      holds = record {
-        chosen = x.chosen;
-        values = x.values;
-        known = x.known;
-        equations = x.equations;
-        constraints = x.constraints;
-        goals = λ q i.
-            (let y = x.goals q i in
-            let k = step_kind (goal_kind m g) q.source in
-            record { environment = y.environment; predicate = y.predicate; proved = derived_more m mode (passed k A) (passed k B) _ (covers_passed k A B f) y.proved });
-      };
-    }
+pub equation_more : (m : Meaning) (mode : Mode) (A B : List Assumed) (c : Content) (e : Tree) (vs : List Tree) (q : Equation) → Covers A B → HoldsEquationFrom m mode A c e vs q → HoldsEquationFrom m mode B c e vs q
+equation_more m mode A B c e vs (alike a b) f h = h
+equation_more m mode A B c e vs (related a b) f (inl h) = inl h
+equation_more m mode A B c e vs (related a b) f (inr h) =
+    inr (record { left = h.left; right = h.right; goals = h.goals; proved = λ g i. (let x = h.proved g i in (x.0, derived_more m mode A B (sequent_at c e g) f x.1)); related = h.related })
+
+pub goal_more : (m : Meaning) (mode : Mode) (A B : List Assumed) (c : Content) (g : Tree) (vs : List Tree) (q : Premise) → Covers A B → IsProvedFromAt m mode (passed (step_kind (goal_kind m g) q.source) A) c vs q → IsProvedFromAt m mode (passed (step_kind (goal_kind m g) q.source) B) c vs q
+goal_more m mode A B c g vs q f y =
+    let k = step_kind (goal_kind m g) q.source in
+    record { environment = y.environment; predicate = y.predicate; proved = derived_more m mode (passed k A) (passed k B) _ (covers_passed k A B f) y.proved }
+
+pub held_more : {m : Meaning} {mode : Mode} {A B : List Assumed} {c : Content} {e g : Tree} {d : Candidate} → Covers A B → HoldsSurely m mode A c e g d → HoldsSurely m mode B c e g d
+held_more {m} {mode} {A} {B} {c} {e} {g} {d} f s = record { sure = s.sure; holds = by_case s.holds }
+  where
+    by_case : HoldsEither m mode A c e g d → HoldsEither m mode B c e g d
+    by_case (inl x) =
+        inl (record { chosen = x.chosen; values = x.values; known = x.known; equations = x.equations; constraints = x.constraints; goals = λ q i. goal_more m mode A B c g x.chosen q f (x.goals q i) })
+    by_case (inr (some, x)) =
+        inr (some, record { chosen = x.chosen; values = x.values; known = x.known; equations = λ q i. equation_more m mode A B c e x.chosen q f (x.equations q i); constraints = x.constraints; goals = λ q i. goal_more m mode A B c g x.chosen q f (x.goals q i) })
 
 pub served_more : {h : Handler} {m : Meaning} {mode : Mode} {A B : List Assumed} {c : Content} {e g : Tree} → Covers A B → IsServed h m mode A c e g → IsServed h m mode B c e g
 served_more {h} {m} {mode} {A} {B} {c} {e} {g} f s =
-    let x : HoldsSurely m mode B c g s.candidate = held_more f (record { sure = s.sure; holds = s.holds }) in
+    let x : HoldsSurely m mode B c e g s.candidate = held_more f (record { sure = s.sure; holds = s.holds }) in
     record { candidate = s.candidate; offered = s.offered; sure = x.sure; holds = x.holds }
 
 -- what provisional answers tell

@@ -31,7 +31,8 @@ use Rattle.nts_model.specs.Answers.Responses.{answer_sequent}
 use Rattle.nts_candidates.specs.Offered.{source_of, candidate_of, candidates_of}
 use Rattle.nts_meaning.specs.Telling.{Ruling, Tells, Refutes, Outcomes, Replies, Fails, Reaches, RefusesOne, Asked, Refused, QueryTells, QueryRefutes}
 use Rattle.nts_theory.specs.Telling.{IsPlainResponse}
-use Rattle.nts_theory.specs.RelatingCandidates.{goals_with, IsBegun}
+use Rattle.nts_theory.specs.RelatingCandidates.{HasPlainEquations, HoldsByRelating, Begins}
+use Rattle.nts_model.specs.Derivations.Sequents.{Premise}
 use Rattle.nts_meaning.specs.Evaluation.{goals_at}
 use Rattle.nts_meaning.specs.Running.{StaysProved}
 use Rattle.nts_certainty.specs.declared.certainty.Certainty.{Certainty}
@@ -83,20 +84,25 @@ AreOffered h mode ts g cs = (x : Candidate) → Among (candidates_of ts cs) x �
 abbrev pub IsOffered : Handler → TypingMode → List Tree → Goal → CandidateData → Type 0
 IsOffered h mode ts g c = Among (offers_of h (mode_of mode) ts g) (candidate_of ts c)
 
--- a candidate for the goal g is certain, and holds; its goals are proved from what is assumed at the goal, after a step
-pub record HoldsSurely (m : Meaning) (mode : Mode) (A : List Assumed) (c : Content) (g : Tree) (x : Candidate) : Type 0 where
-  pub sure : x.certainty ≡ certain
-  pub holds : HoldsCandidateFrom m mode A c g x
+-- a candidate for the goal g of the environment e holds: its goals are proved from what is assumed at the goal, after a step. Where an
+-- equation of it relates aliases, what relating left is proved too
+abbrev pub HoldsEither : Meaning → Mode → List Assumed → Content → Tree → Tree → Candidate → Type 0
+HoldsEither m mode A c e g x = HoldsCandidateFrom m mode A c g x ⊎ (HasPlainEquations x → ⊥) × HoldsByRelating m mode A c e g x
 
-abbrev pub HoldsSince : {ready : List Tree → Type 0} {now : Cx} → (List Tree → Handler) → Since ready now → TypingMode → List Assumed → List Tree → Table → Tree → Candidate → Type 0
-HoldsSince handler s mode A ts t g x = HoldsSurely (meaning_since handler s) (mode_of mode) A (content_of ts t.entries) g x
+-- .. and is certain
+pub record HoldsSurely (m : Meaning) (mode : Mode) (A : List Assumed) (c : Content) (e g : Tree) (x : Candidate) : Type 0 where
+  pub sure : x.certainty ≡ certain
+  pub holds : HoldsEither m mode A c e g x
+
+abbrev pub HoldsSince : {ready : List Tree → Type 0} {now : Cx} → (List Tree → Handler) → Since ready now → TypingMode → List Assumed → List Tree → Table → Tree → Tree → Candidate → Type 0
+HoldsSince handler s mode A ts t e g x = HoldsSurely (meaning_since handler s) (mode_of mode) A (content_of ts t.entries) e g x
 
 -- one of the candidates that a handler offers for a goal does
 pub record IsServed (h : Handler) (m : Meaning) (mode : Mode) (A : List Assumed) (c : Content) (e g : Tree) : Type 0 where
   pub candidate : Candidate
   pub offered : Among (h.offers mode e g) candidate
   pub sure : candidate.certainty ≡ certain
-  pub holds : HoldsCandidateFrom m mode A c g candidate
+  pub holds : HoldsEither m mode A c e g candidate
 
 abbrev pub IsServedSince : {ready : List Tree → Type 0} {now : Cx} → (List Tree → Handler) → Since ready now → TypingMode → List Assumed → List Tree → Table → Goal → Type 0
 IsServedSince handler s mode A ts t g =
@@ -175,14 +181,14 @@ abbrev pub RepliesWith : Ruling → TypingMode → List Tree → Table → Goal 
 RepliesWith h mode a t g qs x b r = Replies h (mode_of mode) (content_of a t.entries) (tree_at a g.param_env.node) (tree_at a g.predicate.node) (trees_of a qs) (candidate_of a x) (verdict_at b r)
 
 abbrev pub FailsIn : Ruling → TypingMode → List Tree → Table → Goal → CandidateData → Type 0
-FailsIn h mode a t g x = Fails h (mode_of mode) (kind_for h.handler (tree_at a g.predicate.node)) (content_of a t.entries) (candidate_of a x)
+FailsIn h mode a t g x = Fails h (mode_of mode) (kind_for h.handler (tree_at a g.predicate.node)) (content_of a t.entries) (tree_at a g.param_env.node) (candidate_of a x)
 
--- a candidate was run: it is begun, and then some of its goals are asked
-pub record HasRunTo (h : Ruling) (mode : TypingMode) (a : List Tree) (t : Table) (b : List Tree) (u : Table) (x : CandidateData) : Type 0 where
-  pub values : List Tree
+-- a candidate for a goal was run: it is begun, and then some of what is left of it is asked
+pub record HasRunTo (h : Ruling) (mode : TypingMode) (a : List Tree) (t : Table) (b : List Tree) (u : Table) (g : Goal) (x : CandidateData) : Type 0 where
+  pub left : List Premise
   pub met : Content
-  pub begun : IsBegun (content_of a t.entries) (candidate_of a x) values met
-  pub reaches : (let y = candidate_of a x in Reaches h (mode_of mode) (goals_with values y.goals) met (content_of b u.entries))
+  pub begun : Begins h.variances (mode_of mode) (content_of a t.entries) (tree_at a g.param_env.node) (candidate_of a x) met left
+  pub reaches : Reaches h (mode_of mode) left met (content_of b u.entries)
 
 -- goals of the store a were asked
 abbrev pub ReachesBy : Ruling → TypingMode → List Tree → Table → List Tree → Table → List (GoalSource × Goal) → Type 0

@@ -32,8 +32,8 @@ Outcomes h mode c e g qs xs vs = tells.Outcomes (queries h.variances) h.handler 
 abbrev pub Replies : Ruling → Mode → Content → Tree → Tree → List Tree → Candidate → Verdict → Type 0
 Replies h mode c e g qs x v = tells.Replies (queries h.variances) h.handler mode c e g qs x v
 
-abbrev pub Fails : Ruling → Mode → GoalKind → Content → Candidate → Type 0
-Fails h mode k c x = tells.Fails (queries h.variances) h.handler mode k c x
+abbrev pub Fails : Ruling → Mode → GoalKind → Content → Tree → Candidate → Type 0
+Fails h mode k c e x = tells.Fails (queries h.variances) h.handler mode k c e x
 
 abbrev pub Reaches : Ruling → Mode → List Premise → Content → Content → Type 0
 Reaches h mode gs c d = tells.Reaches (queries h.variances) h.handler mode gs c d

@@ -1,5 +1,5 @@
 -- What a handler affirms or denies of a goal of the engine's own kinds, and which have one way, by what the goal states.
-use Rattle.std.proofs.Common.{◌≡◌, ℕ, List, refl, sym, subst, ◌∙◌}
+use Rattle.std.proofs.Common.{◌≡◌, List, refl, sym, subst, ◌∙◌}
 use Rattle.std.specs.Prelude.{◌≢◌, IsTrue, None, false}
 use Rattle.nts_model.specs.declared.labels.ClauseHead.TheVariants as clause_head
 use Rattle.nts_model.specs.declared.labels.ConstHead.TheVariants as const_head

@@ -34,7 +34,7 @@ fixed_passes P q (leaf.Region region.Error) h = q _ tt
 fixed_passes P q l h = absurd h
 
 -- a term of a candidate with values in place of its positions, where the goal's terms and the values pass
-over_passes : {a : List Tree} {t : Table} {fresh : List Sort} {g : Goal} {vs : List NodeId} {x : NodeId} → IsOverIn a fresh g x → AreValues a t fresh vs → (P : Label → Bool) → PassesQueries P → ((u : Tree) → Among (asked_terms a g) u → TreePasses P u) → TreePasses P (instance_at a vs x)
+pub over_passes : {a : List Tree} {t : Table} {fresh : List Sort} {g : Goal} {vs : List NodeId} {x : NodeId} → IsOverIn a fresh g x → AreValues a t fresh vs → (P : Label → Bool) → PassesQueries P → ((u : Tree) → Among (asked_terms a g) u → TreePasses P u) → TreePasses P (instance_at a vs x)
 over_passes {a} {t} {fresh} {g} {vs} {x} o v P q h =
     let e = tree_at a g.param_env.node in
     let p = tree_at a g.predicate.node in

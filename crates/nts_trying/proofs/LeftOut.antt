@@ -1,9 +1,10 @@
 -- Candidates that a handler left out fail, since no values meet their equations.
-use Rattle.std.proofs.Common.{◌≡◌, ◌⊎◌, inl, inr, List, [], ◌∷◌, ◌++◌, Some, ap, sym, ◌∙◌, subst, arith, length, length-append}
+use Rattle.std.proofs.Common.{◌≡◌, ◌⊎◌, inl, inr, List, [], ◌∷◌, ◌++◌, Some, false, refl, ap, sym, ◌∙◌, subst, arith, length, length-append}
 use Rattle.nts_model.specs.declared.labels.TyHead.{TyHead}
+use Rattle.nts_model.specs.declared.labels.TyHead.TheVariants as ty
 use Rattle.nts_model.specs.declared.labels.Leaf.{Leaf}
 use Rattle.nts_model.specs.declared.labels.Label.TheVariants as label
-use Rattle.nts_model.specs.Terms.Trees.{Tree, empty, more, node}
+use Rattle.nts_model.specs.Terms.Trees.{Tree, empty, more, node, label_of, is_alias}
 use Rattle.nts_model.specs.Tables.Contents.{Content}
 use Rattle.nts_model.specs.Lists.{Among}
 use Rattle.nts_model.specs.Derivations.Rules.{Mode, related}
@@ -14,7 +15,8 @@ use Rattle.nts_model.specs.Refutation.Choosing.{IsCandidateMet}
 use Rattle.nts_delegate.specs.Relevant.{built_by, IsIrrelevant, LeavesOut}
 use Rattle.nts_delegate.specs.Relevant.LeavesOut.{none, offered, left_out}
 use Rattle.nts_theory.specs.Telling.Outcomes.{no_outcome, then_fails, then_replies}
-use Rattle.nts_theory.specs.Telling.Fails.{is_unmet}
+use Rattle.nts_theory.specs.Telling.Fails.{has_types_apart}
+use Rattle.nts_theory.specs.RelatingCandidates.{HasTypesApart}
 use Rattle.nts_unify.proofs.SavedLemmas.{push_inj}
 use Rattle.nts_meaning.specs.Meant.{offers_of, AreOffered}
 use Rattle.nts_terms.specs.declared.handles.Goal.{Goal}
@@ -23,6 +25,34 @@ use Rattle.nts_terms.specs.Modes.{mode_of}
 use Rattle.nts_candidates.specs.declared.data.CandidateData.{CandidateData}
 use Rattle.nts_candidates.specs.Offered.{candidates_of}
 use Rattle.nts_theory.specs.Telling.{Verdict, kind_for}
+
+some_inj : (a b : TyHead) → Some a ≡ Some b → a ≡ b
+some_inj a b e = cc e
+
+-- what is built differently is apart
+built_label : (t : Tree) (h : TyHead) → built_by t ≡ Some h → (label_of t ≡ Some (label.Ty h)) × (is_alias (label.Ty h) ≡ false)
+built_label (node (label.Ty (ty.Ctor i)) c) h e = (cc e, let same = some_inj (ty.Ctor i) h e in rw (← same) refl)
+built_label (node (label.Ty (ty.Int i)) c) h e = (cc e, let same = some_inj (ty.Int i) h e in rw (← same) refl)
+built_label (node (label.Ty (ty.Uint i)) c) h e = (cc e, let same = some_inj (ty.Uint i) h e in rw (← same) refl)
+built_label (node (label.Ty (ty.Float i)) c) h e = (cc e, let same = some_inj (ty.Float i) h e in rw (← same) refl)
+built_label (node (label.Ty ty.FnPtr) c) h e = (cc e, let same = some_inj ty.FnPtr h e in rw (← same) refl)
+built_label (node (label.Ty ty.Error) c) h e = (cc e, let same = some_inj ty.Error h e in rw (← same) refl)
+built_label (node (label.Ty (ty.Alias i)) c) h e = absurd (cc e)
+built_label (node (label.Leaf x) c) h e = absurd (cc e)
+built_label (node (label.Bound s i n) c) h e = absurd (cc e)
+built_label (node (label.Const x) c) h e = absurd (cc e)
+built_label (node (label.Clause x) c) h e = absurd (cc e)
+built_label (node (label.Predicate x) c) h e = absurd (cc e)
+built_label (node (label.List x) c) h e = absurd (cc e)
+built_label empty h e = absurd (cc e)
+built_label (more a b) h e = absurd (cc e)
+
+built_apart : (x : Candidate) → IsIrrelevant x → HasTypesApart x
+built_apart x r =
+    let y = r.apart in
+    let a = built_label r.left y.left y.of_left in
+    let b = built_label r.right y.right y.of_right in
+    record { left = r.left; right = r.right; equation = r.equation; apart = record { left = y.left; right = y.right; of_left = a.0; of_right = b.0; apart = y.apart; left_plain = a.1; right_plain = b.1 } }
 
 -- values leave what a type is built by
 built_filled : (f : Leaf → Tree) (vs : List Tree) (t : Tree) (h : TyHead) → built_by t ≡ Some h → built_by (filled_under f vs t) ≡ Some h
@@ -36,9 +66,6 @@ built_filled f vs (node (label.List x) c) h e = cc e
 built_filled f vs empty h e = cc e
 built_filled f vs (more a b) h e = cc e
 
-some_inj : (a b : TyHead) → Some a ≡ Some b → a ≡ b
-some_inj a b e = cc e
-
 pub unmet : (c : Content) (x : Candidate) → IsIrrelevant x → IsCandidateMet c x → ⊥
 unmet c x r m =
     let one = m.equal (related r.left r.right) r.equation in
@@ -50,14 +77,14 @@ unmet c x r m =
 last_outcome : {h : Ruling} {mode : Mode} {c : Content} {k p : Tree} {qs : List Tree} {rs : List Verdict} (xs ys zs : List Candidate) (x : Candidate) → zs ≡ ys ++ x ∷ [] → ((ws : List Candidate) (ps : List Verdict) → ws ≡ ys → Outcomes h mode c k p qs ws ps → Outcomes h mode c k p qs xs ps) → Outcomes h mode c k p qs zs rs → Outcomes h mode c k p qs (xs ++ x ∷ []) rs
 last_outcome xs ys zs x e before no_outcome = absurd (let l = ap length e in omega (arith, l, length-append ys (x ∷ [])))
 last_outcome {h} {mode} {c} {k} {p} {qs} xs ys zs x e before (then_fails {xs = ws} {vs = ps} {x = w} o f) =
-    let same = push_inj ws ys w x e in then_fails (before ws ps same.0 o) (subst (Fails h mode (kind_for h.handler p) c) same.1 f)
+    let same = push_inj ws ys w x e in then_fails (before ws ps same.0 o) (subst (Fails h mode (kind_for h.handler p) c k) same.1 f)
 last_outcome {h} {mode} {c} {k} {p} {qs} xs ys zs x e before (then_replies {xs = ws} {vs = ps} {x = w} {v = r} o f) =
     let same = push_inj ws ys w x e in then_replies (before ws ps same.0 o) (subst (λ z. Replies h mode c k p qs z r) same.1 f)
 
 -- so the outcomes of the others are outcomes of all
 pub all_outcomes : {h : Ruling} {mode : Mode} {c : Content} {k p : Tree} {qs : List Tree} {xs ys : List Candidate} → LeavesOut xs ys → (zs : List Candidate) (rs : List Verdict) → zs ≡ ys → Outcomes h mode c k p qs zs rs → Outcomes h mode c k p qs xs rs
 all_outcomes {h} {mode} {c} {k} {p} {qs} none zs rs e o = subst (λ z. Outcomes h mode c k p qs z rs) e o
-all_outcomes {h} {mode} {c} {k} {p} {qs} (left_out {xs} {ys} x l r) zs rs e o = then_fails (all_outcomes l zs rs e o) (is_unmet (unmet c x r))
+all_outcomes {h} {mode} {c} {k} {p} {qs} (left_out {xs} {ys} x l r) zs rs e o = then_fails (all_outcomes l zs rs e o) (has_types_apart (built_apart x r))
 all_outcomes {h} {mode} {c} {k} {p} {qs} (offered {xs} {ys} x l) zs rs e o = last_outcome xs ys zs x e (λ ws ps q p. all_outcomes l ws ps q p) o
 
 -- .. and each of the others is among all

@@ -5,6 +5,9 @@ pub mod Constraining
 pub mod Opened
 pub mod Probed
 pub mod Ran
+pub mod BegunRelating
+pub mod HeldRelating
+mod RelatingExamples
 pub mod Outcomes
 pub mod Stepping
 pub mod Entering
@@ -17,7 +20,7 @@ pub mod Outliving
 pub mod SubtypeGoals
 pub mod AliasGoals
 pub mod NormalGoals
-mod Plain
+pub mod RelatedAliases
 mod AnsweredTypes
 pub mod JoinedTypes
 pub mod RelatedTypes

@@ -33,31 +33,43 @@ use Rattle.nts_model.specs.Tables.Passing.{TreePasses, PassesQueries, BringsOnly
 use Rattle.nts_model.specs.Lists.{Among}
 use Rattle.nts_model.specs.Derivations.Related.{alias, alias_goal, pair, unbound, no_sorts, IsAlias, one_tree}
 use Rattle.nts_model.specs.Derivations.Sequents.{Premise}
-use Rattle.nts_model.specs.Derivations.Rules.{Meaning, Mode, other_goal, step_kind, relating, normalization_goal}
-use Rattle.nts_model.specs.Derivations.Proofs.{Assumed, passed}
+use Rattle.nts_model.specs.Derivations.Rules.{Meaning, Mode, relating, normalization_goal}
+use Rattle.nts_model.specs.Derivations.Proofs.{Assumed}
 use Rattle.nts_model.proofs.Tables.Held.{Continues-refl}
 use Rattle.nts_model.specs.Derivations.Proving.{HoldsTerms, AreConstraintsOf, IsTermOf}
 use Rattle.nts_model.specs.Searching.Stacks.{IsProvedFrom}
 use Rattle.nts_model.specs.Refutation.Opening.{binds, opened_in}
-use Rattle.nts_theory.specs.Aliasing.{EquatesAlias, NormalizesSide}
+use Rattle.nts_theory.specs.Aliasing.{EquatesAlias, EquatesAliases}
 use Rattle.nts_theory.proofs.Derivations.Served.{IsClosedEnvironment}
 use Rattle.nts_theory.proofs.Aliases.ByEngine.{IsClosedThere, read_closed}
-use Rattle.nts_theory.proofs.Aliases.ByRelating.{about, is_answered, no_goals, IsSide, relation_follows}
+use Rattle.nts_theory.proofs.Aliases.ByRelating.{is_answered, no_goals, IsSide, relation_follows}
 use Rattle.nts_store.specs.Formed.{AreFormed}
 use Rattle.nts_store.specs.Growth.{tree_at, Extends}
 use Rattle.nts_store.proofs.Growing.{Extends-trans}
 use Rattle.nts_certainty.specs.declared.sources.GoalSource.{GoalSource}
 use Rattle.nts_certainty.specs.declared.sources.GoalSource.TheVariants as source
-use Rattle.nts_candidates.specs.Offered.{source_of}
+use Rattle.nts_terms.specs.declared.cx.Cx.{Cx}
 use Rattle.nts_terms.specs.declared.handles.Goal.{Goal}
 use Rattle.nts_terms.specs.declared.handles.ParamEnv.{ParamEnv}
-use Rattle.nts_terms.specs.Handles.{HoldsEnv, HoldsTerm}
-use Rattle.nts_table.specs.Tables.{Table, IsTable}
+use Rattle.nts_terms.specs.Handles.{HoldsPredicate, HoldsTerm}
+use Rattle.nts_table.specs.Tables.{Table}
 use Rattle.nts_unify.specs.Reading.{content_of}
+use Rattle.nts_unify.specs.Lawful.{content_of-extended}
 use Rattle.nts_meaning.specs.Evaluation.{Goes, IsPosed, asked_terms, goals_at}
+use Rattle.nts_response.specs.Forms.{premise_at}
+use Rattle.nts_meaning.proofs.Evaluating.{Goes-extends, IsPosed-later}
 use Rattle.nts_meaning.specs.Running.{StaysProved}
 use Rattle.nts_meaning.proofs.Running.{term_table}
-use Rattle.nts_trying.specs.Aliasing.{EquatedIn, IsEquatedGoal, AreNormalGoals, IsNormalizedBy}
+use Rattle.nts_model.specs.declared.labels.VariableKind.{VariableKind}
+use Rattle.nts_model.specs.Answers.Applying.{IsNew}
+use Rattle.nts_model.specs.Tables.Passing.{BringsNoLabels}
+use Rattle.nts_model.proofs.Tables.Bringing.{query_variables}
+use Rattle.nts_theory.proofs.Responses.Applying.{new_knows}
+use Rattle.nts_store.specs.declared.nodes.NodeId.{NodeId}
+use Rattle.nts_store.specs.Growth.{IsIn}
+use Rattle.nts_store.proofs.Growing.{IsIn-extended}
+use Rattle.nts_meaning.proofs.Evaluating.{Knows-goes}
+use Rattle.nts_trying.specs.Aliasing.{IsEquatedGoal, IsNormalGoal, LeavesOne, LeavesTwo, BeginsNormalizing, NormalizesAlone, NormalizesTogether, IsNormalizedBy}
 use Rattle.nts_trying.specs.Stepping.{ArePosed, terms_of}
 use Rattle.nts_trying.specs.declared.normal.EquatedAlias.{EquatedAlias}
 use Rattle.nts_trying.proofs.SubtypeGoals.{relating_proved}
@@ -86,20 +98,15 @@ parts_closed : (h : AliasHead) (ts : Tree) → IsClosed (alias h ts) → IsClose
 parts_closed (alias_of.Ty i) ts k = k.1.0
 parts_closed (alias_of.Const i) ts k = k.1.0
 
-normal_known : (c : Content) (g a t : Tree) (w : EquatesAlias g a t) → IsClosed t → Knows c g → (let x = w.alias in Knows c (normalization_goal x.head x.parts t))
-normal_known c g a t w ends k =
-    let x = w.alias in
-    let both = sides_known c g a t w k in
-    let parts = parts_known c a x both.0 in
+-- the goal that an alias normalizes to a closed term
+pub normal_known : (c : Content) (a v : Tree) (x : IsAlias a) → IsClosed v → Knows c a → Knows c v → Knows c (normalization_goal x.head x.parts v)
+normal_known c a v x ends ka kv =
+    let parts = parts_known c a x ka in
     let bound = parts_closed x.head x.parts (subst IsClosed x.is x.closed) in
-    ((tt, tt, refl), (((tt, tt, refl), tt, tt), (((tt, tt, refl), (parts, (both.1, tt)), tt), tt)), ((tt, tt), ((tt, (closed_listed empty 0 (node (label.List list.Args) x.parts) bound, (closed_listed empty 0 t ends, tt))), tt)))
+    ((tt, tt, refl), (((tt, tt, refl), tt, tt), (((tt, tt, refl), (parts, (kv, tt)), tt), tt)), ((tt, tt), ((tt, (closed_listed empty 0 (node (label.List list.Args) x.parts) bound, (closed_listed empty 0 v ends, tt))), tt)))
 
-normal_passes : (P : Label → Bool) → PassesQueries P → (g a t : Tree) (w : EquatesAlias g a t) → TreePasses P g → (let x = w.alias in TreePasses P (normalization_goal x.head x.parts t))
-normal_passes P q g a t w k =
-    let both = sides_pass P g a t w k in
-    let x = w.alias in
-    let parts = parts_pass P a x both.0 in
-    (q (label.List list.Binder) tt, ((q (label.List list.Sorts) tt, tt), ((q (label.Predicate (predicate_head.NormalizesTo x.head)) tt, (parts, (both.1, tt))), tt)))
+pub normal_passes : (P : Label → Bool) → PassesQueries P → (a v : Tree) (x : IsAlias a) → TreePasses P a → TreePasses P v → TreePasses P (normalization_goal x.head x.parts v)
+normal_passes P q a v x ka kv = (q (label.List list.Binder) tt, ((q (label.List list.Sorts) tt, tt), ((q (label.Predicate (predicate_head.NormalizesTo x.head)) tt, (parts_pass P a x ka, (kv, tt))), tt)))
 
 -- a closed and formed node with the label of an alias is one; and one with another label is none
 arguments_of_node : (a : Tree) → kind_of a ≡ Some arguments → (ts : Tree) × (a ≡ node (label.List list.Args) ts)
@@ -138,6 +145,19 @@ module _ (ts : List Tree) (g : Goal) (b : Binder PredicateKind) (is : tree_at ts
       let q = closed (node (label.Predicate (predicate_head.AliasRelate direction.Equate)) (pair (tree_at ts l.node) (tree_at ts r.node))) stated in
       (q.1.0, q.1.1.0)
 
+  pub both_equated : is_alias_node (tree_at ts l.node) ≡ true → is_alias_node (tree_at ts r.node) ≡ true → IsEquatedGoal ts g (record { alias = l; term = r })
+  both_equated y n =
+      let held = sides_held in
+      record {
+        alias = held.0;
+        term = held.1;
+        is = record {
+          says = inr (record { says = stated; left = formed_alias (tree_at ts l.node) (formed l.node held.0.within) sides_closed.0 y; right = formed_alias (tree_at ts r.node) (formed r.node held.1.within) sides_closed.1 n; kind = sym kinds });
+          ends = sides_closed.1;
+          environment = env;
+        };
+      }
+
   pub left_equated : is_alias_node (tree_at ts l.node) ≡ true → is_alias_node (tree_at ts r.node) ≡ false → IsEquatedGoal ts g (record { alias = l; term = r })
   left_equated y n =
       let held = sides_held in
@@ -145,7 +165,7 @@ module _ (ts : List Tree) (g : Goal) (b : Binder PredicateKind) (is : tree_at ts
         alias = held.0;
         term = held.1;
         is = record {
-          says = record { says = inl stated; alias = formed_alias (tree_at ts l.node) (formed l.node held.0.within) sides_closed.0 y; plain = no_alias_node (tree_at ts r.node) n; kind = sym kinds };
+          says = inl (record { says = inl stated; alias = formed_alias (tree_at ts l.node) (formed l.node held.0.within) sides_closed.0 y; plain = no_alias_node (tree_at ts r.node) n; kind = sym kinds });
           ends = sides_closed.1;
           environment = env;
         };
@@ -158,64 +178,216 @@ module _ (ts : List Tree) (g : Goal) (b : Binder PredicateKind) (is : tree_at ts
         alias = held.1;
         term = held.0;
         is = record {
-          says = record { says = inr stated; alias = formed_alias (tree_at ts r.node) (formed r.node held.1.within) sides_closed.1 y; plain = no_alias_node (tree_at ts l.node) n; kind = kinds };
+          says = inl (record { says = inr stated; alias = formed_alias (tree_at ts r.node) (formed r.node held.1.within) sides_closed.1 y; plain = no_alias_node (tree_at ts l.node) n; kind = kinds });
           ends = sides_closed.0;
           environment = env;
         };
       }
 
--- the one goal that is left, in a store that has grown
-module _ (a b : List Tree) (t u : Table) (goal : Goal) (r : EquatedAlias) (gs : List (GoalSource × Goal)) (says : IsEquatedGoal a goal r) (left : AreNormalGoals a b goal r gs) (posed : IsPosed a t goal) (up : Extends a b) where
+module _ {a b : List Tree} {t u : Table} {goal normal : Goal} {x v : Tree} (posed : IsPosed a t goal) (goes : Goes a b t u) (n : IsNormalGoal a b goal x v normal) (y : IsAlias x) (ends : IsClosed v) where
   abbrev e : Tree
   e = tree_at a goal.param_env.node
 
-  abbrev g : Tree
-  g = tree_at a goal.predicate.node
+  pub normal_env : tree_at b normal.param_env.node ≡ e
+  normal_env = ap (λ (z : ParamEnv). tree_at b z.node) n.environment ∙ goes.extends.kept goal.param_env.node posed.holds.env.within
 
-  abbrev equates : EquatesAlias g (tree_at a r.alias.node) (tree_at a r.term.node)
-  equates = (let i = says.is in i.says)
+  pub normal_premise : premise_at b (source.TypeRelating, normal) ≡ relating e (normalization_goal y.head y.parts v)
+  normal_premise = rw (normal_env, n.tree y) refl
 
-  abbrev pub normal_premise : Premise
-  normal_premise = (let x = equates.alias in relating e (normalization_goal x.head x.parts (tree_at a r.term.node)))
+  pub normal_posed : Knows (content_of b u.entries) x → Knows (content_of b u.entries) v → IsPosed b u normal
+  normal_posed kx kv =
+      let later = IsPosed-later goes posed in
+      let k = later.knows in
+      let h = later.holds in
+      record {
+        table = goes.table;
+        holds = record { env = rw n.environment h.env; predicate = n.holds };
+        knows = record { env = rw n.environment k.env; predicate = rw (n.tree y) (normal_known (content_of b u.entries) x v y ends kx kv) };
+      }
 
-  abbrev pub normal_side : NormalizesSide e g normal_premise
-  normal_side = record { left = tree_at a r.alias.node; right = tree_at a r.term.node; is = equates; premise = refl }
-
-  same_env : tree_at b left.normal.param_env.node ≡ e
-  same_env = ap (λ (z : ParamEnv). tree_at b z.node) left.environment ∙ up.kept goal.param_env.node posed.holds.env.within
-
-  pub normal_asked : goals_at b gs ≡ normal_premise ∷ []
-  normal_asked = ap (goals_at b) left.are ∙ rw (same_env, left.tree equates.alias) refl
-
-  pub normal_posed : content_of b u.entries ≡ content_of a t.entries → IsTable b u → HoldsEnv b goal.param_env → ArePosed b u gs
-  normal_posed same w env =
-      let k = posed.knows in
-      let known : Knows (content_of b u.entries) (tree_at b left.normal.predicate.node) = rw (same, left.tree equates.alias) (normal_known (content_of a t.entries) g (tree_at a r.alias.node) (tree_at a r.term.node) equates (let i = says.is in i.ends) k.predicate) in
-      let known_env : Knows (content_of b u.entries) (tree_at b left.normal.param_env.node) = rw (same, same_env) k.env in
-      rw left.are (All-cons (λ x. IsPosed b u x.1) _ [] (record { table = w; holds = record { env = rw left.environment env; predicate = left.holds }; knows = record { env = known_env; predicate = known } }) (All-nil (λ x. IsPosed b u x.1)))
-
-  pub normal_asks : (P : Label → Bool) → PassesQueries P → ((x : Tree) → Among (asked_terms a goal) x → TreePasses P x) → (x : Tree) → Among (terms_of b gs) x → TreePasses P x
-  normal_asks P q m x i = by_term (rw left.are at i)
-    where
-      by_term : Among (tree_at b left.normal.param_env.node ∷ tree_at b left.normal.predicate.node ∷ []) x → TreePasses P x
-      by_term (inl s) = rw (s, same_env) (m e (inl refl))
-      by_term (inr (inr i)) = absurd i
-      by_term (inr (inl s)) = rw (s, left.tree equates.alias) (normal_passes P q g (tree_at a r.alias.node) (tree_at a r.term.node) equates (m g (inr (inl refl))))
-
-  -- asking it brings no labels but those of the goal
-  pub normal_brings : content_of b u.entries ≡ content_of a t.entries → {d : Content} → BringsOnly (terms_of b gs) (content_of b u.entries) d → BringsOnly (asked_terms a goal) (content_of a t.entries) d
-  normal_brings same h = record { labels = λ P q k passes. h.labels P q (normal_asks P q k) (rw same passes) }
+  pub normal_asks : (P : Label → Bool) → PassesQueries P → TreePasses P e → TreePasses P x → TreePasses P v → (z : Tree) → Among (asked_terms b normal) z → TreePasses P z
+  normal_asks P q pe px pv z (inl s) = rw (s, normal_env) pe
+  normal_asks P q pe px pv z (inr (inl s)) = rw (s, n.tree y) (normal_passes P q x v y px pv)
+  normal_asks P q pe px pv z (inr (inr i)) = absurd i
 
   -- where it is proved in a later table, the alias normalizes to the term there
-  pub normal_held : (n : Meaning) (mode : Mode) (A : List Assumed) (d : List Tree) (v : Table) → AreFormed d → Goes b d u v → ((x : GoalSource × Goal) → Among gs x → StaysProved n mode (passed (step_kind other_goal (source_of x.0)) A) d v x.1) → IsNormalizedBy n mode A (content_of d v.entries) e g
-  normal_held n mode A d v grown goes proved =
-      let k = content_of d v.entries in
-      let there = term_table grown goes.table in
-      let one = proved (source.TypeRelating, left.normal) (rw left.are (inl refl)) in
-      let all = Extends-trans up goes.extends in
-      let env : tree_at d left.normal.param_env.node ≡ e = ap (λ (z : ParamEnv). tree_at d z.node) left.environment ∙ all.kept goal.param_env.node posed.holds.env.within in
-      let predicate = goes.extends.kept left.normal.predicate.node left.holds.within ∙ left.tree equates.alias in
-      record { premise = normal_premise; side = normal_side; ends = (let i = says.is in i.ends); proved = rw (env, predicate) at (one.later k there (Continues-refl k there.sound)) }
+  pub normal_held : {m : Meaning} {mode : Mode} {A : List Assumed} {d : List Tree} {w : Table} → AreFormed d → Goes b d u w → StaysProved m mode A d w normal → IsProvedFrom m mode A (content_of d w.entries) e (normalization_goal y.head y.parts v)
+  normal_held {m} {mode} {A} {d} {w} grown later one =
+      let k = content_of d w.entries in
+      let there = term_table grown later.table in
+      let all = Extends-trans goes.extends later.extends in
+      let env : tree_at d normal.param_env.node ≡ e = ap (λ (z : ParamEnv). tree_at d z.node) n.environment ∙ all.kept goal.param_env.node posed.holds.env.within in
+      let predicate = later.extends.kept normal.predicate.node n.holds.within ∙ n.tree y in
+      rw (env, predicate) at (one.later k there (Continues-refl k there.sound))
+
+-- what is left of a goal that an alias is equal to a term that is none
+pub begins_one : (a b : Cx) (t : Table) (goal normal : Goal) (r : EquatedAlias) (gs : List (GoalSource × Goal)) → IsEquatedGoal a.nodes goal r → is_alias_node (tree_at a.nodes r.term.node) ≡ false → gs ≡ (source.TypeRelating, normal) ∷ []
+    → IsNormalGoal a.nodes b.nodes goal (tree_at a.nodes r.alias.node) (tree_at a.nodes r.term.node) normal → IsPosed a.nodes t goal → Extends a.nodes b.nodes → BeginsNormalizing a b t t goal gs
+begins_one a b t goal normal r gs says plain are n posed up = ⊎_elim (λ w. begins w) (λ w. absurd (no_alias_node (tree_at a.nodes r.term.node) plain w.right)) (let i = says.is in i.says)
+  where
+    begins : EquatesAlias (tree_at a.nodes goal.predicate.node) (tree_at a.nodes r.alias.node) (tree_at a.nodes r.term.node) → BeginsNormalizing a b t t goal gs
+    begins w =
+        let i = says.is in
+        let c = content_of a.nodes t.entries in
+        let e = tree_at a.nodes goal.param_env.node in
+        let g = tree_at a.nodes goal.predicate.node in
+        let x = tree_at a.nodes r.alias.node in
+        let v = tree_at a.nodes r.term.node in
+        let goes = Goes-extends posed.table up in
+        let same = content_of-extended up posed.table.now in
+        let y = w.alias in
+        let k = posed.knows in
+        let known = sides_known c g x v w k.predicate in
+        record {
+          posed = rw are (All-cons (λ z. IsPosed b.nodes t z.1) _ [] (normal_posed posed goes n y i.ends (rw same known.0) (rw same known.1)) (All-nil (λ z. IsPosed b.nodes t z.1)));
+          sides = inl (relating e (normalization_goal y.head y.parts v), record { left = x; right = v; is = w; premise = refl }, same, ap (goals_at b.nodes) are ∙ ap (λ z. z ∷ []) (normal_premise posed goes n y i.ends));
+          labels = λ h. record {
+            labels = λ P q m passes.
+                (let both = sides_pass P g x v w (m g (inr (inl refl))) in
+                h.labels P q (λ z j. normal_asks posed goes n y i.ends P q (m e (inl refl)) both.0 both.1 z (only_terms z (rw are at j))) (rw same passes));
+          };
+          goals = inl (record { normal = normal; are = are; alias = x; term = v; is = w; ends = i.ends; goal = n });
+        }
+      where
+        only_terms : (z : Tree) → Among (terms_of b.nodes ((source.TypeRelating, normal) ∷ [])) z → Among (asked_terms b.nodes normal) z
+        only_terms z (inl q) = inl q
+        only_terms z (inr (inl q)) = inr (inl q)
+        only_terms z (inr (inr j)) = absurd j
+
+-- a goal that was made in a store that had grown, once it grows on
+pub normal_of : (a m n b : List Tree) (alias var : NodeId) (g normal : Goal) → IsIn a alias → IsIn m var → Extends a m → Extends m n → Extends n b → normal.param_env ≡ g.param_env → HoldsPredicate n normal.predicate
+    → ((x : IsAlias (tree_at m alias)) → tree_at n normal.predicate.node ≡ normalization_goal x.head x.parts (tree_at m var)) → IsNormalGoal a b g (tree_at a alias) (tree_at b var) normal
+normal_of a m n b alias var g normal there within am mn nb env holds says =
+    let kept : tree_at b var ≡ tree_at m var = (let up = Extends-trans mn nb in up.kept var within) in
+    let same : tree_at m alias ≡ tree_at a alias = am.kept alias there in
+    let here : (x : IsAlias (tree_at a alias)) → tree_at n normal.predicate.node ≡ normalization_goal x.head x.parts (tree_at m var) =
+    subst (λ z. (x : IsAlias z) → tree_at n normal.predicate.node ≡ normalization_goal x.head x.parts (tree_at m var)) same says in
+    record {
+      environment = env;
+      holds = record { within = IsIn-extended nb normal.predicate.node holds.within; fits = rw (nb.kept normal.predicate.node holds.within) holds.fits };
+      tree = λ y. nb.kept normal.predicate.node holds.within ∙ rw kept (here y);
+    }
+
+-- a new variable
+new_closed : (c d : Content) (k : VariableKind) (t : Tree) → IsNew c d k c.universe t → IsClosed t
+new_closed c d k t n = rw n.tree (tt, tt)
+
+new_passes : (c d : Content) (k : VariableKind) (t : Tree) (P : Label → Bool) → PassesQueries P → IsNew c d k c.universe t → TreePasses P t
+new_passes c d k t P q n = rw n.tree (query_variables P q _ _, tt)
+
+aliases_known : (c : Content) (g a b : Tree) → EquatesAliases g a b → Knows c g → Knows c a × Knows c b
+aliases_known c g a b w k = (let h : Knows c (alias_goal variance.Invariant a b) = subst (Knows c) w.says k in (h.1.1.0.1.0, h.1.1.0.1.1.0))
+
+aliases_pass : (P : Label → Bool) (g a b : Tree) → EquatesAliases g a b → TreePasses P g → TreePasses P a × TreePasses P b
+aliases_pass P g a b w k = (let h : TreePasses P (alias_goal variance.Invariant a b) = subst (TreePasses P) w.says k in (h.1.1.0.1.0, h.1.1.0.1.1.0))
+
+-- what is left of a goal that two aliases are equal
+module _ (a b : Cx) (t u : Table) (goal first second : Goal) (x y : Tree) (variable : NodeId) (kind : VariableKind) (gs : List (GoalSource × Goal)) (w : EquatesAliases (tree_at a.nodes goal.predicate.node) x y) (env : IsClosedEnv (tree_at a.nodes goal.param_env.node)) (are : gs ≡ (source.TypeRelating, first) ∷ (source.TypeRelating, second) ∷ [])
+    (within : IsIn b.nodes variable) (of_kind : kind_of (tree_at b.nodes variable) ≡ kind_of x) (new : IsNew (content_of a.nodes t.entries) (content_of b.nodes u.entries) kind t.entries.universe (tree_at b.nodes variable))
+    (brings : BringsNoLabels (content_of a.nodes t.entries) (content_of b.nodes u.entries)) (n : IsNormalGoal a.nodes b.nodes goal x (tree_at b.nodes variable) first) (m : IsNormalGoal a.nodes b.nodes goal y (tree_at b.nodes variable) second) (posed : IsPosed a.nodes t goal) (goes : Goes a.nodes b.nodes t u) where
+  abbrev term : Tree
+  term = tree_at b.nodes variable
+
+  abbrev was : Content
+  was = content_of a.nodes t.entries
+
+  abbrev met : Content
+  met = content_of b.nodes u.entries
+
+  abbrev env_tree : Tree
+  env_tree = tree_at a.nodes goal.param_env.node
+
+  v_known : Knows met term
+  v_known = new_knows was met t.entries.universe kind term new
+
+  v_closed : IsClosed term
+  v_closed = new_closed was met kind term new
+
+  sides_there : Knows met x × Knows met y
+  sides_there =
+      let k = posed.knows in
+      let h = aliases_known was (tree_at a.nodes goal.predicate.node) x y w k.predicate in
+      (Knows-goes x goes h.0, Knows-goes y goes h.1)
+
+  two_posed : ArePosed b.nodes u gs
+  two_posed =
+      rw are (All-cons (λ z. IsPosed b.nodes u z.1) (source.TypeRelating, first) ((source.TypeRelating, second) ∷ []) (normal_posed posed goes n w.left v_closed sides_there.0 v_known)
+      (All-cons (λ z. IsPosed b.nodes u z.1) (source.TypeRelating, second) [] (normal_posed posed goes m w.right v_closed sides_there.1 v_known) (All-nil (λ z. IsPosed b.nodes u z.1))))
+
+  two_terms : (z : Tree) → Among (terms_of b.nodes gs) z → Among (asked_terms b.nodes first) z ⊎ Among (asked_terms b.nodes second) z
+  two_terms z i = by_place (subst (λ xs. Among (terms_of b.nodes xs) z) are i)
+    where
+      by_place : Among (terms_of b.nodes ((source.TypeRelating, first) ∷ (source.TypeRelating, second) ∷ [])) z → Among (asked_terms b.nodes first) z ⊎ Among (asked_terms b.nodes second) z
+      by_place (inl q) = inl (inl q)
+      by_place (inr (inl q)) = inl (inr (inl q))
+      by_place (inr (inr (inl q))) = inr (inl q)
+      by_place (inr (inr (inr (inl q)))) = inr (inr (inl q))
+      by_place (inr (inr (inr (inr j)))) = absurd j
+
+  two_labels : {z : Content} → BringsOnly (terms_of b.nodes gs) met z → BringsOnly (asked_terms a.nodes goal) was z
+  two_labels h =
+      record {
+        labels = λ P q all passes.
+            (let both = aliases_pass P (tree_at a.nodes goal.predicate.node) x y w (all _ (inr (inl refl))) in
+            let pe = all env_tree (inl refl) in
+            let pv = new_passes was met kind term P q new in
+            let now = brings.labels P (query_variables P q) passes in
+            h.labels P q (λ z j. ⊎_elim (normal_asks posed goes n w.left v_closed P q pe both.0 pv z) (normal_asks posed goes m w.right v_closed P q pe both.1 pv z) (two_terms z j)) now);
+      }
+
+  pub begins_two : BeginsNormalizing a b t u goal gs
+  begins_two =
+      record {
+        posed = two_posed;
+        sides = inr (record {
+          left = x;
+          right = y;
+          is = w;
+          variable = term;
+          kind = kind;
+          new = new;
+          of_kind = of_kind;
+          premises = ap (goals_at b.nodes) are ∙ (let p = normal_premise posed goes n w.left v_closed in let q = normal_premise posed goes m w.right v_closed in λ i. p i ∷ q i ∷ []);
+        });
+        labels = two_labels;
+        goals = inr (record { first = first; second = second; are = are; alias = x; other = y; variable = variable; is = w; within = within; knows = v_known; ends = v_closed; kind = of_kind; goal = n; other_goal = m });
+      }
+
+-- where the goals that are left are proved, the goal is normalized by them
+pub left_normal : {a b : List Tree} {t u : Table} (g : Goal) (left : List (GoalSource × Goal)) (m : Meaning) (mode : Mode) (A : List Assumed) (d : List Tree) (w : Table) → IsPosed a t g → Goes a b t u → LeavesOne a b g left ⊎ LeavesTwo a b u g left → AreFormed d → Goes b d u w
+    → ((x : GoalSource × Goal) → Among left x → StaysProved m mode A d w x.1) → IsNormalizedBy m mode A (content_of d w.entries) (tree_at a g.param_env.node) (tree_at a g.predicate.node)
+left_normal {a} g left m mode A d w posed goes (inl l) grown later proved =
+    let is = l.is in
+    let y = is.alias in
+    inl (record { premise = relating (tree_at a g.param_env.node) (normalization_goal y.head y.parts l.term); side = record { left = l.alias; right = l.term; is = is; premise = refl }; ends = l.ends; proved = normal_held posed goes l.goal y l.ends grown later (proved (source.TypeRelating, l.normal) (rw l.are (inl refl))) })
+left_normal {a} {b} {t} {u} g left m mode A d w posed goes (inr l) grown later proved =
+    let is = l.is in
+    let kept = later.extends.kept l.variable l.within in
+    inr (record {
+      left = l.alias;
+      right = l.other;
+      is = is;
+      term = tree_at b l.variable;
+      known = record { knows = Knows-goes (tree_at b l.variable) later l.knows; formed = subst IsFormed kept (grown l.variable (IsIn-extended later.extends l.variable l.within)) };
+      ends = l.ends;
+      kind = l.kind;
+      first = normal_held posed goes l.goal is.left l.ends grown later (proved (source.TypeRelating, l.first) (rw l.are (inl refl)));
+      second = normal_held posed goes l.other_goal is.right l.ends grown later (proved (source.TypeRelating, l.second) (rw l.are (inr (inl refl))));
+    })
+
+-- the alias of a goal of the store
+pub equated_alias : {ts : List Tree} {g : Goal} {r : EquatedAlias} → IsEquatedGoal ts g r → IsAlias (tree_at ts r.alias.node)
+equated_alias q = (let i = q.is in ⊎_elim (λ w. w.alias) (λ w. w.left) i.says)
+
+pub equated_kind : {ts : List Tree} {g : Goal} {r : EquatedAlias} → IsEquatedGoal ts g r → kind_of (tree_at ts r.term.node) ≡ kind_of (tree_at ts r.alias.node)
+equated_kind q = (let i = q.is in ⊎_elim (λ w. w.kind) (λ w. w.kind) i.says)
+
+pub equated_both : {ts : List Tree} {g : Goal} {r : EquatedAlias} → AreFormed ts → IsEquatedGoal ts g r → is_alias_node (tree_at ts r.term.node) ≡ true → EquatesAliases (tree_at ts g.predicate.node) (tree_at ts r.alias.node) (tree_at ts r.term.node)
+equated_both {ts} {g} {r} formed q e = by_says (let i = q.is in i.says)
+  where
+    by_says : EquatesAlias (tree_at ts g.predicate.node) (tree_at ts r.alias.node) (tree_at ts r.term.node) ⊎ EquatesAliases (tree_at ts g.predicate.node) (tree_at ts r.alias.node) (tree_at ts r.term.node) → EquatesAliases (tree_at ts g.predicate.node) (tree_at ts r.alias.node) (tree_at ts r.term.node)
+    by_says (inr w) = w
+    by_says (inl w) = (let i = q.is in let held = q.term in absurd (w.plain (formed_alias (tree_at ts r.term.node) (formed r.term.node held.within) i.ends e)))
 
 -- the goal is proved where what is left of it is, once it is opened or as it stands
 module _ (m : Meaning) (mode : Mode) (A : List Assumed) (c : Content) (s : IsSound c) (t : HoldsTerms c) (k : AreConstraintsOf c) (b : Content) (e g : Tree) (now : AreCurrent b) (later : Continues b c) (levelled : IsLevelled c) (regions : AreRegionsLevelled c) (te : IsTermOf b e) (tg : IsTermOf b g)
@@ -223,12 +395,12 @@ module _ (m : Meaning) (mode : Mode) (A : List Assumed) (c : Content) (s : IsSou
   abbrev closed_here : IsClosedEnvironment (deeply_resolved c e)
   closed_here = read_closed m mode A c s t k e ke env
 
-  side_normal : (a x : Tree) (w : EquatesAlias (opened_in b g) a x) → IsTermOf c a → IsTermOf c x → IsClosed x → (let y = w.alias in IsProvedFrom m mode A c e (normalization_goal y.head y.parts x)) → IsSide m mode A c s t k e ke closed_here a x
-  side_normal a x w ka kx cx proved =
-      inr (record { found = w.alias; term = kx; ends = cx; kind = w.kind; known = ka.knows; goal = is_answered [] (λ z. cc) proved no_goals })
+  side_normal : (a x : Tree) (y : IsAlias a) → kind_of x ≡ kind_of a → IsTermOf c a → IsTermOf c x → IsClosed x → IsProvedFrom m mode A c e (normalization_goal y.head y.parts x) → IsSide m mode A c s t k e ke closed_here a x
+  side_normal a x y kind ka kx cx proved =
+      inr (record { found = y; term = kx; ends = cx; kind = kind; known = ka.knows; goal = is_answered [] (λ z. cc) proved no_goals })
 
-  pub normal_proved : IsNormalizedBy m mode A c e (opened_in b g) → IsProvedFrom m mode A c e g
-  normal_proved n = ⊎_elim by_left by_right (let x = n.side in let is = x.is in is.says)
+  alone_proved : NormalizesAlone m mode A c e (opened_in b g) → IsProvedFrom m mode A c e g
+  alone_proved n = ⊎_elim by_left by_right (let x = n.side in let is = x.is in is.says)
     where
       terms : (let side = n.side in IsTermOf c side.left × IsTermOf c side.right)
       terms =
@@ -242,7 +414,7 @@ module _ (m : Meaning) (mode : Mode) (A : List Assumed) (c : Content) (s : IsSou
       normal =
           let side = n.side in
           let is = side.is in
-          side_normal side.left side.right is terms.0 terms.1 n.ends (subst (λ (p : Premise). IsProvedFrom m mode A c e p.predicate) side.premise n.proved)
+          side_normal side.left side.right is.alias is.kind terms.0 terms.1 n.ends (subst (λ (p : Premise). IsProvedFrom m mode A c e p.predicate) side.premise n.proved)
 
       alias_closed : (let side = n.side in IsClosed side.left)
       alias_closed = (let side = n.side in let is = side.is in let y = is.alias in y.closed)
@@ -260,3 +432,22 @@ module _ (m : Meaning) (mode : Mode) (A : List Assumed) (c : Content) (s : IsSou
           relating_proved m mode A c s t k e ke env side.right side.left (predicate_head.AliasRelate direction.Equate) (λ xs. refl)
           (relation_follows m mode A c s t k e ke closed_here direction.Equate [] side.right side.left side.right side.right (inl refl) normal (λ y i. absurd i) (inl (one_tree tt)))
           terms.1 terms.0 b g now later levelled regions te tg kg ends n.ends alias_closed q
+
+  -- two aliases that normalize to one term
+  together_proved : NormalizesTogether m mode A c e (opened_in b g) → IsProvedFrom m mode A c e g
+  together_proved n =
+      let is = n.is in
+      let x = is.left in
+      let y = is.right in
+      let whole : IsTermOf c (alias_goal variance.Invariant n.left n.right) = subst (IsTermOf c) is.says ko in
+      let known = whole.knows in
+      let formed = whole.formed in
+      let first : IsTermOf c n.left = record { knows = known.1.1.0.1.0; formed = formed.1.1.0.1.0 } in
+      let second : IsTermOf c n.right = record { knows = known.1.1.0.1.1.0; formed = formed.1.1.0.1.1.0 } in
+      relating_proved m mode A c s t k e ke env n.left n.right (predicate_head.AliasRelate direction.Equate) (λ xs. refl)
+      (relation_follows m mode A c s t k e ke closed_here direction.Equate [] n.left n.right n.term n.term (side_normal n.left n.term x n.kind first n.known n.ends n.first) (side_normal n.right n.term y (n.kind ∙ sym is.kind) second n.known n.ends n.second) (λ z i. absurd i) (inl (one_tree tt)))
+      first second b g now later levelled regions te tg kg ends x.closed y.closed is.says
+
+  pub normal_proved : IsNormalizedBy m mode A c e (opened_in b g) → IsProvedFrom m mode A c e g
+  normal_proved (inl n) = alone_proved n
+  normal_proved (inr n) = together_proved n

@@ -1,5 +1,5 @@
 -- A goal that was opened: what is said of it where it was opened is said of the goal.
-use Rattle.std.proofs.Common.{◌≡◌, ◌⊎◌, inl, inr, ℕ, ◌+◌, Bool, true, false, List, [], refl, sym, ap, ◌∙◌, subst}
+use Rattle.std.proofs.Common.{◌≡◌, ◌⊎◌, inl, inr, ⊎_elim, ℕ, ◌+◌, Bool, true, false, List, [], refl, sym, ap, ◌∙◌, subst}
 use Rattle.std.specs.Prelude.{if◌then◌else◌, Option, Some, None, IfSome, Result, Ok, Err, OnOk}
 use Rattle.nts_model.specs.Derivations.Proofs.{Assumed}
 use Rattle.nts_model.specs.Searching.Stacks.{IsProvedFrom, HoldsCandidateFrom}
@@ -19,6 +19,7 @@ use Rattle.nts_model.specs.Derivations.Handlers as handlers
 use Rattle.nts_model.specs.Derivations.Handlers.{Handler, Candidate, meaning, IsLawfulHandler}
 use Rattle.nts_model.proofs.Tables.Slots.{KeepsKinds, Knows-kept}
 use Rattle.nts_model.proofs.Tables.Fitting.{IsClosed-under}
+use Rattle.nts_theory.proofs.Aliases.OpenedRelating.{by_entered_relating}
 use Rattle.nts_theory.proofs.Refutation.OpenedProofs.{by_entered_candidate}
 use Rattle.nts_store.specs.Growth.{tree_at, Extends}
 use Rattle.nts_store.specs.Formed.{AreFormed}
@@ -274,7 +275,9 @@ module _ {a b : List Tree} {t u : Table} {g o : Goal} (posed : IsPosed a t g) (o
       let ask : handlers.IsAsked e (opened_in before p) = subst (λ z. handlers.IsAsked e z) opens.predicate (subst (λ z. handlers.IsAsked z (tree_at b o.predicate.node)) environment_same asked.asked) in
       let x : IsServed h (meaning h V) mode A c e (opened_in before p) = subst (λ z. IsServed h (meaning h V) mode A c e z) t.opened_goal (subst (λ z. IsServed h (meaning h V) mode A c z (tree_at d o.predicate.node)) t.opened_env served) in
       of_goal (meaning h V) mode A t
-      (by_entered_candidate h V mode A c terms.sound terms.values terms.constraints before e p posed.table.now.proper.current later t.levelled t.regions t.env_before t.goal_before (goal_closed before e p opens.closed ask) ask t.env_now t.goal_now t.opened_now x.candidate law x.offered x.sure x.holds)
+      (⊎_elim
+      (λ held. by_entered_candidate h V mode A c terms.sound terms.values terms.constraints before e p posed.table.now.proper.current later t.levelled t.regions t.env_before t.goal_before (goal_closed before e p opens.closed ask) ask t.env_now t.goal_now t.opened_now x.candidate law x.offered x.sure held)
+      (λ held. by_entered_relating h V mode A c terms.sound terms.values terms.constraints before e p posed.table.now.proper.current later t.levelled t.regions t.env_before t.goal_before (goal_closed before e p opens.closed ask) ask t.env_now t.goal_now t.opened_now x.candidate law x.offered x.sure held.1) x.holds)
 
   -- an environment without bound variables that are without their binders
   closed_there : IsClosedEnv (tree_at b o.param_env.node) → IsClosedThere (tree_at a g.param_env.node)
@@ -340,10 +343,12 @@ module _ {a b : List Tree} {t u : Table} {g o : Goal} (posed : IsPosed a t g) (o
       (subst (λ z. Replies h (mode_of mode) there (tree_at a g.param_env.node) z (trees_of a qs) x v) opens.predicate
       (subst (λ z. Replies h (mode_of mode) there z (tree_at b o.predicate.node) (trees_of a qs) x v) environment_same (subst (λ z. Replies h (mode_of mode) there (tree_at b o.param_env.node) (tree_at b o.predicate.node) z x v) same reply))))
 
-  pub own_refuted : IsPosed b u o → AreFormed b → (h : Ruling) (mode : TypingMode) (qs : List GenericArg) (x : Candidate) → HasOwnWay (let m = h.handler in m.judges) (tree_at b o.param_env.node) (tree_at b o.predicate.node) x → Fails h (mode_of mode) (kind_for h.handler (tree_at b o.predicate.node)) there x → IsRefuted h mode a t g qs
+  pub own_refuted : IsPosed b u o → AreFormed b → (h : Ruling) (mode : TypingMode) (qs : List GenericArg) (x : Candidate) → HasOwnWay (let m = h.handler in m.judges) (tree_at b o.param_env.node) (tree_at b o.predicate.node) x → Fails h (mode_of mode) (kind_for h.handler (tree_at b o.predicate.node)) there (tree_at b o.param_env.node) x → IsRefuted h mode a t g qs
   own_refuted p formed h mode qs x way fails =
       own_fails x (way_there h.handler x p formed way)
-      (subst (λ z. Fails h (mode_of mode) (kind_for h.handler z) (entered_table before (tree_at a g.predicate.node)) x) opens.predicate (subst (λ z. Fails h (mode_of mode) (kind_for h.handler (tree_at b o.predicate.node)) z x) opens.table fails))
+      (subst (λ z. Fails h (mode_of mode) (kind_for h.handler z) (entered_table before (tree_at a g.predicate.node)) (tree_at a g.param_env.node) x) opens.predicate
+      (subst (λ z. Fails h (mode_of mode) (kind_for h.handler (tree_at b o.predicate.node)) z (tree_at a g.param_env.node) x) opens.table
+      (subst (λ z. Fails h (mode_of mode) (kind_for h.handler (tree_at b o.predicate.node)) there z x) environment_same fails)))
 
   -- where one type of the opened goal is a subtype of the other under the table, the goal is proved
   pub subtype_through : (m : Meaning) (mode : Mode) (A : List Assumed) {d : List Tree} {v : Table} (p : TypePair) → IsPosed b u o → IsSubtypeGoal b o p → Goes b d u v → Continues before (content_of d v.entries) → AreFormed d
@@ -395,13 +400,13 @@ module _ {a b : List Tree} {t u : Table} {g o : Goal} (posed : IsPosed a t g) (o
       let v = verdict_at e r in
       let one = subst (λ z. Reading (λ c i j. SaysNormal h (mode_of mode) c i j z v)) same x in
       let y = through_opening (λ c i j. SaysNormal h (mode_of mode) c i j (trees_of a qs) v) one in
-      tells_normal y.premise y.found y.outside y.side y.reaches y.is_found y.says
+      tells_normal y.left y.met y.found y.outside y.sides y.reaches y.is_found y.says
   normal_told h mode qs e r same (inr (unsure, plain)) ks = nothing_through h mode qs e r same unsure plain ks
 
   pub normal_stops : (h : Ruling) (mode : TypingMode) (qs : List GenericArg) → NormalRefuted h (mode_of mode) there (tree_at b o.param_env.node) (tree_at b o.predicate.node) → IsRefuted h mode a t g qs
   normal_stops h mode qs x =
       let y = through_opening (λ c e p. NormalRefuted h (mode_of mode) c e p) x in
-      normal_refused y.premise y.outside y.side y.refused
+      normal_refused y.left y.met y.outside y.sides y.refused
 
   pub subtype_refuted : (h : Ruling) (mode : TypingMode) (qs : List GenericArg) → SubtypesRefuted h (mode_of mode) there (tree_at b o.param_env.node) (tree_at b o.predicate.node) → IsRefuted h mode a t g qs
   subtype_refuted h mode qs (outside, inl none) =

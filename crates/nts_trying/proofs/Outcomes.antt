@@ -123,7 +123,7 @@ outcomes_more {P} {a} {b} {e} {t} {g} {qs} h mode xs i d x rs new y l is ab be w
         let one : Replies h (mode_of mode) (content_of a t.entries) (tree_at a g.param_env.node) (tree_at a g.predicate.node) (trees_of a qs) (candidate_of a (get_or xs i d)) (verdict_at e r.value) = rw (now, trees, there, environment, predicate) at told in
         rw (candidates_next a xs i d l, q, map-append (verdict_at e) rs (r.value ∷ [])) (then_replies earlier one)
     by_answer (Err z) q told failed earlier now trees there environment predicate =
-        let one : Fails h (mode_of mode) (kind_for h.handler (tree_at a g.predicate.node)) (content_of a t.entries) (candidate_of a (get_or xs i d)) = rw (now, there, predicate) at failed in
+        let one : Fails h (mode_of mode) (kind_for h.handler (tree_at a g.predicate.node)) (content_of a t.entries) (tree_at a g.param_env.node) (candidate_of a (get_or xs i d)) = rw (now, there, environment, predicate) at failed in
         rw (candidates_next a xs i d l, q) (then_fails earlier one)
 
 -- the response that stands for all

@@ -1,5 +1,5 @@
 -- Goals of the engine's own kinds: which statements are such, what is known of them, and the candidate that is the own way of one.
-use Rattle.std.proofs.Common.{◌≡◌, inl, inr, ℕ, ◌||◌, true, false, List, [], ◌∷◌, map, Some, None, is_some, refl, sym, ap, ◌∙◌, subst}
+use Rattle.std.proofs.Common.{◌≡◌, inl, inr, ℕ, ◌||◌, true, false, List, [], ◌∷◌, map, Some, None, is_some, refl, sym, ap, ◌∙◌, subst, Bool}
 use Rattle.std.specs.Prelude.{All, Option, option_map}
 use Rattle.std.proofs.lemmas.List.Elements.{All-head, All-tail}
 use Rattle.nts_model.specs.declared.labels.Leaf.{Leaf}
@@ -8,7 +8,7 @@ use Rattle.nts_model.specs.declared.labels.AliasHead.TheVariants as alias_of
 use Rattle.nts_model.specs.declared.labels.ListHead.TheVariants as list
 use Rattle.nts_model.specs.declared.labels.Label.TheVariants as label
 use Rattle.nts_model.specs.declared.labels.Sort.TheVariants as sort
-use Rattle.nts_model.specs.Terms.Trees.{Tree, empty, more, node, children, row_length, IsRow, kind_of, arguments, sort_of_alias, any_label, is_canonical, IsClosed, IsFormed}
+use Rattle.nts_model.specs.Terms.Trees.{Tree, empty, more, node, children, row_length, IsRow, kind_of, arguments, sort_of_alias, any_label, is_canonical, IsClosed, IsFormed, is_alias}
 use Rattle.nts_model.specs.Terms.Scoping.{IsWellBound}
 use Rattle.nts_model.specs.Terms.Substitutions.{Occurs}
 use Rattle.nts_model.specs.Derivations.Related.{pair, unbound, no_sorts, value, alias_label}
@@ -16,6 +16,9 @@ use Rattle.nts_model.specs.Lists.{Among}
 use Rattle.nts_model.specs.Derivations.Sequents.{HasClosedStatement}
 use Rattle.nts_model.specs.Derivations.Rules.{statement_of}
 use Rattle.nts_model.specs.Derivations.Handlers.{Judgements, IsOver}
+use Rattle.nts_theory.specs.RelatingCandidates.{HasPlainEquations, relates_aliases, may_be_argument}
+use Rattle.nts_model.specs.Derivations.Rules.{related}
+use Rattle.std.specs.Prelude.{◌&&◌}
 use Rattle.nts_theory.specs.Affirming.{evaluatable, has_type, is_well_formed, IsAffirmed, evaluated_const, SaysAffirmed, plain_way, goals_there, IsOwnWay, HasOwnWay}
 use Rattle.nts_theory.specs.Telling.{IsTraitStatement}
 use Rattle.nts_theory.proofs.Derivations.ClosedStatements.{closed_unbound}
@@ -221,6 +224,28 @@ type_candidate ts g b of ty c ho ht plain states way =
       constraints = rw (way.fresh, way.constraints) tt;
       goals = rw (way.fresh, way.goals) tt;
     }
+
+-- .. which relates no aliases where none stands in the goal; nor does one without equations
+unbound_none : (s : Tree) → any_label is_alias (unbound s) ≡ false → any_label is_alias s ≡ false
+unbound_none s h = (both_false (any_label is_alias s) false h).0
+
+never : (b : Bool) → b && false ≡ false
+never true = refl
+never false = refl
+
+pub type_plain : (ts : List Tree) (g : Goal) (b : ℕ) (of ty : Ty) (c : CandidateData) → any_label is_alias (tree_at ts g.predicate.node) ≡ false → States ts g (has_type (value b (tree_at ts of.node)) (tree_at ts ty.node)) → IsPlainWay c (type_equation of ty ∷ []) [] → HasPlainEquations (candidate_of ts c)
+type_plain ts g b of ty c none states way =
+    let u = tree_at ts of.node in
+    let t = tree_at ts ty.node in
+    let there = unbound_none (has_type (value b u) t) (subst (λ z. any_label is_alias z ≡ false) states.binds_nothing none) in
+    let both = both_false (any_label is_alias u || false) (any_label is_alias t || false) there in
+    let left : any_label is_alias u ≡ false = (both_false (any_label is_alias u) false both.0).0 in
+    let right : any_label is_alias t ≡ false = (both_false (any_label is_alias t) false both.1).0 in
+    let plain : relates_aliases (related u t) ≡ false = rw (left, right) (never (may_be_argument (kind_of t))) in
+    rw (way.equations, plain) refl
+
+pub no_equations_plain : (ts : List Tree) (c : CandidateData) (gs : List CandidateGoal) → IsPlainWay c [] gs → HasPlainEquations (candidate_of ts c)
+no_equations_plain ts c gs way = rw way.equations refl
 
 -- the goals by which a term is well formed, as a candidate
 pub premises_there : (ts : List Tree) (g : Goal) (gs : List Goal) → All (IsGoalIn ts g.param_env) gs → map (premise_of ts) (map misc_goal gs) ≡ goals_there (tree_at ts g.param_env.node) (predicates_read ts gs)

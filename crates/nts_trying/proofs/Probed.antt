@@ -138,14 +138,14 @@ pub says_before : (x : Certainty) (b c : Content) (qs : List Tree) (v : Verdict)
 says_before x b c qs v e n h = inr (e ∙ unsure_yes x n, inr h)
 
 -- a candidate that was run in a snapshot of the table t has this response
-pub run_replies : {a b : List Tree} (s t u : Table) (h : Ruling) (mode : TypingMode) (x : CandidateData) (g : Goal) (qs : List Tree) (v : Verdict) → HasRunTo h s.mode a s b u x → s.mode ≡ mode → s.entries ≡ t.entries → AreFormed b → IsTable b u
+pub run_replies : {a b : List Tree} (s t u : Table) (h : Ruling) (mode : TypingMode) (x : CandidateData) (g : Goal) (qs : List Tree) (v : Verdict) → HasRunTo h s.mode a s b u g x → s.mode ≡ mode → s.entries ≡ t.entries → AreFormed b → IsTable b u
     → BringsOnly (asked_terms a g) (content_of a s.entries) (content_of b u.entries) → SaysOf (content_of a s.entries) (content_of b u.entries) qs v → Replies h (mode_of mode) (content_of a t.entries) (tree_at a g.param_env.node) (tree_at a g.predicate.node) qs (candidate_of a x) v
 run_replies {a} {b} s t u h mode x g qs v run moded same formed table labels says =
     let e = tree_at a g.param_env.node in
     let p = tree_at a g.predicate.node in
     let found : IsFound (content_of a s.entries) e p (content_of b u.entries) = record { table = term_table formed table; labels = labels } in
     subst (λ z. Replies h (mode_of mode) (content_of a z) e p qs (candidate_of a x) v) same
-    (subst (λ z. Replies h (mode_of z) (content_of a s.entries) e p qs (candidate_of a x) v) moded (replies run.values run.met (content_of b u.entries) run.begun run.reaches found says))
+    (subst (λ z. Replies h (mode_of z) (content_of a s.entries) e p qs (candidate_of a x) v) moded (replies run.left run.met (content_of b u.entries) run.begun run.reaches found says))
 
 -- what was found in the table of a query, which was made for an input of these kinds
 module _ {P : List Tree → Table → Type 0} (a b e : List Tree) (q : Table) (g : Goal) (ks : List PositionKind) (input : CanonicalInput) (vs : List GenericArg) (r : Canonical Response) (found : Found P b e q g vs r)

@@ -1,6 +1,7 @@
 -- A candidate that is run: what its parts left, put together.
-use Rattle.std.proofs.Common.{◌≡◌, ⊎_elim, inl, inr, List, [], ◌∷◌, map, refl, ap, ◌∙◌, subst}
+use Rattle.std.proofs.Common.{◌≡◌, ◌⊎◌, ⊎_elim, inl, inr, List, [], ◌∷◌, map, refl, ap, ◌∙◌, subst}
 use Rattle.std.specs.Prelude.{Result, Ok}
+use Rattle.nts_terms.specs.Modes.{mode_of}
 use Rattle.nts_candidates.specs.Offered.{source_of}
 use Rattle.nts_model.specs.Lists.{Among}
 use Rattle.nts_model.specs.Derivations.Sequents.{Source}
@@ -10,7 +11,7 @@ use Rattle.nts_model.specs.Tables.Contents.{Content}
 use Rattle.nts_model.specs.Tables.Resolving.{Knows}
 use Rattle.nts_model.specs.Derivations.Sequents.{Premise}
 use Rattle.nts_model.specs.Tables.Passing.{BringsOnly}
-use Rattle.nts_model.specs.Derivations.Rules.{Mode, Meaning, GoalKind, step_kind}
+use Rattle.nts_model.specs.Derivations.Rules.{Mode, coherence, Meaning, GoalKind, step_kind}
 use Rattle.nts_model.specs.Derivations.Proofs.{Assumed, passed}
 use Rattle.nts_model.specs.Searching.Stacks.{IsProvedFrom}
 use Rattle.nts_model.specs.Terms.Substitutions.{filled}
@@ -35,7 +36,7 @@ use Rattle.nts_candidates.specs.Offered.{constraint_of, premise_of, candidate_of
 use Rattle.nts_response.specs.Forms.{premise_at}
 use Rattle.nts_trying.specs.Choices.{EquatesCandidate}
 use Rattle.nts_theory.specs.Telling.{kind_for}
-use Rattle.nts_theory.specs.RelatingCandidates.{IsBegun, goals_with}
+use Rattle.nts_theory.specs.RelatingCandidates.{IsBegun, goals_with, HasPlainEquations, Begins}
 use Rattle.nts_theory.specs.Telling.Fails.{is_refused}
 use Rattle.nts_trying.specs.Stepping.{ArePosed, AreSettled, terms_of}
 use Rattle.nts_trying.specs.Adding.{AreAdded}
@@ -64,21 +65,24 @@ added_only {e} {f} {v} {g} {vs} {hs} {d} gs h k same = record { labels = λ P q 
 module _ {a b e f : List Tree} {t u v : Table} (h : Ruling) (mode : TypingMode) (g : Goal) (x : CandidateData) (vs : List NodeId) (gs : List (GoalSource × Goal))
     (equated : EquatesCandidate a b t u x.fresh.items vs x.equations.items) (adds : AddsAll (map (tree_at b) vs) (map (constraint_of b) x.region_constraints.items) (content_of b u.entries) (content_of e v.entries))
     (constraints : map (constraint_of b) x.region_constraints.items ≡ map (constraint_of a) x.region_constraints.items) (nested : AreNested a x.fresh.items g x.goals.items)
-    (ab : Extends a b) (be : Extends b e) (ae : Extends a e) (ef : Extends e f) (table : IsTable e v) (within : AllIn b vs) (added : goals_at f gs ≡ goals_with (map (tree_at e) vs) (map (premise_of e) x.goals.items)) where
+    (ab : Extends a b) (be : Extends b e) (ae : Extends a e) (ef : Extends e f) (table : IsTable e v) (within : AllIn b vs) (added : goals_at f gs ≡ goals_with (map (tree_at e) vs) (map (premise_of e) x.goals.items)) (at_once : (mode_of mode ≡ coherence) ⊎ HasPlainEquations (candidate_of a x)) where
   pub its_goals : goals_at f gs ≡ goals_with (map (tree_at b) vs) (map (premise_of a) x.goals.items)
   its_goals = added ∙ added_is b g x.fresh.items vs x.goals.items ae nested (map-kept b e vs within be)
 
-  pub ran_to : (z : List Tree) (w : Table) → ReachesBy h mode f v z w gs → HasRunTo h mode a t z w x
+  begun_here : Begins h.variances (mode_of mode) (content_of a t.entries) (tree_at a g.param_env.node) (candidate_of a x) (content_of e v.entries) (goals_with (map (tree_at b) vs) (let y = candidate_of a x in y.goals))
+  begun_here = inl (map (tree_at b) vs, at_once, begins e v x vs equated adds constraints, refl)
+
+  pub ran_to : (z : List Tree) (w : Table) → ReachesBy h mode f v z w gs → HasRunTo h mode a t z w g x
   ran_to z w r =
       record {
-        values = map (tree_at b) vs;
+        left = goals_with (map (tree_at b) vs) (let y = candidate_of a x in y.goals);
         met = content_of e v.entries;
-        begun = begins e v x vs equated adds constraints;
+        begun = begun_here;
         reaches = rw (its_goals, content_of-extended ef table.now) at r;
       }
 
   pub ran_refused : RefusesOneOf h mode (kind_for h.handler (tree_at a g.predicate.node)) f v gs → FailsIn h mode a t g x
-  ran_refused r = is_refused (map (tree_at b) vs) (content_of e v.entries) (begins e v x vs equated adds constraints) (rw (its_goals, content_of-extended ef table.now) at r)
+  ran_refused r = is_refused (goals_with (map (tree_at b) vs) (let y = candidate_of a x in y.goals)) (content_of e v.entries) begun_here (rw (its_goals, content_of-extended ef table.now) at r)
 
 -- what is proved of the goals
 pub all_posed : {f : List Tree} {v : Table} (gs : List (GoalSource × Goal)) → ArePosed f v gs → (g : GoalSource × Goal) → Among gs g → IsPosed f v g.1

@@ -59,7 +59,7 @@ use Rattle.nts_trying.proofs.AnsweredTypes.{pairs_answered}
 use Rattle.nts_trying.proofs.SubtypeGoals.{among_image as image_of}
 
 -- what was recorded since is between closed terms
-closed_grown : {c d : Content} → IsTableGrown c d → HasClosedSides c → HasClosedSides d
+pub closed_grown : {c d : Content} → IsTableGrown c d → HasClosedSides c → HasClosedSides d
 closed_grown l h =
     record {
       left = sides-added (λ x. IsClosed x.left) (λ x s. s.left) l.visible h.left;
@@ -84,24 +84,24 @@ goal_of_pair p = by_head _ _
     by_head true x = inl refl
     by_head false x = inr (x, refl)
 
-goals_of_pairs : (us : List Tree) (c : Content) (env : ParamEnv) (ps : List Relating) (gs : List Goal) → AreGoalsOfPairs us c env ps gs → AreGoalsOf (pairs_at us ps) (map (λ g. tree_at us g.predicate.node) gs)
+pub goals_of_pairs : (us : List Tree) (c : Content) (env : ParamEnv) (ps : List Relating) (gs : List Goal) → AreGoalsOfPairs us c env ps gs → AreGoalsOf (pairs_at us ps) (map (λ g. tree_at us g.predicate.node) gs)
 goals_of_pairs us c env [] [] h = tt
 goals_of_pairs us c env [] (g ∷ gs) h = absurd h
 goals_of_pairs us c env (p ∷ ps) [] h = absurd h
 goals_of_pairs us c env (p ∷ ps) (g ∷ gs) h = (rw h.0.tree (goal_of_pair _), goals_of_pairs us c env ps gs h.1)
 
 -- .. as the goals of a store, which are of the table
-abbrev predicates : List Tree → List Goal → List Tree
+abbrev pub predicates : List Tree → List Goal → List Tree
 predicates us gs = map (λ g. tree_at us g.predicate.node) gs
 
-each_goal : (us : List Tree) (c : Content) (env : ParamEnv) (ps : List Relating) (gs : List Goal) → AreGoalsOfPairs us c env ps gs → (g : Goal) → Among gs g → (g.param_env ≡ env) × HoldsPredicate us g.predicate × Knows c (tree_at us g.predicate.node)
+pub each_goal : (us : List Tree) (c : Content) (env : ParamEnv) (ps : List Relating) (gs : List Goal) → AreGoalsOfPairs us c env ps gs → (g : Goal) → Among gs g → (g.param_env ≡ env) × HoldsPredicate us g.predicate × Knows c (tree_at us g.predicate.node)
 each_goal us c env [] [] h g i = absurd i
 each_goal us c env [] (x ∷ gs) h g i = absurd h
 each_goal us c env (p ∷ ps) [] h g i = absurd h
 each_goal us c env (p ∷ ps) (x ∷ gs) h g (inl e) = (let y = h.0 in rw e (y.param_env, y.holds, y.knows))
 each_goal us c env (p ∷ ps) (x ∷ gs) h g (inr i) = each_goal us c env ps gs h.1 g i
 
-posed_each : (us : List Tree) (u : Table) (env : ParamEnv) (ps : List Relating) (gs : List Goal) → IsTable us u → HoldsEnv us env → Knows (content_of us u.entries) (tree_at us env.node) → AreGoalsOfPairs us (content_of us u.entries) env ps gs → ArePosed us u (with_source gs)
+pub posed_each : (us : List Tree) (u : Table) (env : ParamEnv) (ps : List Relating) (gs : List Goal) → IsTable us u → HoldsEnv us env → Knows (content_of us u.entries) (tree_at us env.node) → AreGoalsOfPairs us (content_of us u.entries) env ps gs → ArePosed us u (with_source gs)
 posed_each us u env [] [] w h k q = All-nil (λ x. IsPosed us u x.1)
 posed_each us u env [] (g ∷ gs) w h k q = absurd q
 posed_each us u env (p ∷ ps) [] w h k q = absurd q
@@ -112,7 +112,7 @@ posed_each us u env (p ∷ ps) (g ∷ gs) w h k q =
     (posed_each us u env ps gs w h k q.1)
 
 -- .. as premises
-premises_each : (us : List Tree) (c : Content) (env : ParamEnv) (z : Tree) → tree_at us env.node ≡ z → (ps : List Relating) (gs : List Goal) → AreGoalsOfPairs us c env ps gs → goals_at us (with_source gs) ≡ map (relating z) (map (λ g. tree_at us g.predicate.node) gs)
+pub premises_each : (us : List Tree) (c : Content) (env : ParamEnv) (z : Tree) → tree_at us env.node ≡ z → (ps : List Relating) (gs : List Goal) → AreGoalsOfPairs us c env ps gs → goals_at us (with_source gs) ≡ map (relating z) (map (λ g. tree_at us g.predicate.node) gs)
 premises_each us c env z e [] [] h = refl
 premises_each us c env z e [] (g ∷ gs) h = absurd h
 premises_each us c env z e (p ∷ ps) [] h = absurd h
@@ -128,7 +128,7 @@ directed_passes P q h variance.Invariant a b x y = (q (label.List list.Binder) t
 directed_passes P q h variance.Covariant a b x y = (q (label.List list.Binder) tt, ((q (label.List list.Sorts) tt, tt), ((q (label.Predicate h) tt, (x, (y, tt))), tt)))
 directed_passes P q h variance.Contravariant a b x y = (q (label.List list.Binder) tt, ((q (label.List list.Sorts) tt, tt), ((q (label.Predicate h) tt, (y, (x, tt))), tt)))
 
-labels_each : (us : List Tree) (c : Content) (env : ParamEnv) (P : Label → Bool) → PassesQueries P → TreePasses P (tree_at us env.node) → (ps : List Relating) (gs : List Goal) → AreGoalsOfPairs us c env ps gs → PairsPass P (pairs_at us ps) → (t : Tree) → Among (terms_of us (with_source gs)) t → TreePasses P t
+pub labels_each : (us : List Tree) (c : Content) (env : ParamEnv) (P : Label → Bool) → PassesQueries P → TreePasses P (tree_at us env.node) → (ps : List Relating) (gs : List Goal) → AreGoalsOfPairs us c env ps gs → PairsPass P (pairs_at us ps) → (t : Tree) → Among (terms_of us (with_source gs)) t → TreePasses P t
 labels_each us c env P q e [] [] h k t i = absurd i
 labels_each us c env P q e [] (g ∷ gs) h k t i = absurd h
 labels_each us c env P q e (p ∷ ps) [] h k t i = absurd h
@@ -152,7 +152,7 @@ types_known : (c : Content) (a b s : Tree) → SaysSubtype a b s → Knows c s �
 types_known c a b s (is_subtype x) k = (let y = k.1 in (y.0, y.1.0))
 types_known c a b s is_coerced k = (let y = k.1 in (y.0, y.1.0))
 
-query_rows : (P : Label → Bool) → PassesQueries P → PassesRows P
+pub query_rows : (P : Label → Bool) → PassesQueries P → PassesRows P
 query_rows P q = record { variables = query_variables P q; lists = q (label.List list.Args) tt }
 
 module _ {g a b : Tree} (is : IsSubtyping g a b) where

@@ -1,17 +1,14 @@
 -- Goals that are evaluated in steps: what was asked so far, what is left, and what is proved.
 use Rattle.std.proofs.Common.{◌≡◌, ◌⊎◌, true, false, inl, inr, ⊎_elim, ℕ, zero, suc, ◌+◌, ◌<◌, List, [], ◌∷◌, ◌++◌, map, length, take, get_or, refl, sym, ap, ◌∙◌, subst, arith}
-use Rattle.std.specs.Prelude.{All, ◌≢◌, Result, Ok, Err, OnErr}
+use Rattle.std.specs.Prelude.{All, Result, Ok, Err, OnErr}
 use Rattle.std.specs.Result.{is_err}
 use Rattle.nts_trying.proofs.Labels.{content_same}
 use Rattle.std.proofs.lemmas.List.Elements.{All-head, All-tail}
 use Rattle.nts_model.specs.Lists.{Among}
-use Rattle.nts_model.specs.Derivations.Sequents.{inductive}
 use Rattle.nts_model.specs.Derivations.Rules.{Mode, GoalKind, step_kind}
 use Rattle.nts_model.specs.Derivations.Proofs.{Assumed, passed}
 use Rattle.nts_theory.proofs.Derivations.Assuming.{Covers, covers_passed}
 use Rattle.nts_certainty.specs.declared.sources.PathKind.{PathKind}
-use Rattle.nts_certainty.specs.declared.sources.PathKind.TheVariants as path
-use Rattle.nts_certainty.specs.declared.sources.GoalSource.TheVariants as source
 use Rattle.nts_meaning.specs.nts_search.specs.declared.kinds.CurrentGoalKind.{CurrentGoalKind}
 use Rattle.nts_meaning.specs.nts_search.specs.Kinds.{goal_kind_of}
 use Rattle.nts_candidates.specs.Offered.{path_kind_of, source_of}

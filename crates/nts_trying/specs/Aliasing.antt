@@ -1,25 +1,29 @@
 -- Goals of the store about an alias.
-use Rattle.std.specs.Prelude.{◌≡◌, ◌⊎◌, false, List, [], ◌∷◌}
-use Rattle.nts_model.specs.Terms.Trees.{Tree, any_label, is_alias, IsClosed}
+use Rattle.std.specs.Prelude.{◌≡◌, ◌⊎◌, Bool, true, false, List, [], ◌∷◌}
+use Rattle.nts_model.specs.Terms.Trees.{Tree, any_label, is_alias, kind_of, IsClosed}
 use Rattle.nts_model.specs.Tables.Contents.{Content}
 use Rattle.nts_model.specs.Derivations.Related.{pair, unbound, IsAlias}
-use Rattle.nts_model.specs.Lists.{Among}
-use Rattle.nts_model.specs.Derivations.Rules.{Meaning, Mode, Equation, related, alike, other_goal, normalization_goal}
-use Rattle.nts_model.specs.Derivations.Handlers.{Candidate}
-use Rattle.nts_delegate.specs.Relevant.{IsIrrelevant}
+use Rattle.nts_model.specs.Derivations.Rules.{Meaning, Mode, other_goal, normalization_goal}
 use Rattle.nts_model.specs.Derivations.Proofs.{Assumed}
+use Rattle.nts_model.specs.Derivations.Proving.{IsTermOf}
+use Rattle.nts_model.specs.Tables.Passing.{BringsOnly}
+use Rattle.nts_terms.specs.declared.cx.Cx.{Cx}
+use Rattle.nts_meaning.specs.Evaluation.{asked_terms, goals_at}
+use Rattle.nts_trying.specs.Stepping.{ArePosed, terms_of}
 use Rattle.nts_model.specs.Derivations.Sequents.{Premise}
 use Rattle.nts_model.specs.Searching.Stacks.{IsProvedFrom}
-use Rattle.nts_theory.specs.Aliasing.{EquatesAlias, NormalizesSide}
-use Rattle.nts_theory.specs.Telling.{IsAliasStatement, Verdict, IsFound, SaysOf, StandsForAll, IsPlainResponse}
+use Rattle.nts_theory.specs.Aliasing.{EquatesAlias, EquatesAliases, NormalizesSide, NormalizesSides}
+use Rattle.nts_theory.specs.Telling.{IsAliasStatement, IsTraitStatement, Verdict, IsFound, SaysOf, StandsForAll, IsPlainResponse}
 use Rattle.nts_theory.specs.RelatingCandidates.{IsCutIn}
-use Rattle.nts_store.specs.Growth.{tree_at}
+use Rattle.nts_store.specs.Growth.{tree_at, IsIn}
 use Rattle.nts_certainty.specs.declared.sources.GoalSource.{GoalSource}
 use Rattle.nts_certainty.specs.declared.sources.GoalSource.TheVariants as source
 use Rattle.nts_terms.specs.declared.handles.Goal.{Goal}
 use Rattle.nts_terms.specs.declared.handles.GenericArg.{GenericArg}
 use Rattle.nts_terms.specs.declared.modes.TypingMode.{TypingMode}
 use Rattle.nts_terms.specs.Handles.{HoldsTerm, HoldsPredicate}
+use Rattle.nts_store.specs.declared.nodes.NodeId.{NodeId}
+use Rattle.nts_model.specs.Tables.Resolving.{Knows}
 use Rattle.nts_terms.specs.Modes.{mode_of}
 use Rattle.nts_canonical.specs.declared.types.Canonical.{Canonical}
 use Rattle.nts_canonical.specs.Forms.{trees_of}
@@ -33,15 +37,18 @@ use Rattle.nts_meaning.specs.Telling.{Ruling, Outcomes, Reaches, RefusesOne}
 use Rattle.nts_trying.specs.Outliving.{IsClosedEnv}
 use Rattle.nts_trying.specs.declared.normal.EquatedAlias.{EquatedAlias}
 
--- a goal says of an alias that it is a term, or that it normalizes to one: it binds nothing, its environment is closed, and no alias
--- stands in the terms of either
+-- a statement says of an alias that it is a term, or that it normalizes to one; or of a trait's arguments that the trait holds, in a goal
+-- that has an alias
+abbrev pub ConcernsAlias : Tree → Bool → Type 0
+ConcernsAlias s b = IsAliasStatement s ⊎ IsTraitStatement s × (b ≡ true)
+
+-- a goal does: it binds nothing, and its environment is closed
 pub record AliasGoalIn (ts : List Tree) (g : Goal) : Type 0 where
   pub statement : Tree
   pub binds_nothing : tree_at ts g.predicate.node ≡ unbound statement
-  pub says : IsAliasStatement statement
+  pub says : ConcernsAlias statement (any_label is_alias (pair (tree_at ts g.param_env.node) (tree_at ts g.predicate.node)))
   pub closed : IsClosed statement
   pub environment : IsClosedEnv (tree_at ts g.param_env.node)
-  pub no_alias : any_label is_alias (pair (tree_at ts g.param_env.node) (tree_at ts g.predicate.node)) ≡ false
 
 -- outside of coherence each candidate that is offered for a goal fails or replies, and what a response of the store e says stands for
 -- the replies
@@ -56,25 +63,14 @@ abbrev pub IsAliasTold : Ruling → TypingMode → List Tree → Table → Goal 
 IsAliasTold h mode a t g qs e r =
     SaysOffered h mode a t g qs e r ⊎ (is_yes r.value.certainty ≡ false) × IsPlainResponse (content_of a t.entries) (trees_of a qs) (response_at e r)
 
--- an equation takes its sides as they stand, or no alias stands in them
-abbrev pub IsPlainEquation : Equation → Type 0
-IsPlainEquation (related a b) = (any_label is_alias a ≡ false) × (any_label is_alias b ≡ false)
-IsPlainEquation (alike a b) = Unit {0}
-
--- .. as does each equation of a candidate
-abbrev pub HasPlainEquations : Candidate → Type 0
-HasPlainEquations x = (q : Equation) → Among x.equations q → IsPlainEquation q
-
--- .. and why it has no solution: outside of coherence each candidate that is offered fails, and none of them that may be met relates
--- an alias
+-- .. and why it has no solution: outside of coherence each candidate that is offered fails
 pub record IsAliasRefuted (h : Ruling) (mode : TypingMode) (a : List Tree) (t : Table) (g : Goal) (qs : List GenericArg) : Type 0 where
   pub outside : IsCutIn (mode_of mode)
   pub outcomes : Outcomes h (mode_of mode) (content_of a t.entries) (tree_at a g.param_env.node) (tree_at a g.predicate.node) (trees_of a qs) (offers_of h.handler (mode_of mode) a g) []
-  pub plain : (x : Candidate) → Among (offers_of h.handler (mode_of mode) a g) x → HasPlainEquations x ⊎ IsIrrelevant x
 
--- a goal says that an alias is equal to a closed term that is none: it binds nothing, and its environment is closed
+-- a goal says that an alias is equal to a closed term, which may be another alias: it binds nothing, and its environment is closed
 pub record EquatedIn (ts : List Tree) (g : Goal) (a t : Tree) : Type 0 where
-  pub says : EquatesAlias (tree_at ts g.predicate.node) a t
+  pub says : EquatesAlias (tree_at ts g.predicate.node) a t ⊎ EquatesAliases (tree_at ts g.predicate.node) a t
   pub ends : IsClosed t
   pub environment : IsClosedEnv (tree_at ts g.param_env.node)
 
@@ -84,28 +80,75 @@ pub record IsEquatedGoal (ts : List Tree) (g : Goal) (r : EquatedAlias) : Type 0
   pub term : HoldsTerm ts r.term
   pub is : EquatedIn ts g (tree_at ts r.alias.node) (tree_at ts r.term.node)
 
--- the one goal that is left of such a goal, of the store us: that the alias normalizes to the term
-pub record AreNormalGoals (ts us : List Tree) (g : Goal) (r : EquatedAlias) (gs : List (GoalSource × Goal)) : Type 0 where
-  pub normal : Goal
-  pub are : gs ≡ (source.TypeRelating, normal) ∷ []
-  pub environment : normal.param_env ≡ g.param_env
-  pub holds : HoldsPredicate us normal.predicate
-  pub tree : (x : IsAlias (tree_at ts r.alias.node)) → tree_at us normal.predicate.node ≡ normalization_goal x.head x.parts (tree_at ts r.term.node)
+-- the alias of a goal normalizes to what it is to be equal to; or, if both are aliases, both normalize to one closed term
+pub record NormalizesTogether (m : Meaning) (mode : Mode) (A : List Assumed) (c : Content) (e g : Tree) : Type 0 where
+  pub left : Tree
+  pub right : Tree
+  pub is : EquatesAliases g left right
+  pub term : Tree
+  pub known : IsTermOf c term
+  pub ends : IsClosed term
+  pub kind : kind_of term ≡ kind_of left
+  pub first : (let x = is.left in IsProvedFrom m mode A c e (normalization_goal x.head x.parts term))
+  pub second : (let x = is.right in IsProvedFrom m mode A c e (normalization_goal x.head x.parts term))
 
--- what is left of a goal is proved in an environment from assumptions: that an alias normalizes to a closed term
-pub record IsNormalizedBy (m : Meaning) (mode : Mode) (A : List Assumed) (c : Content) (e g : Tree) : Type 0 where
+pub record NormalizesAlone (m : Meaning) (mode : Mode) (A : List Assumed) (c : Content) (e g : Tree) : Type 0 where
   pub premise : Premise
   pub side : NormalizesSide e g premise
   pub ends : IsClosed side.right
   pub proved : IsProvedFrom m mode A c e premise.predicate
 
+-- .. so what is left of a goal is proved in an environment from assumptions
+abbrev pub IsNormalizedBy : Meaning → Mode → List Assumed → Content → Tree → Tree → Type 0
+IsNormalizedBy m mode A c e g = NormalizesAlone m mode A c e g ⊎ NormalizesTogether m mode A c e g
+
+-- a goal that an alias of the store a normalizes to a term, in a store b that has grown, in the environment of another goal
+pub record IsNormalGoal (a b : List Tree) (goal : Goal) (x v : Tree) (normal : Goal) : Type 0 where
+  pub environment : normal.param_env ≡ goal.param_env
+  pub holds : HoldsPredicate b normal.predicate
+  pub tree : (y : IsAlias x) → tree_at b normal.predicate.node ≡ normalization_goal y.head y.parts v
+
+-- one is left, by which an alias normalizes to the term that it is to be equal to
+pub record LeavesOne (a b : List Tree) (g : Goal) (left : List (GoalSource × Goal)) : Type 0 where
+  pub normal : Goal
+  pub are : left ≡ (source.TypeRelating, normal) ∷ []
+  pub alias : Tree
+  pub term : Tree
+  pub is : EquatesAlias (tree_at a g.predicate.node) alias term
+  pub ends : IsClosed term
+  pub goal : IsNormalGoal a b g alias term normal
+
+-- two are left, by which both aliases normalize to one variable of the table
+pub record LeavesTwo (a b : List Tree) (u : Table) (g : Goal) (left : List (GoalSource × Goal)) : Type 0 where
+  pub first : Goal
+  pub second : Goal
+  pub are : left ≡ (source.TypeRelating, first) ∷ (source.TypeRelating, second) ∷ []
+  pub alias : Tree
+  pub other : Tree
+  pub variable : NodeId
+  pub is : EquatesAliases (tree_at a g.predicate.node) alias other
+  pub within : IsIn b variable
+  pub knows : Knows (content_of b u.entries) (tree_at b variable)
+  pub ends : IsClosed (tree_at b variable)
+  pub kind : kind_of (tree_at b variable) ≡ kind_of alias
+  pub goal : IsNormalGoal a b g alias (tree_at b variable) first
+  pub other_goal : IsNormalGoal a b g other (tree_at b variable) second
+
+-- these goals are left of a goal that an alias is equal to a term. They have no labels but those of the goal
+pub record BeginsNormalizing (a b : Cx) (t u : Table) (g : Goal) (left : List (GoalSource × Goal)) : Type 0 where
+  pub posed : ArePosed b.nodes u left
+  pub sides : NormalizesSides (content_of a.nodes t.entries) (content_of b.nodes u.entries) (tree_at a.nodes g.param_env.node) (tree_at a.nodes g.predicate.node) (goals_at b.nodes left)
+  pub labels : {d : Content} → BringsOnly (terms_of b.nodes left) (content_of b.nodes u.entries) d → BringsOnly (asked_terms a.nodes g) (content_of a.nodes t.entries) d
+  pub goals : LeavesOne a.nodes b.nodes g left ⊎ LeavesTwo a.nodes b.nodes u g left
+
 -- outside of coherence what is left of a goal was asked, which came to the table `found`, and a verdict says what was found
 pub record SaysNormal (h : Ruling) (mode : Mode) (c : Content) (e g : Tree) (qs : List Tree) (v : Verdict) : Type 0 where
   pub outside : IsCutIn mode
-  pub premise : Premise
-  pub side : NormalizesSide e g premise
+  pub left : List Premise
+  pub met : Content
+  pub sides : NormalizesSides c met e g left
   pub found : Content
-  pub reaches : Reaches h mode (premise ∷ []) c found
+  pub reaches : Reaches h mode left met found
   pub is_found : IsFound c e g found
   pub says : SaysOf c found qs v
 
@@ -113,9 +156,10 @@ pub record SaysNormal (h : Ruling) (mode : Mode) (c : Content) (e g : Tree) (qs 
 abbrev pub NormalTold : Ruling → Mode → Content → Tree → Tree → List Tree → Verdict → Type 0
 NormalTold h mode c e g qs v = SaysNormal h mode c e g qs v ⊎ (v.is_yes ≡ false) × IsPlainResponse c qs v.response
 
--- .. and why it has no solution: outside of coherence what is left of the goal is refused
+-- .. and why it has no solution: outside of coherence a goal that is left of it is refused
 pub record NormalRefuted (h : Ruling) (mode : Mode) (c : Content) (e g : Tree) : Type 0 where
   pub outside : IsCutIn mode
-  pub premise : Premise
-  pub side : NormalizesSide e g premise
-  pub refused : RefusesOne h mode other_goal (premise ∷ []) c
+  pub left : List Premise
+  pub met : Content
+  pub sides : NormalizesSides c met e g left
+  pub refused : RefusesOne h mode other_goal left met

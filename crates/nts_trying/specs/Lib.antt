@@ -9,5 +9,6 @@ pub mod Rows
 pub mod Outliving
 pub mod Subtyping
 pub mod Aliasing
+pub mod Relating
 pub mod Owning
 pub mod Stopping

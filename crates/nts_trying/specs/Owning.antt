@@ -8,6 +8,7 @@ use Rattle.nts_model.specs.Terms.Scoping.{IsWellBound}
 use Rattle.nts_model.specs.Derivations.Related.{pair, unbound}
 use Rattle.nts_model.specs.Derivations.Rules.{statement_of}
 use Rattle.nts_model.specs.Derivations.Handlers.{Candidate, Handler, Judgements}
+use Rattle.nts_theory.specs.RelatingCandidates.{HasPlainEquations}
 use Rattle.nts_theory.specs.Affirming.{evaluatable, has_type, is_well_formed, SaysAffirmed, IsDenied, HasOwnWay}
 use Rattle.nts_certainty.specs.declared.certainty.Certainty.TheVariants as certainty
 use Rattle.nts_certainty.specs.declared.reruns.RerunCondition.TheVariants as rerun
@@ -88,11 +89,12 @@ pub record IsPlainWay (c : CandidateData) (qs : List Equation) (gs : List Candid
 abbrev pub misc_goal : Goal → CandidateGoal
 misc_goal g = record { source = source.Misc; goal = g }
 
--- what is known of the goal is so: it holds, it does not, or it does where the candidate does, as its one way
+-- what is known of the goal is so: it holds, it does not, or it does where the candidate does, as its one way, whose equations relate no
+-- aliases
 abbrev pub IsJudgedBy : Judgements → List Tree → Goal → Judged → Type 0
 IsJudgedBy j ts g judged.Yes = SaysAffirmed j (tree_at ts g.param_env.node) (tree_at ts g.predicate.node)
 IsJudgedBy j ts g judged.No = IsDenied j (statement_of (tree_at ts g.predicate.node))
-IsJudgedBy j ts g (judged.Way b) = HasOwnWay j (tree_at ts g.param_env.node) (tree_at ts g.predicate.node) (candidate_of ts b.value) × IsCandidate ts g b.value
+IsJudgedBy j ts g (judged.Way b) = HasOwnWay j (tree_at ts g.param_env.node) (tree_at ts g.predicate.node) (candidate_of ts b.value) × IsCandidate ts g b.value × HasPlainEquations (candidate_of ts b.value)
 IsJudgedBy j ts g judged.Unknown = Unit {0}
 
 abbrev pub IsJudgedSo : Handler → List Tree → Goal → Judged → Type 0

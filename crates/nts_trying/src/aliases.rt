@@ -1,45 +1,58 @@
-//! Goals about an alias: that it is a term, or that it normalizes to one.
+//! Goals about an alias: that it is a term, or that it normalizes to one; and trait goals in which aliases stand.
 ghost use Rattle.std.specs.Prelude.{◌≡◌, ◌↔◌, IsTrue, true, false, List};
-ghost use Rattle.nts_model.specs.Terms.Trees.{Tree};
+ghost use Rattle.nts_model.specs.Terms.Trees.{Tree, any_label, is_alias};
+ghost use Rattle.nts_model.specs.Derivations.Related.{pair};
+ghost use Rattle.nts_store.specs.Growth.{tree_at};
 ghost use Rattle.nts_terms.specs.Kinds.{tree_of_statement};
 ghost use Rattle.nts_terms.specs.Handles.{HoldsGoal};
-ghost use Rattle.nts_theory.specs.Telling.{IsAliasStatement};
-ghost use Rattle.nts_trying.specs.Aliasing.{AliasGoalIn};
+ghost use Rattle.nts_trying.specs.Aliasing.{ConcernsAlias, AliasGoalIn};
 
 use crate::outlives::is_closed_env;
 use nts_terms::{ClauseKind, Cx, Goal, PredicateKind};
 
-/// Whether a statement says of an alias that it is a term, or that it normalizes to one.
-fn is_of_alias(statement: PredicateKind) -> bool
-    ensures yes { result ≡ true → (ts : List Tree) → IsAliasStatement (tree_of_statement ts
-        statement) }
-    ensures no { result ≡ false → (ts : List Tree) → IsAliasStatement (tree_of_statement ts
-        statement) → ⊥ }
+/// Whether a statement says of an alias that it is a term, or that it normalizes to one; or of a trait's arguments that the trait holds,
+/// where an alias stands in the goal.
+fn concerns_alias(statement: PredicateKind, has_alias: bool) -> bool
+    ensures yes { result ≡ true → (ts : List Tree) → ConcernsAlias (tree_of_statement ts statement)
+        has_alias }
+    ensures no { result ≡ false → (ts : List Tree) → ConcernsAlias (tree_of_statement ts statement)
+        has_alias → ⊥ }
 {
     match statement {
         PredicateKind::NormalizesTo { .. } => true,
-        PredicateKind::Clause(clause) => matches!(clause, ClauseKind::Projection { .. }),
+        PredicateKind::Clause(clause) => match clause {
+            ClauseKind::Projection { .. } => true,
+            ClauseKind::Trait(_) => has_alias,
+            ClauseKind::HostEffect(_) => has_alias,
+            _ => false,
+        },
         _ => false,
     }
 }
 
-/// Whether a goal says so, where it binds nothing, and neither its terms nor its environment have an alias or a bound variable that is
-/// without its binder.
+/// Whether an alias stands in a goal.
+fn has_alias(cx: &Cx, goal: Goal) -> bool
+    requires { HoldsGoal cx.now.nodes goal }
+    ensures { result ≡ any_label is_alias (pair (tree_at cx.now.nodes goal.param_env.node)
+        (tree_at cx.now.nodes goal.predicate.node)) }
+{
+    let env = cx.nodes.flags(goal.param_env.node);
+    let says = cx.nodes.flags(goal.predicate.node);
+    env.has_alias || says.has_alias
+}
+
+/// Whether a goal does, where it binds nothing, and neither its terms nor its environment have a bound variable that is without its
+/// binder.
 #[inline(never)]
 pub(crate) fn is_alias_goal(cx: &Cx, goal: Goal) -> bool
     requires { HoldsGoal cx.now.nodes goal }
     ensures { IsTrue result ↔ AliasGoalIn cx.now.nodes goal }
 {
     let predicate = goal.predicate.kind(cx);
-    if !is_of_alias(predicate.value) {
+    if !concerns_alias(predicate.value, has_alias(cx, goal)) {
         return false;
     }
     if predicate.vars.len(cx) != 0 {
-        return false;
-    }
-    let env = cx.nodes.flags(goal.param_env.node);
-    let says = cx.nodes.flags(goal.predicate.node);
-    if env.has_alias || says.has_alias {
         return false;
     }
     if !goal.predicate.has_closed_statement(cx) {

@@ -1,9 +1,10 @@
 //! Trying and running one candidate.
-ghost use Rattle.std.specs.Prelude.{◌≡◌, ◌≢◌, ◌↔◌, map, IfOk, OnOk, IsOkUnless};
+ghost use Rattle.std.specs.Prelude.{◌≡◌, ◌≢◌, ◌↔◌, Some, map, IfOk, OnOk, IsOkUnless};
 ghost use Rattle.nts_model.specs.declared.labels.Sort.TheVariants as sort;
 ghost use Rattle.nts_model.specs.declared.labels.Relation.TheVariants as relations;
 ghost use Rattle.nts_model.specs.Terms.Trees.{kind_of, of_sort, IsClosed};
-ghost use Rattle.nts_store.specs.Growth.{tree_at};
+ghost use Rattle.nts_store.specs.Growth.{tree_at, IsIn};
+ghost use Rattle.nts_model.specs.Answers.Applying.{IsNew};
 ghost use Rattle.nts_model.specs.Tables.Recording.{left_kind};
 ghost use Rattle.nts_unify.specs.Reading.{content_of};
 ghost use Rattle.nts_table.specs.Tables.{IsTable};
@@ -15,7 +16,7 @@ ghost use Rattle.nts_model.specs.Refutation.Choosing.{Freshens, IsCandidateMet};
 ghost use Rattle.nts_model.specs.Tables.Passing.{BringsLabelsOf, BringsNoLabels, BringsOnly};
 ghost use Rattle.nts_model.specs.Refutation.Forcing.{Adds, AddsBy, AddsAll};
 ghost use Rattle.nts_model.specs.Terms.Substitutions.{filled};
-ghost use Rattle.nts_model.specs.Derivations.Handlers.{constraint_by};
+ghost use Rattle.nts_model.specs.Derivations.Handlers.{constraint_by, kind_of_sort};
 ghost use Rattle.nts_candidates.specs.Offered.{equation_of, constraint_of, candidate_of};
 ghost use Rattle.nts_meaning.specs.Running.{Stays, HoldsOutlives, constraint_between, EquationHolds, ConstraintHolds, EquatesEach, Constrains};
 ghost use Rattle.nts_meaning.specs.Evaluation.{Goes, Runs, IsPosed, AreValues, asked_terms, AsksOnly};
@@ -68,7 +69,12 @@ impl Trial<'_> {
     }
 
     /// Two terms of the candidate, likewise.
-    fn instantiate_both(self, cx: &mut Cx, a: NodeId, b: NodeId) -> Result<(NodeId, NodeId), Fault>
+    pub(crate) fn instantiate_both(
+        self,
+        cx: &mut Cx,
+        a: NodeId,
+        b: NodeId,
+    ) -> Result<(NodeId, NodeId), Fault>
         requires left { IsOverIn cx.old.nodes self.fresh.now self.goal a }
         requires right { IsOverIn cx.old.nodes self.fresh.now self.goal b }
         requires holds { HoldsGoal cx.old.nodes self.goal }
@@ -149,6 +155,23 @@ fn fresh_values(table: &mut InferCtxt, cx: &mut Cx, fresh: &[Sort]) -> Result<Ve
         Ok(values) => Ok(values),
         Err(fault) => Err(fault),
     }
+}
+
+/// A new variable of this sort.
+pub(crate) fn fresh_value(table: &mut InferCtxt, cx: &mut Cx, sort: Sort) -> Result<NodeId, Fault>
+    requires { IsTable cx.old.nodes table.old }
+    ensures runs { Runs cx.old cx.new table.old table.new }
+    ensures within { IfOk result (λ v. IsIn cx.new.nodes v) }
+    ensures kind { IfOk result (λ v. kind_of (tree_at cx.new.nodes v) ≡ Some (of_sort sort)) }
+    ensures new { IfOk result (λ v. IsNew (content_of cx.old.nodes table.old.entries)
+        (content_of cx.new.nodes table.new.entries) (kind_of_sort sort) table.old.entries.universe
+        (tree_at cx.new.nodes v)) }
+    ensures labels { OnOk result (BringsNoLabels (content_of cx.old.nodes table.old.entries)
+        (content_of cx.new.nodes table.new.entries)) }
+    ensures memory { IsOkUnless result Fault.Memory }
+{
+    let values = fresh_values(table, cx, &[sort])?;
+    Ok(values[0])
 }
 
 /// Makes a candidate's fresh variables and equates its equations; answers the variables. Where an

@@ -13,6 +13,7 @@ mod normal;
 mod offered;
 mod outlives;
 mod own;
+mod relating;
 mod steps;
 mod subtypes;
 
@@ -23,8 +24,9 @@ pub use kinds::{GoalRow, goal_kind, goal_row};
 pub use leaks::check_leaks;
 pub use merged::{keep_response, merge_responses};
 pub use normal::{EquatedAlias, equated_in, normal_goals};
-pub use offered::{are_plain, relevant_candidates};
+pub use offered::relevant_candidates;
 pub use outlives::{Outlives, answer_outlives};
 pub use own::{Judged, OwnGoal, judge};
+pub use relating::{begin_relating, needs_relating};
 pub use steps::{AvailableDepth, Step, depth_below};
 pub use subtypes::{TypePair, relate_types};

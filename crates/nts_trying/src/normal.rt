@@ -1,5 +1,5 @@
 //! Goals that an alias is equal to a term.
-ghost use Rattle.std.specs.Prelude.{◌≡◌, true, IfOk, IfSome, IsNone, IsOkUnless};
+ghost use Rattle.std.specs.Prelude.{◌≡◌, true, false, IfOk, IfSome, IsNone, IsOkUnless};
 ghost use Rattle.nts_model.specs.Terms.Trees.{is_alias, kind_of};
 ghost use Rattle.nts_model.specs.Derivations.Related.{alias_label, IsAlias};
 ghost use Rattle.nts_model.specs.Derivations.Rules.{normalization_goal};
@@ -9,15 +9,18 @@ ghost use Rattle.nts_terms.specs.declared.handles.Term.{Term};
 ghost use Rattle.nts_store.specs.Growth.{tree_at, IsIn};
 ghost use Rattle.nts_terms.specs.Handles.{HoldsGoal, HoldsPredicate, HoldsTerm};
 ghost use Rattle.nts_terms.specs.Rest.{Grows};
+ghost use Rattle.nts_meaning.specs.Evaluation.{Runs, IsPosed};
 ghost use Rattle.nts_variance.specs.Goals.{is_alias_node};
-ghost use Rattle.nts_trying.specs.Aliasing.{IsEquatedGoal, AreNormalGoals};
+ghost use Rattle.nts_trying.specs.Aliasing.{IsEquatedGoal, BeginsNormalizing};
 
+use crate::candidate::fresh_value;
 use crate::outlives::is_closed_env;
 use nts_certainty::GoalSource;
 use nts_model::{
-    AliasHead, AliasRelationDirection, ConstHead, Label, ListHead, PredicateHead, TyHead,
+    AliasHead, AliasRelationDirection, ConstHead, Label, ListHead, PredicateHead, Sort, TyHead,
 };
 use nts_store::Fault;
+use nts_table::InferCtxt;
 use nts_terms::{Cx, Goal, Predicate, PredicateKind, Term, TermKind};
 
 /// An alias, and the term that it is said to be equal to.
@@ -74,8 +77,8 @@ fn are_of_one_sort(cx: &Cx, left: Term, right: Term) -> bool
     }
 }
 
-/// What a goal says that an alias is equal to, where it binds nothing, the other term is no alias, and neither its terms nor its
-/// environment have a bound variable that is without its binder.
+/// What a goal says that an alias is equal to, where it binds nothing, and neither its terms nor its environment have a bound variable that
+/// is without its binder. Of two aliases the left one is the alias.
 #[inline(never)]
 pub fn equated_in(cx: &Cx, goal: Goal) -> Option<EquatedAlias>
     requires { HoldsGoal cx.now.nodes goal }
@@ -105,7 +108,11 @@ pub fn equated_in(cx: &Cx, goal: Goal) -> Option<EquatedAlias>
             alias: right,
             term: left,
         }),
-        _ => None,
+        (true, true) => Some(EquatedAlias {
+            alias: left,
+            term: right,
+        }),
+        (false, false) => None,
     }
 }
 
@@ -121,24 +128,28 @@ fn head_of(label: Label) -> AliasHead
     }
 }
 
-/// The goal that an alias normalizes to what it is said to be equal to.
-fn normal_goal(cx: &mut Cx, goal: Goal, equated: EquatedAlias) -> Result<Goal, Fault>
-    requires equated { IsEquatedGoal cx.old.nodes goal equated }
+/// The goal, in the environment of another one, that an alias normalizes to a term.
+fn normal_goal(cx: &mut Cx, goal: Goal, alias: Term, term: Term) -> Result<Goal, Fault>
+    requires alias { HoldsTerm cx.old.nodes alias }
+    requires is { IsAlias (tree_at cx.old.nodes alias.node) }
+    requires term { IsIn cx.old.nodes term.node }
+    requires kind { kind_of (tree_at cx.old.nodes term.node) ≡
+        kind_of (tree_at cx.old.nodes alias.node) }
     ensures environment { IfOk result (λ g. g.param_env ≡ goal.param_env) }
     ensures holds { IfOk result (λ g. HoldsPredicate cx.new.nodes g.predicate) }
-    ensures tree { IfOk result (λ g. (x : IsAlias (tree_at cx.old.nodes equated.alias.node)) →
+    ensures tree { IfOk result (λ g. (x : IsAlias (tree_at cx.old.nodes alias.node)) →
         tree_at cx.new.nodes g.predicate.node ≡
-        normalization_goal x.head x.parts (tree_at cx.old.nodes equated.term.node)) }
+        normalization_goal x.head x.parts (tree_at cx.old.nodes term.node)) }
     ensures grows { Grows cx.old cx.new }
     ensures memory { IsOkUnless result Fault.Memory }
 {
     cx.terms_are_formed();
     let nodes = &mut cx.nodes;
-    let head = head_of(nodes.label(equated.alias.node));
-    let args = nodes.child(equated.alias.node, 0);
+    let head = head_of(nodes.label(alias.node));
+    let args = nodes.child(alias.node, 0);
     let sorts = nodes.make(Label::List(ListHead::Sorts), &[])?;
     let normalizes = Label::Predicate(PredicateHead::NormalizesTo(head));
-    let statement = nodes.make(normalizes, &[args, equated.term.node])?;
+    let statement = nodes.make(normalizes, &[args, term.node])?;
     let node = nodes.make(Label::List(ListHead::Binder), &[sorts, statement])?;
     Ok(Goal {
         param_env: goal.param_env,
@@ -146,21 +157,77 @@ fn normal_goal(cx: &mut Cx, goal: Goal, equated: EquatedAlias) -> Result<Goal, F
     })
 }
 
-/// The goals that are left of a goal that an alias is equal to a term: that the alias normalizes to the term.
-#[inline(never)]
-pub fn normal_goals(
+/// What is left of a goal that an alias is equal to a term that is none: that the alias normalizes to the term.
+fn normalize_one(
+    table: &InferCtxt,
     cx: &mut Cx,
     goal: Goal,
     equated: EquatedAlias,
 ) -> Result<Vec<(GoalSource, Goal)>, Fault>
+    requires posed { IsPosed cx.old.nodes table.now goal }
     requires equated { IsEquatedGoal cx.old.nodes goal equated }
-    ensures goals { IfOk result (λ gs. AreNormalGoals cx.old.nodes cx.new.nodes goal equated
+    requires plain { is_alias_node (tree_at cx.old.nodes equated.term.node) ≡ false }
+    ensures begins { IfOk result (λ gs. BeginsNormalizing cx.old cx.new table.now table.now goal
         gs.items) }
     ensures grows { Grows cx.old cx.new }
     ensures memory { IsOkUnless result Fault.Memory }
 {
-    let normal = normal_goal(cx, goal, equated)?;
+    let _ = table;
+    let normal = normal_goal(cx, goal, equated.alias, equated.term)?;
     let mut goals = Vec::with_capacity(cx.alloc, 1)?;
     goals.push((GoalSource::TypeRelating, normal))?;
+    cx.terms_are_formed();
     Ok(goals)
+}
+
+/// What is left of a goal that two aliases are equal: that each of them normalizes to one new variable.
+fn normalize_both(
+    table: &mut InferCtxt,
+    cx: &mut Cx,
+    goal: Goal,
+    equated: EquatedAlias,
+) -> Result<Vec<(GoalSource, Goal)>, Fault>
+    requires posed { IsPosed cx.old.nodes table.old goal }
+    requires equated { IsEquatedGoal cx.old.nodes goal equated }
+    requires alias { is_alias_node (tree_at cx.old.nodes equated.term.node) ≡ true }
+    ensures runs { Runs cx.old cx.new table.old table.new }
+    ensures begins { IfOk result (λ gs. BeginsNormalizing cx.old cx.new table.old table.new goal
+        gs.items) }
+    ensures memory { IsOkUnless result Fault.Memory }
+{
+    cx.terms_are_formed();
+    let sort = match equated.alias.kind(cx) {
+        TermKind::Ty(_) => Sort::Ty,
+        TermKind::Const(_) => Sort::Const,
+    };
+    let variable = fresh_value(table, cx, sort)?;
+    let term = Term { node: variable };
+    let first = normal_goal(cx, goal, equated.alias, term)?;
+    let second = normal_goal(cx, goal, equated.term, term)?;
+    let mut goals = Vec::with_capacity(cx.alloc, 2)?;
+    goals.push((GoalSource::TypeRelating, first))?;
+    goals.push((GoalSource::TypeRelating, second))?;
+    Ok(goals)
+}
+
+/// The goals that are left of a goal that an alias is equal to a term: that the alias normalizes to the term; or, of two aliases, that
+/// both normalize to one new variable.
+#[inline(never)]
+pub fn normal_goals(
+    table: &mut InferCtxt,
+    cx: &mut Cx,
+    goal: Goal,
+    equated: EquatedAlias,
+) -> Result<Vec<(GoalSource, Goal)>, Fault>
+    requires posed { IsPosed cx.old.nodes table.old goal }
+    requires equated { IsEquatedGoal cx.old.nodes goal equated }
+    ensures runs { Runs cx.old cx.new table.old table.new }
+    ensures begins { IfOk result (λ gs. BeginsNormalizing cx.old cx.new table.old table.new goal
+        gs.items) }
+    ensures memory { IsOkUnless result Fault.Memory }
+{
+    if is_alias_term(cx, equated.term) {
+        return normalize_both(table, cx, goal, equated);
+    }
+    normalize_one(table, cx, goal, equated)
 }

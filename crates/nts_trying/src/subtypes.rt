@@ -115,7 +115,10 @@ fn variables_of(
 }
 
 /// Goals that relating left, each with the source that tells so.
-fn relating_goals(alloc: Global, goals: &[Goal]) -> Result<Vec<(GoalSource, Goal)>, AllocError>
+pub(crate) fn relating_goals(
+    alloc: Global,
+    goals: &[Goal],
+) -> Result<Vec<(GoalSource, Goal)>, AllocError>
     ensures { IfOk result (λ v. v.items ≡ with_source goals.now) }
 {
     let mut left = Vec::with_capacity(alloc, goals.len())?;

@@ -7,7 +7,7 @@ use Rattle.nts_terms.specs.Modes.{mode_of}
 use Rattle.nts_terms.proofs.Moved.{KeepsRest-trans, KeepsRest-refl}
 use Rattle.nts_unify.specs.Reading.{content_of}
 use Rattle.nts_table.specs.TableLaws.{IsTable-extended}
-use Rattle.nts_candidates.specs.Offered.{path_kind_of}
+use Rattle.nts_candidates.specs.Offered.{path_kind_of, candidate_of}
 use Rattle.nts_candidates.proofs.Results.{IfOk-map}
 use Rattle.nts_canonical.specs.Building.{kinds_of}
 use Rattle.nts_canonical.specs.Forms.{trees_of}
@@ -21,6 +21,8 @@ use Rattle.nts_meaning.proofs.Running.{constraints-kept}
 use Rattle.nts_theory.specs.Telling.{IsPlainResponse, SaysNothing}
 use Rattle.nts_theory.specs.Telling.Tells.{tells_nothing, says_nothing}
 use Rattle.nts_theory.specs.Telling.Fails.{is_unmet}
+use Rattle.nts_theory.proofs.Refutation.PlainParts.{part_is}
+use Rattle.nts_model.specs.Refutation.Choosing.{IsCandidateMet}
 use Rattle.nts_trying.proofs.Opened.{nothing_through, labels_through, labels_entered, opened_holds, outlives_told, outlives_through}
 use Rattle.nts_decisions.proofs.OpenedStatements.{trait_outlives_nothing}
 use Rattle.nts_trying.proofs.Probed.{found_in, went_in, doubtful}
@@ -53,6 +55,7 @@ use Rattle.nts_evaluation.proofs.evaluate.+evaluate.Answers.Own as own
 use Rattle.nts_evaluation.proofs.evaluate.+evaluate.Answers.Subtypes as subtypes
 use Rattle.nts_evaluation.proofs.evaluate.+evaluate.Answers.Aliases as aliases
 use Rattle.nts_evaluation.proofs.evaluate.+evaluate.Answers.Equated as equated
+use Rattle.nts_evaluation.proofs.evaluate.+evaluate.Answers.Relating as relating
 mod Queries
 mod Candidates
 mod Steps
@@ -60,6 +63,7 @@ mod Own
 mod Subtypes
 mod Aliases
 mod Equated
+mod Relating
 
 pub compute_goal-evaluate_candidates-response-requires : goal.compute_goal-evaluate_candidates-response-requires
 compute_goal-evaluate_candidates-response-requires = candidates.compute_goal-evaluate_candidates-response-requires
@@ -252,18 +256,6 @@ evaluate_alias-returns-then-matches = aliases.evaluate_alias-returns-then-matche
 
 pub evaluate_alias-returns-in_err-candidates : goal.evaluate_alias-returns-in_err-candidates
 evaluate_alias-returns-in_err-candidates = aliases.evaluate_alias-returns-in_err-candidates
-
-pub evaluate_alias-boxed_response-requires-then-not-are_plain-clause-table : goal.evaluate_alias-boxed_response-requires-then-not-are_plain-clause-table
-evaluate_alias-boxed_response-requires-then-not-are_plain-clause-table = aliases.evaluate_alias-boxed_response-requires-then-not-are_plain-clause-table
-
-pub evaluate_alias-boxed_response-requires-then-not-are_plain-clause-values : goal.evaluate_alias-boxed_response-requires-then-not-are_plain-clause-values
-evaluate_alias-boxed_response-requires-then-not-are_plain-clause-values = aliases.evaluate_alias-boxed_response-requires-then-not-are_plain-clause-values
-
-pub evaluate_alias-returns-in_err-doubt-2 : goal.evaluate_alias-returns-in_err-doubt-2
-evaluate_alias-returns-in_err-doubt-2 = aliases.evaluate_alias-returns-in_err-doubt-2
-
-pub evaluate_alias-returns-then-not-are_plain : goal.evaluate_alias-returns-then-not-are_plain
-evaluate_alias-returns-then-not-are_plain = aliases.evaluate_alias-returns-then-not-are_plain
 
 pub compute_goal-evaluate_equated-response-requires : goal.compute_goal-evaluate_equated-response-requires
 compute_goal-evaluate_equated-response-requires = equated.compute_goal-evaluate_equated-response-requires
@@ -731,7 +723,7 @@ try_candidate-returns-in_err-values g t c =
       told = λ s tells. IfOk-from_err c.from_residual.result _ fails;
       refuted = λ s tells n.
           let no : c.equate.result ≡ Err EvalError.NoSolution = search rules in
-          is_unmet (c.equate.ensures.unmet no);
+          is_unmet (λ met. c.equate.ensures.unmet no (subst (IsCandidateMet (content_of c.args.cx.now.nodes c.args.table.now.entries)) (part_is (mode_of c.args.table.now.mode) (candidate_of c.args.cx.now.nodes c.args.candidate.now) (c.needs_relating.ensures.no c.if-needs_relating.false)) met));
       decided = λ s n b d can.
           decides_refused c.from_residual.result fails
           (λ no.
@@ -804,3 +796,21 @@ try_evaluate_goals-returns-in_err-stepped = steps.try_evaluate_goals-returns-in_
 
 pub try_evaluate_goals-returns-then-not-stepped : goal.try_evaluate_goals-returns-then-not-stepped
 try_evaluate_goals-returns-then-not-stepped = steps.try_evaluate_goals-returns-then-not-stepped
+
+pub try_relating-returns-in_err-goals : goal.try_relating-returns-in_err-goals
+try_relating-returns-in_err-goals = relating.try_relating-returns-in_err-goals
+
+pub try_relating-try_evaluate_goals-requires : goal.try_relating-try_evaluate_goals-requires
+try_relating-try_evaluate_goals-requires = relating.try_relating-try_evaluate_goals-requires
+
+pub try_relating-returns-in_err-certainty : goal.try_relating-returns-in_err-certainty
+try_relating-returns-in_err-certainty = relating.try_relating-returns-in_err-certainty
+
+pub try_relating-returns : goal.try_relating-returns
+try_relating-returns = relating.try_relating-returns
+
+pub evaluate_equated-normal_goals-requires-clause-posed : goal.evaluate_equated-normal_goals-requires-clause-posed
+evaluate_equated-normal_goals-requires-clause-posed = equated.evaluate_equated-normal_goals-requires-clause-posed
+
+pub try_candidate-try_relating-requires : goal.try_candidate-try_relating-requires
+try_candidate-try_relating-requires g t c = λ κs k. (omega (arith, c.decreases), (k, (c.requires.posed, (c.requires.ready, (c.requires.candidate, ((c.needs_relating.ensures.yes c.if-needs_relating.true).0, ((c.needs_relating.ensures.yes c.if-needs_relating.true).1, c.requires.search)))))))

@@ -9,7 +9,7 @@ use Rattle.nts_delegate.specs.Judging.{predicates_read, IsGoalIn}
 use Rattle.nts_theory.specs.Affirming.{is_well_formed, by_goals, plain_way, IsOwnWay}
 use Rattle.nts_meaning.proofs.Evaluating.{HoldsGoal-extended}
 use Rattle.nts_trying.specs.Owning.{IsPlainWay, misc_goal}
-use Rattle.nts_trying.proofs.Owning.{states_in, plain_in, way_of, premises_there, term_candidate}
+use Rattle.nts_trying.proofs.Owning.{states_in, plain_in, way_of, premises_there, term_candidate, no_equations_plain}
 use Rattle.nts_trying.proofs.own.judge_term.Goals as goal
 
 pub returns-clause-judged : goal.returns-clause-judged
@@ -36,4 +36,5 @@ returns-clause-judged g c =
     let way : IsOwnWay h.judges e (is_well_formed t) (plain_way [] (map (premise_of b) gs)) = subst (λ z. IsOwnWay h.judges e (is_well_formed t) (plain_way [] z)) (sym (premises_there b goal_at c.in-Some.named.items all)) (by_goals q) in (
       way_of h.judges b goal_at (is_well_formed t) found [] gs c.terms_are_formed.ensures holds.predicate.within states plain way,
       term_candidate b goal_at c.args.term holds (plain_in up c.requires.holds c.requires.plain) states closed c.in-Some.named.items found all (λ p i. (let x = law.judges.goals e t ps p formed q i in x.0)) plain,
+      no_equations_plain b found gs plain,
     )

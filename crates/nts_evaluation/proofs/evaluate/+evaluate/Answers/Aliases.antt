@@ -1,29 +1,26 @@
 -- Goals about an alias.
-use Rattle.std.proofs.Common.{◌≡◌, ◌⊎◌, Err, Ok, inl, inr, ⊎_elim, arith, rules, true, [], refl, ap, ◌∙◌, subst}
-use Rattle.nts_model.specs.Derivations.Handlers.{meaning}
-use Rattle.nts_theory.specs.Telling.{IsPlainResponse}
+use Rattle.std.proofs.Common.{◌≡◌, inl, inr, ⊎_elim, arith, rules, refl, ap, ◌∙◌, subst}
 use Rattle.nts_store.specs.Growth.{tree_at}
 use Rattle.nts_store.proofs.Growing.{Extends-trans, Extends-refl}
 use Rattle.nts_terms.specs.Modes.{mode_of}
-use Rattle.nts_terms.proofs.Moved.{KeepsRest-refl}
 use Rattle.nts_unify.specs.Reading.{content_of}
 use Rattle.nts_unify.specs.Lawful.{content_of-extended}
 use Rattle.nts_candidates.specs.Offered.{candidates_of}
 use Rattle.nts_candidates.proofs.Results.{IfOk-map}
 use Rattle.nts_canonical.specs.Forms.{trees_of}
 use Rattle.nts_delegate.specs.Relevant.{LeavesOut}
-use Rattle.nts_meaning.specs.Answering.{is_yes, verdict_at}
+use Rattle.nts_meaning.specs.Answering.{is_yes}
 use Rattle.nts_meaning.specs.Meant.{ruling_since}
 use Rattle.nts_meaning.specs.Searching.{assumed_in}
 use Rattle.nts_meaning.proofs.AnsweredQueries.{args_later}
 use Rattle.nts_meaning.proofs.AskedGoals.{trees_kept}
 use Rattle.nts_meaning.proofs.Evaluating.{Goes-trans, Goes-extends, IsPosed-later, Since-later, offers-kept}
-use Rattle.nts_meaning.proofs.Rounds.{grown, search_then}
+use Rattle.nts_meaning.proofs.Rounds.{search_then}
 use Rattle.nts_meaning.proofs.Searching.{Searches-refl, search_grows, tell_grown}
 use Rattle.nts_trying.specs.Aliasing.{IsAliasTold, IsAliasRefuted}
 use Rattle.nts_trying.proofs.AliasGoals.{alias_asked}
 use Rattle.nts_trying.proofs.Labels.{only_back}
-use Rattle.nts_trying.proofs.LeftOut.{all_outcomes, each_offered, kept_offered}
+use Rattle.nts_trying.proofs.LeftOut.{all_outcomes, kept_offered}
 use Rattle.nts_trying.proofs.Opened.{labels_through, proved_through, told_offered, alias_told, alias_refuted}
 use Rattle.nts_certainty.specs.Certainties.{ambiguous}
 use Rattle.nts_response.specs.Forms.{response_at}
@@ -117,7 +114,7 @@ evaluate_alias-evaluate_candidates-requires g t c = λ κs k.
           (
             g.met.H.GoalHandler.ready_kept _ _ _ c.requires.ready e.grows.extends,
             (
-              rw c.deref-2.ensures.value e.candidates,
+              rw c.deref.ensures.value e.candidates,
               (
                 args_later c.args.cx.now.nodes c.relevant_candidates.new.cx.nodes c.args.table.now.entries c.args.table.now.entries c.args.values.now goes.extends goes.continues c.requires.values,
                 search_grows c.args.depth c.args.depth (omega arith) c.requires.search e.grows,
@@ -159,12 +156,12 @@ evaluate_alias-returns g t c =
                 let offered = subst (λ os. LeavesOut os (candidates_of c.relevant_candidates.new.cx.nodes c.in_ok-candidates.candidates.items)) (ap (λ m. (g.H.GoalHandler.handler c.relevant_candidates.new.cx.nodes c.args.handler.now).offers (mode_of m) (tree_at c.relevant_candidates.new.cx.nodes c.args.goal.param_env.node) (tree_at c.relevant_candidates.new.cx.nodes c.args.goal.predicate.node)) c.typing_mode-2.ensures ∙ same.offers _ _ _) e.offered in
                 f.sure y (Since-later e.grows s) (kept_offered _ c.args.goal _ h mode offered);
           })
-          (rw c.deref-2.ensures.value at r.found);
+          (rw c.deref.ensures.value at r.found);
       told = λ s tells.
           let h = ruling_since (λ ts. g.H.GoalHandler.handler ts c.args.handler.now) s in
           let same = g.met.H.GoalHandler.handler_kept s.base c.relevant_candidates.new.cx.nodes c.args.handler.now s.is_ready (Extends-trans s.extends e.grows.extends) in
           let offered = subst (λ os. LeavesOut os (candidates_of c.relevant_candidates.new.cx.nodes c.in_ok-candidates.candidates.items)) (ap (λ m. (g.H.GoalHandler.handler c.relevant_candidates.new.cx.nodes c.args.handler.now).offers (mode_of m) (tree_at c.relevant_candidates.new.cx.nodes c.args.goal.param_env.node) (tree_at c.relevant_candidates.new.cx.nodes c.args.goal.predicate.node)) c.typing_mode-2.ensures ∙ same.offers _ _ _) e.offered in
-          let run = rw c.deref-2.ensures.value at (r.told (Since-later e.grows s) (tell_grown h c.args.depth c.requires.search e.grows tells)) in
+          let run = rw c.deref.ensures.value at (r.told (Since-later e.grows s) (tell_grown h c.args.depth c.requires.search e.grows tells)) in
           IfOk-map c.evaluate_candidates.result
           (λ x f. ⊎_elim
           (λ v. inl (record { outside = search rules; verdicts = v.0; outcomes = v.1; stands = v.2 }))
@@ -174,15 +171,13 @@ evaluate_alias-returns g t c =
           let h = ruling_since (λ ts. g.H.GoalHandler.handler ts c.args.handler.now) s in
           let same = g.met.H.GoalHandler.handler_kept s.base c.relevant_candidates.new.cx.nodes c.args.handler.now s.is_ready (Extends-trans s.extends e.grows.extends) in
           let offered = subst (λ os. LeavesOut os (candidates_of c.relevant_candidates.new.cx.nodes c.in_ok-candidates.candidates.items)) (ap (λ m. (g.H.GoalHandler.handler c.relevant_candidates.new.cx.nodes c.args.handler.now).offers (mode_of m) (tree_at c.relevant_candidates.new.cx.nodes c.args.goal.param_env.node) (tree_at c.relevant_candidates.new.cx.nodes c.args.goal.predicate.node)) c.typing_mode-2.ensures ∙ same.offers _ _ _) e.offered in
-          let run = rw c.deref-2.ensures.value at (r.refuted (Since-later e.grows s) (tell_grown h c.args.depth c.requires.search e.grows tells) n) in
+          let run = rw c.deref.ensures.value at (r.refuted (Since-later e.grows s) (tell_grown h c.args.depth c.requires.search e.grows tells) n) in
           let environment = e.grows.extends.kept c.args.goal.param_env.node posed.holds.env.within in
           let predicate = e.grows.extends.kept c.args.goal.predicate.node posed.holds.predicate.within in
           let kept = offers-kept (g.H.GoalHandler.handler s.base c.args.handler.now) (mode_of mode) e.grows.extends posed.holds in
-          let plain_here = rw c.deref.ensures.value at (c.are_plain.ensures (search rules)) in
           record {
             outside = search rules;
             outcomes = rw (here, trees, kept, environment, predicate) at (all_outcomes offered _ _ refl run);
-            plain = rw kept at (each_offered offered plain_here);
           };
     }
 
@@ -209,39 +204,3 @@ evaluate_alias-returns-then-matches g t c =
 pub evaluate_alias-returns-in_err-candidates : goal.evaluate_alias-returns-in_err-candidates
 evaluate_alias-returns-in_err-candidates g t c =
     alias_failed c.from_residual-in_err-candidates.result (search rules) (search rules) (search rules) (Searches-refl c.args.depth c.requires.search c.relevant_candidates.ensures.grows)
-
-pub evaluate_alias-boxed_response-requires-then-not-are_plain-clause-table : goal.evaluate_alias-boxed_response-requires-then-not-are_plain-clause-table
-evaluate_alias-boxed_response-requires-then-not-are_plain-clause-table g t c =
-    let e = c.in_ok-candidates.ensures in
-    let goes = Goes-extends c.requires.posed.table e.grows.extends in
-    goes.table
-
-pub evaluate_alias-boxed_response-requires-then-not-are_plain-clause-values : goal.evaluate_alias-boxed_response-requires-then-not-are_plain-clause-values
-evaluate_alias-boxed_response-requires-then-not-are_plain-clause-values g t c =
-    let e = c.in_ok-candidates.ensures in
-    let goes = Goes-extends c.requires.posed.table e.grows.extends in
-    args_later c.args.cx.now.nodes c.relevant_candidates.new.cx.nodes c.args.table.now.entries c.args.table.now.entries c.args.values.now goes.extends goes.continues c.requires.values
-
-pub evaluate_alias-returns-in_err-doubt-2 : goal.evaluate_alias-returns-in_err-doubt-2
-evaluate_alias-returns-in_err-doubt-2 g t c =
-    let e = c.in_ok-candidates.ensures in
-    alias_failed c.from_residual-in_err-doubt-2.result (search rules) (search rules) (search rules) (Searches-refl c.args.depth c.requires.search (grown e.grows c.boxed_response-then-not-are_plain.ensures.grows))
-
-pub evaluate_alias-returns-then-not-are_plain : goal.evaluate_alias-returns-then-not-are_plain
-evaluate_alias-returns-then-not-are_plain g t c =
-    let e = c.in_ok-candidates.ensures in
-    let p = c.requires.posed in
-    let m = c.in_ok-doubt-2.ensures in
-    let b = c.relevant_candidates.new.cx in
-    let doubt = c.in_ok-doubt-2.doubt.value in
-    let reply = response_at c.boxed_response-then-not-are_plain.new.cx.nodes doubt in
-    let here : content_of b.nodes c.args.table.now.entries ≡ content_of c.args.cx.now.nodes c.args.table.now.entries = content_of-extended e.grows.extends (let w = p.table in w.now) in
-    let trees = trees_kept c.args.cx.now.nodes b.nodes c.args.table.now.entries c.args.values.now e.grows.extends c.requires.values in
-    let plain = plain_of ambiguous (content_of b.nodes c.args.table.now.entries) (trees_of b.nodes c.args.values.now) reply m.says (doubtful _) in
-    record {
-      grows = grown e.grows m.grows;
-      searches = Searches-refl c.args.depth c.requires.search (grown e.grows m.grows);
-      found = found_still doubt ambiguous p.table e.grows.extends c.terms_are_formed-then-not-are_plain.ensures m.grows.extends c.requires.values m.certainty (doubtful _) m.says m.holds (record { no_hidden = m.nothing.0; no_goals = m.nothing.1 });
-      told = λ s tells. inr (ap is_yes m.certainty, subst (λ qs. IsPlainResponse (content_of c.args.cx.now.nodes c.args.table.now.entries) qs reply) trees (subst (λ k. IsPlainResponse k (trees_of b.nodes c.args.values.now) reply) here plain));
-      refuted = search rules;
-    }

@@ -53,6 +53,7 @@ use Rattle.nts_model.specs.Lists.{Among}
 use Rattle.nts_meaning.specs.Answering.{IfAnswered, told_in}
 use Rattle.nts_response.specs.Forms.{response_at}
 use Rattle.nts_theory.specs.Telling.{IsResponseOf}
+use Rattle.nts_theory.specs.RelatingCandidates.{HasPlainEquations}
 use Rattle.nts_evaluation.proofs.DecidedTrials.{its_decided}
 use Rattle.nts_evaluation.proofs.DecidedGoals.{opened_decided, by_offers, kept_settled}
 use Rattle.nts_evaluation.proofs.evaluate.+evaluate.Goals as goal
@@ -219,9 +220,10 @@ evaluate_candidates-loop-candidate-preserved g t c =
           let kept = candidate-kept {a = c.args.cx.now.nodes} {b = c.loop-candidate.cx.nodes} {g = c.args.goal} {d = x} i.grows.extends candidate in
           let all = d.1 in
           let sure = all.sure (candidate_of c.args.cx.now.nodes x) (rw c.candidate-item.is (among_by (candidate_of c.args.cx.now.nodes) cs (get_or cs index x) (among_get cs index x at))) in
+          let plain_here = all.plain (candidate_of c.args.cx.now.nodes x) (rw c.candidate-item.is (among_by (candidate_of c.args.cx.now.nodes) cs (get_or cs index x) (among_get cs index x at))) in
           let ready = decides_later n c.args.depth c.requires.search i.grows so_far.1 (omega arith) can.deep can in
           let next = next_so_far Anything h mode n c.args.cx.now.nodes c.args.table.now x (drop (index + 1) cs) b rs new c.probe_candidate-answer.result m.kept m.dropped
-          (λ k f. p.decided (Since-later i.grows s) n k (record { fares = rw (i.same, content_of-extended i.grows.extends w.now, kept) f; sure = sure }) ready) (λ f. anything c.probe_candidate-answer.result)
+          (λ k f. p.decided (Since-later i.grows s) n k (record { fares = rw (i.same, content_of-extended i.grows.extends w.now, kept) f; sure = sure; plain = subst HasPlainEquations (sym kept) plain_here }) ready) (λ f. anything c.probe_candidate-answer.result)
           (subst (λ ys. AreSoFar Anything h mode n c.args.cx.now.nodes c.args.table.now ys b rs) left so_far.0) in
           (next.0, then_same so_far.1 next.1);
       facts = λ s tells q all plain can.
@@ -234,13 +236,14 @@ evaluate_candidates-loop-candidate-preserved g t c =
           let trees = trees_kept c.args.cx.now.nodes c.loop-candidate.cx.nodes c.args.table.now.entries c.args.values.now i.grows.extends c.requires.values in
           let among : Among (candidates_of c.args.cx.now.nodes cs) (candidate_of c.args.cx.now.nodes x) = rw c.candidate-item.is (among_by (candidate_of c.args.cx.now.nodes) cs (get_or cs index x) (among_get cs index x at)) in
           let sure = all.sure (candidate_of c.args.cx.now.nodes x) among in
+          let plain_here = all.plain (candidate_of c.args.cx.now.nodes x) among in
           let ready = decides_later 0 c.args.depth c.requires.search i.grows so_far.1 (omega arith) can.deep can in
           let content = content_of-extended i.grows.extends w.now in
           let env = i.grows.extends.kept c.args.goal.param_env.node holds.env.within in
           let predicate = i.grows.extends.kept c.args.goal.predicate.node holds.predicate.within in
           let query = query_later c.args.cx.now.nodes c.loop-candidate.cx.nodes c.args.table.now c.args.table.now c.args.goal c.args.goal c.args.values.now content env predicate trees q in
           let next = next_so_far (IsOverIfSilent c.probe_candidate-answer.new.cx.nodes (trees_of c.args.cx.now.nodes c.args.values.now)) h mode 0 c.args.cx.now.nodes c.args.table.now x (drop (index + 1) cs) true rs new c.probe_candidate-answer.result m.kept m.dropped
-          (λ k f. p.decided (Since-later i.grows s) 0 k (record { fares = rw (i.same, content, kept) f; sure = sure }) ready)
+          (λ k f. p.decided (Since-later i.grows s) 0 k (record { fares = rw (i.same, content, kept) f; sure = sure; plain = subst HasPlainEquations (sym kept) plain_here }) ready)
           (λ f. subst (λ z. IfAnswered c.probe_candidate-answer.result (IsOverIfSilent c.probe_candidate-answer.new.cx.nodes z)) trees (p.facts (Since-later i.grows s) (later s tells) (rw i.same query) (plain_later c.args.cx.now.nodes c.loop-candidate.cx.nodes c.args.goal (candidate_of c.args.cx.now.nodes x) (candidate_of c.loop-candidate.cx.nodes x) env predicate kept (plain (candidate_of c.args.cx.now.nodes x) among (held_met f)))))
           (so_far_with (λ r o ts up. o ts (Extends-trans p.grows.extends up)) (subst (λ ys. AreSoFar (IsOverIfSilent c.loop-candidate.cx.nodes (trees_of c.args.cx.now.nodes c.args.values.now)) h mode 0 c.args.cx.now.nodes c.args.table.now ys true rs) left so_far.0)) in
           (next.0, then_same so_far.1 next.1);
@@ -300,7 +303,7 @@ probe_candidate-returns g t c =
           (says_before c.in-Ok.certainty (content_of c.args.cx.now.nodes c.start_snapshot.new.self.entries) (content_of c.run_candidate.new.cx.nodes c.run_candidate.new.table.entries) (trees_of c.args.cx.now.nodes c.args.values.now) (verdict_at c.boxed_response.new.cx.nodes c.in_ok-response-2.response.value) (ap is_yes m.certainty) unsure (rw o.entries (plain_of c.in-Ok.certainty _ _ _ (rw (back, still, trees) at m.says) unsure)));
       refuted = search rules;
       decided = λ s n b d can.
-          let x = r.decided s n b (record { fares = rw (o.mode, o.entries) d.fares; sure = d.sure }) can in
+          let x = r.decided s n b (record { fares = rw (o.mode, o.entries) d.fares; sure = d.sure; plain = d.plain }) can in
           absurd (let kept = ap is_kept x.answer.1 in let none = sym c.keeps_constraints.ensures ∙ c.if-keeps_constraints.false in cc (kept, none));
       facts = λ s tells q plain ts up silent. absurd (unsure (sym m.certainty ∙ silent.0));
     }
@@ -328,7 +331,7 @@ probe_candidate-returns-then-keeps_constraints g t c =
           (says_found c.in-Ok.certainty (content_of c.args.cx.now.nodes c.start_snapshot.new.self.entries) (content_of c.run_candidate.new.cx.nodes c.run_candidate.new.table.entries) (trees_of c.args.cx.now.nodes c.args.values.now) (verdict_at c.boxed_response-response.new.cx.nodes c.in_ok-response.field-0.value) (ap is_yes m.certainty) (rw trees at m.says));
       refuted = search rules;
       decided = λ s n b d can.
-          let x = r.decided s n b (record { fares = rw (o.mode, o.entries) d.fares; sure = d.sure }) can in
+          let x = r.decided s n b (record { fares = rw (o.mode, o.entries) d.fares; sure = d.sure; plain = d.plain }) can in
           record { answer = (x.answer.0, m.certainty ∙ x.answer.1); search = x.search };
       facts = λ s tells q plain ts up silent.
           let ruled = ruling_since (λ ts. g.H.GoalHandler.handler ts c.args.handler.now) s in
@@ -386,17 +389,17 @@ try_candidate-returns g t c =
             constraints = Constrains-later c.args.cx.now.nodes vs x.region_constraints.items steps.goes (AllIn-kept c.equate.new.cx.nodes c.record_constraints.new.cx.nodes vs within k.runs.goes.extends) (rw (c.deref-3.ensures.value, constraints) at k.held);
             goals = all_proved (meaning (g.H.GoalHandler.handler s.base c.args.handler.now) s.variances) (mode_of mode) kind A (map (tree_at z) vs) (map (premise_of c.args.cx.now.nodes) x.goals.items) gs goals (all_posed gs n.added.posed) e.runs.goes c.terms_are_formed-2.ensures (proved_all _ gs none settled);
           } in
-          has_run (meaning h s.variances) (mode_of mode) A here seen (map (tree_at z) vs) (tree_at c.args.cx.now.nodes c.args.goal.predicate.node) (term_table c.terms_are_formed-2.ensures e.runs.goes.table) run;
+          has_run (meaning h s.variances) (mode_of mode) A here seen (map (tree_at z) vs) (tree_at c.args.cx.now.nodes c.args.goal.param_env.node) (tree_at c.args.cx.now.nodes c.args.goal.predicate.node) (term_table c.terms_are_formed-2.ensures e.runs.goes.table) run;
       told = λ s tells.
           let h = ruling_since (λ ts. g.H.GoalHandler.handler ts c.args.handler.now) s in
           let since = Since-later (grown (ran there) n.grows) s in
-          ran_to {t = c.args.table.now} {u = c.equate.new.table} {v = c.record_constraints.new.table} h mode c.args.goal x vs gs (rw c.deref-2.ensures.value v.equated) (rw (c.deref-3.ensures.value) at k.added) constraints c.requires.candidate.goals v.runs.goes.extends k.runs.goes.extends there.goes.extends n.grows.extends k.runs.goes.table within (rw c.deref-4.ensures.value at n.added.goals) c.try_evaluate_goals.new.cx.nodes c.try_evaluate_goals.new.table (rw upto.goes.mode at (c.in_ok-certainty.ensures.told since (tell_grown h c.args.depth c.requires.search (grown (ran c.in_ok-values.ensures.runs) (grown (ran c.in_ok-record_constraints.ensures.runs) c.in_ok-goals.ensures.grows)) tells)));
+          ran_to {t = c.args.table.now} {u = c.equate.new.table} {v = c.record_constraints.new.table} h mode c.args.goal x vs gs (rw c.deref-2.ensures.value v.equated) (rw (c.deref-3.ensures.value) at k.added) constraints c.requires.candidate.goals v.runs.goes.extends k.runs.goes.extends there.goes.extends n.grows.extends k.runs.goes.table within (rw c.deref-4.ensures.value at n.added.goals) (c.needs_relating.ensures.no c.if-needs_relating.false) c.try_evaluate_goals.new.cx.nodes c.try_evaluate_goals.new.table (rw upto.goes.mode at (c.in_ok-certainty.ensures.told since (tell_grown h c.args.depth c.requires.search (grown (ran c.in_ok-values.ensures.runs) (grown (ran c.in_ok-record_constraints.ensures.runs) c.in_ok-goals.ensures.grows)) tells)));
       refuted = search rules;
       decided = λ s i b d can.
           let h = g.H.GoalHandler.handler s.base c.args.handler.now in
           let since = Since-later (grown (ran there) n.grows) s in
           let up = grown (ran c.in_ok-values.ensures.runs) (grown (ran c.in_ok-record_constraints.ensures.runs) c.in_ok-goals.ensures.grows) in
-          let settled = its_decided {t = c.args.table.now} {u = c.equate.new.table} {v = c.record_constraints.new.table} h mode i b c.args.goal x vs gs (rw c.deref-2.ensures.value v.equated) (rw (c.deref-3.ensures.value) at k.added) constraints c.requires.candidate.goals v.runs.goes.extends k.runs.goes.extends there.goes.extends n.grows.extends k.runs.goes.table within (rw c.deref-4.ensures.value at n.added.goals) c.terms_are_formed.ensures v.runs.goes.table n.added.posed c.requires.posed c.requires.candidate d c.record_constraints.new.table refl in
+          let settled = its_decided {t = c.args.table.now} {u = c.equate.new.table} {v = c.record_constraints.new.table} h mode i b c.args.goal x vs gs (rw c.deref-2.ensures.value v.equated) (rw (c.deref-3.ensures.value) at k.added) constraints c.requires.candidate.goals v.runs.goes.extends k.runs.goes.extends there.goes.extends n.grows.extends k.runs.goes.table within (rw c.deref-4.ensures.value at n.added.goals) c.terms_are_formed.ensures v.runs.goes.table n.added.posed c.requires.posed c.requires.candidate (c.needs_relating.ensures.no c.if-needs_relating.false) d c.record_constraints.new.table refl in
           let y = e.decided since i b (rw upto.goes.mode settled) (decides_grown c.requires.search up can) in
           record { answer = (y.answer.0, c.and.ensures ∙ rw (sure_yes x.certainty d.sure, y.answer.1) refl); search = y.search };
     }
@@ -424,12 +427,12 @@ try_candidate-returns-in_err-certainty g t c =
           let h = ruling_since (λ ts. g.H.GoalHandler.handler ts c.args.handler.now) s in
           let since = Since-later (grown (ran there) n.grows) s in
           let refused : c.try_evaluate_goals.result ≡ Err EvalError.NoSolution = search rules in
-          ran_refused {t = c.args.table.now} {u = c.equate.new.table} {v = c.record_constraints.new.table} h mode c.args.goal x vs gs (rw c.deref-2.ensures.value v.equated) (rw (c.deref-3.ensures.value) at k.added) constraints c.requires.candidate.goals v.runs.goes.extends k.runs.goes.extends there.goes.extends n.grows.extends k.runs.goes.table within (rw c.deref-4.ensures.value at n.added.goals) (rw (upto.goes.mode, c.goal_kind-kind.ensures.kind s.base s.variances) at (stopped_refused c.record_constraints.new.table _ c.goal_kind-kind.result (c.try_evaluate_goals.ensures.refuted since (tell_grown h c.args.depth c.requires.search (grown (ran c.in_ok-values.ensures.runs) (grown (ran c.in_ok-record_constraints.ensures.runs) c.in_ok-goals.ensures.grows)) tells) refused)));
+          ran_refused {t = c.args.table.now} {u = c.equate.new.table} {v = c.record_constraints.new.table} h mode c.args.goal x vs gs (rw c.deref-2.ensures.value v.equated) (rw (c.deref-3.ensures.value) at k.added) constraints c.requires.candidate.goals v.runs.goes.extends k.runs.goes.extends there.goes.extends n.grows.extends k.runs.goes.table within (rw c.deref-4.ensures.value at n.added.goals) (c.needs_relating.ensures.no c.if-needs_relating.false) (rw (upto.goes.mode, c.goal_kind-kind.ensures.kind s.base s.variances) at (stopped_refused c.record_constraints.new.table _ c.goal_kind-kind.result (c.try_evaluate_goals.ensures.refuted since (tell_grown h c.args.depth c.requires.search (grown (ran c.in_ok-values.ensures.runs) (grown (ran c.in_ok-record_constraints.ensures.runs) c.in_ok-goals.ensures.grows)) tells) refused)));
       decided = λ s i b d can.
           let h = g.H.GoalHandler.handler s.base c.args.handler.now in
           let since = Since-later (grown (ran there) n.grows) s in
           let up = grown (ran c.in_ok-values.ensures.runs) (grown (ran c.in_ok-record_constraints.ensures.runs) c.in_ok-goals.ensures.grows) in
-          let settled = its_decided {t = c.args.table.now} {u = c.equate.new.table} {v = c.record_constraints.new.table} h mode i b c.args.goal x vs gs (rw c.deref-2.ensures.value v.equated) (rw (c.deref-3.ensures.value) at k.added) constraints c.requires.candidate.goals v.runs.goes.extends k.runs.goes.extends there.goes.extends n.grows.extends k.runs.goes.table within (rw c.deref-4.ensures.value at n.added.goals) c.terms_are_formed.ensures v.runs.goes.table n.added.posed c.requires.posed c.requires.candidate d c.record_constraints.new.table refl in
+          let settled = its_decided {t = c.args.table.now} {u = c.equate.new.table} {v = c.record_constraints.new.table} h mode i b c.args.goal x vs gs (rw c.deref-2.ensures.value v.equated) (rw (c.deref-3.ensures.value) at k.added) constraints c.requires.candidate.goals v.runs.goes.extends k.runs.goes.extends there.goes.extends n.grows.extends k.runs.goes.table within (rw c.deref-4.ensures.value at n.added.goals) c.terms_are_formed.ensures v.runs.goes.table n.added.posed c.requires.posed c.requires.candidate (c.needs_relating.ensures.no c.if-needs_relating.false) d c.record_constraints.new.table refl in
           let fails : is_err c.from_residual-in_err-certainty.result ≡ true = search rules in
           decides_error c.try_evaluate_goals.result c.from_residual-in_err-certainty.result fails (λ no. (search rules)) (λ no. no) (c.try_evaluate_goals.ensures.decided since i b (rw upto.goes.mode settled) (decides_grown c.requires.search up can));
     }

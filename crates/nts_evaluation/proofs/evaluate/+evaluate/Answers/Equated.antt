@@ -1,16 +1,13 @@
 -- Goals that an alias is equal to a term.
-use Rattle.std.proofs.Common.{◌≡◌, ◌⊎◌, Err, Ok, inl, inr, ⊎_elim, arith, rules, true, [], ◌∷◌, ap, sym, ◌∙◌, subst}
+use Rattle.std.proofs.Common.{◌≡◌, Err, Ok, inl, inr, ⊎_elim, arith, rules, true, ap, sym, ◌∙◌}
 use Rattle.std.specs.Result.{is_err}
 use Rattle.std.proofs.lemmas.Result.{IfOk-from_err}
-use Rattle.nts_model.specs.Tables.Passing.{BringsOnly}
 use Rattle.nts_model.specs.Derivations.Handlers.{meaning}
-use Rattle.nts_store.specs.Growth.{tree_at}
 use Rattle.nts_store.specs.declared.fault.EvalError.TheVariants as EvalError
-use Rattle.nts_store.proofs.Growing.{Extends-refl, Extends-trans}
+use Rattle.nts_store.proofs.Growing.{Extends-refl}
 use Rattle.nts_terms.specs.Modes.{mode_of}
 use Rattle.nts_unify.specs.Reading.{content_of}
 use Rattle.nts_unify.specs.Lawful.{content_of-extended}
-use Rattle.nts_table.specs.TableLaws.{IsTable-extended}
 use Rattle.nts_candidates.proofs.Results.{IfOk-map}
 use Rattle.nts_canonical.specs.Forms.{trees_of}
 use Rattle.nts_response.specs.Forms.{response_at}
@@ -19,14 +16,14 @@ use Rattle.nts_search.specs.declared.kinds.CurrentGoalKind.TheVariants as Kinds
 use Rattle.nts_meaning.specs.Answering.{is_yes, verdict_at}
 use Rattle.nts_meaning.specs.Meant.{ruling_since}
 use Rattle.nts_meaning.specs.Searching.{assumed_in}
-use Rattle.nts_meaning.specs.Evaluation.{IsPosed, asked_terms, goals_at}
+use Rattle.nts_meaning.specs.Evaluation.{IsPosed, goals_at}
 use Rattle.nts_meaning.proofs.AnsweredQueries.{args_later}
 use Rattle.nts_meaning.proofs.AskedGoals.{trees_kept}
-use Rattle.nts_meaning.proofs.Evaluating.{Goes-trans, Goes-extends, IsPosed-later, HoldsGoal-extended, Since-later, goes-back, rolled_back}
-use Rattle.nts_meaning.proofs.Rounds.{grown, ran, search_then}
+use Rattle.nts_meaning.proofs.Evaluating.{Goes-trans, Runs-trans, Since-later, goes-back, rolled_back}
+use Rattle.nts_meaning.proofs.Rounds.{ran, search_then}
 use Rattle.nts_meaning.proofs.Running.{term_table}
 use Rattle.nts_meaning.proofs.Searching.{Searches-refl, search_grown, search_grows, search_later, covers_grown, tell_grown}
-use Rattle.nts_trying.proofs.NormalGoals.{normal_premise, normal_side, normal_asked, normal_posed, normal_brings, normal_held}
+use Rattle.nts_trying.proofs.NormalGoals.{left_normal}
 use Rattle.nts_trying.proofs.Opened.{labels_through, normal_through, normal_told, normal_stops}
 use Rattle.nts_trying.proofs.Probed.{found_in, found_still, went_in, plain_of, not_kept, says_found, says_before, doubtful}
 use Rattle.nts_trying.proofs.Ran.{proved_all}
@@ -34,7 +31,8 @@ use Rattle.nts_trying.proofs.Stepping.{stopped_refused}
 use Rattle.nts_evaluation.proofs.DecidedGoals.{is_asked_here, outlives_in, states_own, way_states_own}
 use Rattle.nts_evaluation.proofs.FactTrials.{fact_asked}
 use Rattle.nts_evaluation.proofs.Failing.{equated_failed}
-use Rattle.nts_evaluation.proofs.NormalLeft.{normal_more}
+use Rattle.nts_evaluation.proofs.NormalLeft.{normal_more, all_relating}
+use Rattle.nts_terms.proofs.Moved.{KeepsRest-refl}
 use Rattle.nts_evaluation.proofs.evaluate.+evaluate.Goals as goal
 
 pub compute_goal-evaluate_equated-response-requires : goal.compute_goal-evaluate_equated-response-requires
@@ -125,36 +123,34 @@ evaluate_equated-returns-then-matches g t c =
       refuted = search rules;
     }
 
-pub evaluate_equated-returns-in_err-goals : goal.evaluate_equated-returns-in_err-goals
-evaluate_equated-returns-in_err-goals g t c =
-    equated_failed c.from_residual-in_err-goals.result (search rules) (search rules) (search rules) (Searches-refl c.args.depth c.requires.search c.normal_goals.ensures.grows)
-
 pub evaluate_equated-returns-in_err-snapshot : goal.evaluate_equated-returns-in_err-snapshot
 evaluate_equated-returns-in_err-snapshot g t c =
-    equated_failed c.from_residual-in_err-snapshot.result (search rules) (search rules) (search rules) (Searches-refl c.args.depth c.requires.search c.in_ok-goals.ensures.grows)
+    equated_failed c.from_residual-in_err-snapshot.result (search rules) (search rules) (search rules) (Searches-refl c.args.depth c.requires.search (record { extends = Extends-refl _; rest = KeepsRest-refl _ }))
+
+pub evaluate_equated-normal_goals-requires-clause-posed : goal.evaluate_equated-normal_goals-requires-clause-posed
+evaluate_equated-normal_goals-requires-clause-posed g t c =
+    let p = c.requires.posed in
+    let o = c.in_ok-snapshot.ensures in
+    record { table = o.table c.args.cx.now.nodes p.table; holds = p.holds; knows = rw o.entries p.knows }
+
+pub evaluate_equated-returns-in_err-goals : goal.evaluate_equated-returns-in_err-goals
+evaluate_equated-returns-in_err-goals g t c =
+    equated_failed c.from_residual-in_err-goals.result (search rules) (search rules) (search rules) (Searches-refl c.args.depth c.requires.search (ran c.normal_goals.ensures.runs))
 
 pub evaluate_equated-try_evaluate_goals-requires : goal.evaluate_equated-try_evaluate_goals-requires
 evaluate_equated-try_evaluate_goals-requires g t c = λ κs k.
-    let p = c.requires.posed in
     let r = c.in_ok-goals.ensures in
-    let o = c.in_ok-snapshot.ensures in
-    let a = c.args.cx.now in
-    let b = c.normal_goals.new.cx in
-    let snap = c.start_snapshot.new.self in
-    let up = r.grows.extends in
-    let table = o.table b.nodes (IsTable-extended up p.table) in
-    let held = HoldsGoal-extended up p.holds in
-    let same = ap (content_of b.nodes) o.entries ∙ content_of-extended up p.table.now in (
+    let begins = r.begins in (
       omega (arith, c.decreases),
       (
         k,
         (
-          table,
+          r.runs.goes.table,
           (
-            normal_posed a.nodes b.nodes c.args.table.now snap c.args.goal c.args.equated c.in_ok-goals.goals.items c.requires.equated r.goals p up same table held.env,
+            begins.posed,
             (
-              g.met.H.GoalHandler.ready_kept _ _ _ c.requires.ready up,
-              search_grows c.args.depth c.args.depth (omega arith) c.requires.search r.grows,
+              g.met.H.GoalHandler.ready_kept _ _ _ c.requires.ready r.runs.goes.extends,
+              search_grows c.args.depth c.args.depth (omega arith) c.requires.search (ran r.runs),
             ),
           ),
         ),
@@ -163,91 +159,87 @@ evaluate_equated-try_evaluate_goals-requires g t c = λ κs k.
 
 pub evaluate_equated-returns-in_err-certainty : goal.evaluate_equated-returns-in_err-certainty
 evaluate_equated-returns-in_err-certainty g t c =
-    let p = c.requires.posed in
     let r = c.in_ok-goals.ensures in
+    let begins = r.begins in
     let o = c.in_ok-snapshot.ensures in
     let e = c.try_evaluate_goals.ensures in
-    let a = c.args.cx.now in
     let b = c.normal_goals.new.cx in
-    let snap = c.start_snapshot.new.self in
-    let up = r.grows.extends in
+    let u = c.normal_goals.new.table in
     let gs = c.in_ok-goals.goals.items in
     let fails : is_err c.from_residual-in_err-certainty.result ≡ true = search rules in
-    let same = ap (content_of b.nodes) o.entries ∙ content_of-extended up p.table.now in
-    let asked = normal_asked a.nodes b.nodes c.args.table.now snap c.args.goal c.args.equated gs c.requires.equated r.goals p up in
     record {
       grows = search rules;
-      searches = search_then c.args.depth c.requires.search r.grows e.searches;
+      searches = search_then c.args.depth c.requires.search (ran r.runs) e.searches;
       found = IfOk-from_err c.from_residual-in_err-certainty.result _ fails;
       told = λ s tells. IfOk-from_err c.from_residual-in_err-certainty.result _ fails;
       refuted = λ s tells n.
           let h = ruling_since (λ ts. g.H.GoalHandler.handler ts c.args.handler.now) s in
           let refused : c.try_evaluate_goals.result ≡ Err EvalError.NoSolution = search rules in
-          let no = stopped_refused snap c.args.graph.now Kinds.Misc (e.refuted (Since-later r.grows s) (tell_grown h c.args.depth c.requires.search r.grows tells) refused) in
+          let no = stopped_refused u c.args.graph.now Kinds.Misc (e.refuted (Since-later (ran r.runs) s) (tell_grown h c.args.depth c.requires.search (ran r.runs) tells) refused) in
           record {
             outside = search rules;
-            premise = normal_premise a.nodes b.nodes c.args.table.now snap c.args.goal c.args.equated gs c.requires.equated r.goals p up;
-            side = normal_side a.nodes b.nodes c.args.table.now snap c.args.goal c.args.equated gs c.requires.equated r.goals p up;
-            refused = rw (o.mode, asked, same) at no;
+            left = goals_at b.nodes gs;
+            met = content_of b.nodes u.entries;
+            sides = rw o.entries at begins.sides;
+            refused = rw (r.runs.goes.mode, o.mode) at no;
           };
     }
 
 pub evaluate_equated-boxed_response-requires-then-keeps_constraints-clause-values : goal.evaluate_equated-boxed_response-requires-then-keeps_constraints-clause-values
 evaluate_equated-boxed_response-requires-then-keeps_constraints-clause-values g t c =
     let p = c.requires.posed in
-    let r = c.in_ok-goals.ensures in
     let o = c.in_ok-snapshot.ensures in
-    let e = c.in_ok-certainty.ensures in
-    let up = r.grows.extends in
-    let went = Goes-trans (Goes-extends p.table up) (went_in (IsTable-extended up p.table) o.entries o.saved o.mode e.runs.goes) in
+    let all = Runs-trans c.in_ok-goals.ensures.runs c.in_ok-certainty.ensures.runs in
+    let went = went_in p.table o.entries o.saved o.mode all.goes in
     args_later c.args.cx.now.nodes c.try_evaluate_goals.new.cx.nodes c.args.table.now.entries c.try_evaluate_goals.new.table.entries c.args.values.now went.extends went.continues c.requires.values
 
 pub evaluate_equated-returns-in_err-response : goal.evaluate_equated-returns-in_err-response
 evaluate_equated-returns-in_err-response g t c =
     let r = c.in_ok-goals.ensures in
     let e = c.in_ok-certainty.ensures in
-    equated_failed c.from_residual-in_err-response.result (search rules) (search rules) (search rules) (search_grown c.args.depth c.requires.search (search_then c.args.depth c.requires.search r.grows e.searches) c.boxed_response-then-keeps_constraints.ensures.grows)
+    equated_failed c.from_residual-in_err-response.result (search rules) (search rules) (search rules) (search_grown c.args.depth c.requires.search (search_then c.args.depth c.requires.search (ran r.runs) e.searches) c.boxed_response-then-keeps_constraints.ensures.grows)
 
 pub evaluate_equated-returns-then-keeps_constraints : goal.evaluate_equated-returns-then-keeps_constraints
 evaluate_equated-returns-then-keeps_constraints g t c =
     let p = c.requires.posed in
-    let r = c.in_ok-goals.ensures in
     let o = c.in_ok-snapshot.ensures in
+    let r = c.in_ok-goals.ensures in
+    let begins = r.begins in
     let e = c.in_ok-certainty.ensures in
     let m = c.in_ok-response.ensures in
     let a = c.args.cx.now in
     let b = c.normal_goals.new.cx in
     let d = c.try_evaluate_goals.new.cx in
     let snap = c.start_snapshot.new.self in
+    let u = c.normal_goals.new.table in
     let v = c.try_evaluate_goals.new.table in
     let gs = c.in_ok-goals.goals.items in
-    let goal = c.args.goal in
-    let equated = c.args.equated in
-    let up = r.grows.extends in
-    let went = Goes-trans (Goes-extends p.table up) (went_in (IsTable-extended up p.table) o.entries o.saved o.mode e.runs.goes) in
+    let posed : IsPosed a.nodes snap c.args.goal = record { table = o.table a.nodes p.table; holds = p.holds; knows = rw o.entries p.knows } in
+    let all = Runs-trans r.runs e.runs in
+    let went = went_in p.table o.entries o.saved o.mode all.goes in
     let trees = trees_kept a.nodes d.nodes c.args.table.now.entries c.args.values.now went.extends c.requires.values in
-    let same = ap (content_of b.nodes) o.entries ∙ content_of-extended up p.table.now in
-    let asked = normal_asked a.nodes b.nodes c.args.table.now snap goal equated gs c.requires.equated r.goals p up in
-    let brings = normal_brings a.nodes b.nodes c.args.table.now snap goal equated gs c.requires.equated r.goals p up same e.labels in
-    let searches = search_then c.args.depth c.requires.search r.grows e.searches in
+    let brings = begins.labels e.labels in
+    let searches = search_then c.args.depth c.requires.search (ran r.runs) e.searches in
     let covers = covers_grown c.args.depth (search_later c.args.depth c.args.depth (omega arith) c.requires.search searches) m.grows in
     record {
       grows = search rules;
       searches = search_grown c.args.depth c.requires.search searches m.grows;
-      found = found_in c.in_ok-response.response.value c.in_ok-certainty.certainty went c.terms_are_formed-2.ensures m.grows.extends brings c.requires.values m.certainty m.says m.holds (record { no_hidden = m.nothing.0; no_goals = m.nothing.1 })
+      found = found_in c.in_ok-response.response.value c.in_ok-certainty.certainty went c.terms_are_formed-2.ensures m.grows.extends (rw o.entries at brings) c.requires.values m.certainty m.says m.holds (record { no_hidden = m.nothing.0; no_goals = m.nothing.1 })
           (λ y s.
           let none = e.sure (ap Ok y) in
-          let settled = rw o.mode at (e.proved (Since-later r.grows s)) in
-          normal_more covers (normal_held a.nodes b.nodes c.args.table.now snap goal equated gs c.requires.equated r.goals p up (meaning (g.H.GoalHandler.handler s.base c.args.handler.now) s.variances) (mode_of c.args.table.now.mode) (assumed_in d.nodes c.try_evaluate_goals.new.graph) d.nodes v c.terms_are_formed-2.ensures e.runs.goes (proved_all _ gs none settled)));
+          let settled = rw (r.runs.goes.mode, o.mode) at (e.proved (Since-later (ran r.runs) s)) in
+          normal_more covers (left_normal c.args.goal gs (meaning (g.H.GoalHandler.handler s.base c.args.handler.now) s.variances) (mode_of c.args.table.now.mode) (assumed_in d.nodes c.try_evaluate_goals.new.graph) d.nodes v posed r.runs.goes begins.goals c.terms_are_formed-2.ensures e.runs.goes
+          (all_relating d.nodes v gs begins.goals (proved_all _ gs none settled))));
       told = λ s tells.
           let h = ruling_since (λ ts. g.H.GoalHandler.handler ts c.args.handler.now) s in
           inl (record {
             outside = search rules;
-            premise = normal_premise a.nodes b.nodes c.args.table.now snap goal equated gs c.requires.equated r.goals p up;
-            side = normal_side a.nodes b.nodes c.args.table.now snap goal equated gs c.requires.equated r.goals p up;
+            left = goals_at b.nodes gs;
+            met = content_of b.nodes u.entries;
+            sides = rw o.entries at begins.sides;
             found = content_of d.nodes v.entries;
-            reaches = rw (o.mode, asked, same) at (e.told (Since-later r.grows s) (tell_grown h c.args.depth c.requires.search r.grows tells));
-            is_found = record { table = term_table c.terms_are_formed-2.ensures e.runs.goes.table; labels = brings };
+            reaches = rw (r.runs.goes.mode, o.mode) at (e.told (Since-later (ran r.runs) s) (tell_grown h c.args.depth c.requires.search (ran r.runs) tells));
+            is_found = record { table = term_table c.terms_are_formed-2.ensures e.runs.goes.table; labels = rw o.entries at brings };
             says = says_found c.in_ok-certainty.certainty (content_of a.nodes c.args.table.now.entries) (content_of d.nodes v.entries) (trees_of a.nodes c.args.values.now) (verdict_at c.boxed_response-then-keeps_constraints.new.cx.nodes c.in_ok-response.response.value) (ap is_yes m.certainty) (rw trees at m.says);
           });
       refuted = search rules;
@@ -256,57 +248,52 @@ evaluate_equated-returns-then-keeps_constraints g t c =
 pub evaluate_equated-boxed_response-requires-2-clause-values : goal.evaluate_equated-boxed_response-requires-2-clause-values
 evaluate_equated-boxed_response-requires-2-clause-values g t c =
     let p = c.requires.posed in
-    let r = c.in_ok-goals.ensures in
     let o = c.in_ok-snapshot.ensures in
-    let e = c.in_ok-certainty.ensures in
-    let up = Extends-trans r.grows.extends e.runs.goes.extends in
-    let back = rolled_back o.saved e.runs.goes c.rollback_to.ensures.saved o.mode c.rollback_to.ensures.mode in
-    let goes = goes-back p.table up back in
+    let all = Runs-trans c.in_ok-goals.ensures.runs c.in_ok-certainty.ensures.runs in
+    let back = rolled_back o.saved all.goes c.rollback_to.ensures.saved o.mode c.rollback_to.ensures.mode in
+    let goes = goes-back p.table all.goes.extends back in
     args_later c.args.cx.now.nodes c.try_evaluate_goals.new.cx.nodes c.args.table.now.entries c.rollback_to.new.self.entries c.args.values.now goes.extends goes.continues c.requires.values
 
 pub evaluate_equated-returns-in_err-response-2 : goal.evaluate_equated-returns-in_err-response-2
 evaluate_equated-returns-in_err-response-2 g t c =
     let r = c.in_ok-goals.ensures in
     let e = c.in_ok-certainty.ensures in
-    equated_failed c.from_residual-in_err-response-2.result (search rules) (search rules) (search rules) (search_grown c.args.depth c.requires.search (search_then c.args.depth c.requires.search r.grows e.searches) c.boxed_response-2.ensures.grows)
+    equated_failed c.from_residual-in_err-response-2.result (search rules) (search rules) (search rules) (search_grown c.args.depth c.requires.search (search_then c.args.depth c.requires.search (ran r.runs) e.searches) c.boxed_response-2.ensures.grows)
 
 pub evaluate_equated-returns : goal.evaluate_equated-returns
 evaluate_equated-returns g t c =
     let p = c.requires.posed in
-    let r = c.in_ok-goals.ensures in
     let o = c.in_ok-snapshot.ensures in
+    let r = c.in_ok-goals.ensures in
+    let begins = r.begins in
     let e = c.in_ok-certainty.ensures in
     let m = c.in_ok-response-2.ensures in
     let a = c.args.cx.now in
     let b = c.normal_goals.new.cx in
     let d = c.try_evaluate_goals.new.cx in
-    let snap = c.start_snapshot.new.self in
+    let u = c.normal_goals.new.table in
     let v = c.try_evaluate_goals.new.table in
     let gs = c.in_ok-goals.goals.items in
-    let goal = c.args.goal in
-    let equated = c.args.equated in
-    let up = r.grows.extends in
-    let all = Extends-trans up e.runs.goes.extends in
-    let back = rolled_back o.saved e.runs.goes c.rollback_to.ensures.saved o.mode c.rollback_to.ensures.mode in
-    let trees = trees_kept a.nodes d.nodes c.args.table.now.entries c.args.values.now all c.requires.values in
-    let still = content_of-extended all p.table.now in
-    let same = ap (content_of b.nodes) o.entries ∙ content_of-extended up p.table.now in
-    let asked = normal_asked a.nodes b.nodes c.args.table.now snap goal equated gs c.requires.equated r.goals p up in
-    let brings = normal_brings a.nodes b.nodes c.args.table.now snap goal equated gs c.requires.equated r.goals p up same e.labels in
+    let all = Runs-trans r.runs e.runs in
+    let back = rolled_back o.saved all.goes c.rollback_to.ensures.saved o.mode c.rollback_to.ensures.mode in
+    let trees = trees_kept a.nodes d.nodes c.args.table.now.entries c.args.values.now all.goes.extends c.requires.values in
+    let still = content_of-extended all.goes.extends p.table.now in
+    let brings = begins.labels e.labels in
     let unsure = not_kept (sym c.keeps_constraints.ensures ∙ c.if-keeps_constraints.false) in
     record {
       grows = search rules;
-      searches = search_grown c.args.depth c.requires.search (search_then c.args.depth c.requires.search r.grows e.searches) m.grows;
-      found = found_still c.in_ok-response-2.response.value c.in_ok-certainty.certainty p.table all c.terms_are_formed-2.ensures m.grows.extends c.requires.values m.certainty unsure (rw back at m.says) m.holds (record { no_hidden = m.nothing.0; no_goals = m.nothing.1 });
+      searches = search_grown c.args.depth c.requires.search (search_then c.args.depth c.requires.search (ran r.runs) e.searches) m.grows;
+      found = found_still c.in_ok-response-2.response.value c.in_ok-certainty.certainty p.table all.goes.extends c.terms_are_formed-2.ensures m.grows.extends c.requires.values m.certainty unsure (rw back at m.says) m.holds (record { no_hidden = m.nothing.0; no_goals = m.nothing.1 });
       told = λ s tells.
           let h = ruling_since (λ ts. g.H.GoalHandler.handler ts c.args.handler.now) s in
           inl (record {
             outside = search rules;
-            premise = normal_premise a.nodes b.nodes c.args.table.now snap goal equated gs c.requires.equated r.goals p up;
-            side = normal_side a.nodes b.nodes c.args.table.now snap goal equated gs c.requires.equated r.goals p up;
+            left = goals_at b.nodes gs;
+            met = content_of b.nodes u.entries;
+            sides = rw o.entries at begins.sides;
             found = content_of d.nodes v.entries;
-            reaches = rw (o.mode, asked, same) at (e.told (Since-later r.grows s) (tell_grown h c.args.depth c.requires.search r.grows tells));
-            is_found = record { table = term_table c.terms_are_formed-2.ensures e.runs.goes.table; labels = brings };
+            reaches = rw (r.runs.goes.mode, o.mode) at (e.told (Since-later (ran r.runs) s) (tell_grown h c.args.depth c.requires.search (ran r.runs) tells));
+            is_found = record { table = term_table c.terms_are_formed-2.ensures e.runs.goes.table; labels = rw o.entries at brings };
             says = says_before c.in_ok-certainty.certainty (content_of a.nodes c.args.table.now.entries) (content_of d.nodes v.entries) (trees_of a.nodes c.args.values.now) (verdict_at c.boxed_response-2.new.cx.nodes c.in_ok-response-2.response.value) (ap is_yes m.certainty) unsure (plain_of c.in_ok-certainty.certainty _ _ _ (rw (back, still, trees) at m.says) unsure);
           });
       refuted = search rules;

@@ -33,6 +33,7 @@ use Rattle.nts_evaluation.proofs.Deciding.{decides_grown, same_search}
 use Rattle.nts_evaluation.proofs.FactTrials.{fact_asked}
 use Rattle.nts_evaluation.proofs.Failing.{own_failed}
 use Rattle.nts_evaluation.proofs.OwnGoals.{posed_plain, judged_before, settled_yes, settled_no, settled_unknown, settled_way, own_holds, own_says, own_none}
+use Rattle.nts_evaluation.proofs.Serving.{held_plain}
 use Rattle.nts_evaluation.proofs.evaluate.+evaluate.Goals as goal
 
 pub compute_goal-evaluate_own-response-requires : goal.compute_goal-evaluate_own-response-requires
@@ -246,7 +247,7 @@ evaluate_own-returns-in-Way g t c =
           inr (
             x,
             judged_before (λ z e p. HasOwnWay z e p x) same up holds known.0,
-            subst (λ z. HoldsCandidateFrom (meaning (g.H.GoalHandler.handler s.base c.args.handler.now) s.variances) (mode_of c.args.table.now.mode) (assumed_in c.probe_candidate-response.new.cx.nodes c.probe_candidate-response.new.graph) (content_of b u.entries) z x) predicate (let ran = run (Since-later j.grows s) in ran.holds),
+            subst (λ z. HoldsCandidateFrom (meaning (g.H.GoalHandler.handler s.base c.args.handler.now) s.variances) (mode_of c.args.table.now.mode) (assumed_in c.probe_candidate-response.new.cx.nodes c.probe_candidate-response.new.graph) (content_of b u.entries) z x) predicate (let ran = run (Since-later j.grows s) in held_plain known.2 ran.holds),
           )) f)
           (rw c.deref.ensures at r.found);
       told = λ s tells.
@@ -258,8 +259,8 @@ evaluate_own-returns-in-Way g t c =
       refuted = λ s tells n.
           let h = ruling_since (λ ts. g.H.GoalHandler.handler ts c.args.handler.now) s in
           let same = g.met.H.GoalHandler.handler_kept s.base c.judge.new.cx.nodes c.args.handler.now s.is_ready (Extends-trans s.extends up) in
-          inr (x, judged_before (λ z e p. HasOwnWay z e p x) same up holds known.0, rw (here, c.deref.ensures, predicate) at (r.refuted (Since-later j.grows s) (tell_grown h c.args.depth c.requires.search j.grows tells) n));
+          inr (x, judged_before (λ z e p. HasOwnWay z e p x) same up holds known.0, rw (here, c.deref.ensures, environment, predicate) at (r.refuted (Since-later j.grows s) (tell_grown h c.args.depth c.requires.search j.grows tells) n));
       decided = λ s n b d can.
           let same = g.met.H.GoalHandler.handler_kept s.base c.judge.new.cx.nodes c.args.handler.now s.is_ready (Extends-trans s.extends j.grows.extends) in
-          r.decided (Since-later j.grows s) n b (rw c.deref.ensures (settled_way same up holds _ j.exact b c.in-Way.way c.in-Way.is known.0 here d)) (decides_grown c.requires.search j.grows can);
+          r.decided (Since-later j.grows s) n b (rw c.deref.ensures (settled_way same up holds _ j.exact b c.in-Way.way c.in-Way.is known.0 known.2 here d)) (decides_grown c.requires.search j.grows can);
     }

@@ -1,0 +1,118 @@
+-- Candidates of whose equations some relate aliases.
+use Rattle.std.proofs.Common.{◌≡◌, Err, Ok, inr, ⊎_elim, arith, rules, true, ap, sym, ◌∙◌, subst}
+use Rattle.std.specs.Result.{is_err}
+use Rattle.std.proofs.lemmas.Result.{IfOk-from_err}
+use Rattle.nts_model.specs.Derivations.Handlers.{meaning}
+use Rattle.nts_model.specs.Refutation.Choosing.{IsCandidateMet}
+use Rattle.nts_theory.specs.Telling.Fails.{is_unmet, is_unrelated, is_refused}
+use Rattle.nts_evaluation.proofs.Serving.{part_outside}
+use Rattle.nts_store.specs.declared.fault.EvalError.TheVariants as EvalError
+use Rattle.nts_terms.specs.Modes.{mode_of}
+use Rattle.nts_unify.specs.Reading.{content_of}
+use Rattle.nts_candidates.specs.Offered.{candidate_of, certainty_of}
+use Rattle.nts_meaning.specs.Evaluation.{goals_at}
+use Rattle.nts_meaning.specs.Meant.{ruling_since}
+use Rattle.nts_meaning.specs.Searching.{assumed_in}
+use Rattle.nts_meaning.proofs.Evaluating.{Runs-trans, Since-later}
+use Rattle.nts_meaning.proofs.Rounds.{ran, search_then}
+use Rattle.nts_meaning.proofs.Running.{both_sure}
+use Rattle.nts_meaning.proofs.Searching.{Searches-refl, search_grows, tell_grown}
+use Rattle.nts_trying.proofs.HeldRelating.{relating_holds}
+use Rattle.nts_trying.proofs.Ran.{proved_all, ok_inside}
+use Rattle.nts_trying.proofs.Stepping.{stopped_refused}
+use Rattle.nts_evaluation.proofs.evaluate.+evaluate.Goals as goal
+
+pub try_relating-returns-in_err-goals : goal.try_relating-returns-in_err-goals
+try_relating-returns-in_err-goals g t c =
+    let fails : is_err c.from_residual.result ≡ true = search rules in
+    record {
+      runs = search rules;
+      searches = Searches-refl c.args.depth c.requires.search (ran c.begin_relating.ensures.runs);
+      labels = IfOk-from_err c.from_residual.result _ fails;
+      proved = search rules;
+      told = λ s tells. IfOk-from_err c.from_residual.result _ fails;
+      refuted = λ s tells n.
+          let no : c.begin_relating.result ≡ Err EvalError.NoSolution = search rules in
+          let mode = mode_of c.args.table.now.mode in
+          let x = candidate_of c.args.cx.now.nodes c.args.candidate.now in
+          ⊎_elim
+          (λ u. is_unmet (λ met. u (subst (IsCandidateMet (content_of c.args.cx.now.nodes c.args.table.now.entries)) (part_outside mode x c.requires.outside) met)))
+          (λ u. is_unrelated c.requires.outside (rw s.declared u))
+          (c.begin_relating.ensures.no no);
+      decided = λ s n b d can. absurd (c.requires.some d.plain);
+    }
+
+pub try_relating-try_evaluate_goals-requires : goal.try_relating-try_evaluate_goals-requires
+try_relating-try_evaluate_goals-requires g t c = λ κs k-1.
+    let b = c.in_ok-goals.ensures in
+    let begins = b.begins in (
+      omega (arith, c.decreases),
+      (
+        k-1,
+        (
+          b.runs.goes.table,
+          (
+            begins.posed,
+            (
+              g.met.H.GoalHandler.ready_kept _ _ _ c.requires.ready b.runs.goes.extends,
+              search_grows c.args.depth c.args.depth (omega arith) c.requires.search (ran b.runs),
+            ),
+          ),
+        ),
+      ),
+    )
+
+pub try_relating-returns-in_err-certainty : goal.try_relating-returns-in_err-certainty
+try_relating-returns-in_err-certainty g t c =
+    let b = c.in_ok-goals.ensures in
+    let begins = b.begins in
+    let e = c.try_evaluate_goals.ensures in
+    let m = c.begin_relating.new.cx in
+    let u = c.begin_relating.new.table in
+    let fails : is_err c.from_residual-in_err-certainty.result ≡ true = search rules in
+    record {
+      runs = Runs-trans b.runs e.runs;
+      searches = search_then c.args.depth c.requires.search (ran b.runs) e.searches;
+      labels = IfOk-from_err c.from_residual-in_err-certainty.result _ fails;
+      proved = search rules;
+      told = λ s tells. IfOk-from_err c.from_residual-in_err-certainty.result _ fails;
+      refuted = λ s tells n.
+          let h = ruling_since (λ ts. g.H.GoalHandler.handler ts c.args.handler.now) s in
+          let refused : c.try_evaluate_goals.result ≡ Err EvalError.NoSolution = search rules in
+          let no = stopped_refused u c.args.graph.now c.goal_kind-kind.result (e.refuted (Since-later (ran b.runs) s) (tell_grown h c.args.depth c.requires.search (ran b.runs) tells) refused) in
+          is_refused (goals_at m.nodes c.in_ok-goals.goals.items) (content_of m.nodes u.entries) (inr (c.requires.outside, rw s.declared begins.begun)) (rw (b.runs.goes.mode, c.goal_kind-kind.ensures.kind s.base s.variances) at no);
+      decided = λ s n k d can. absurd (c.requires.some d.plain);
+    }
+
+pub try_relating-returns : goal.try_relating-returns
+try_relating-returns g t c =
+    let b = c.in_ok-goals.ensures in
+    let begins = b.begins in
+    let e = c.in_ok-certainty.ensures in
+    let m = c.begin_relating.new.cx in
+    let u = c.begin_relating.new.table in
+    let z = c.try_evaluate_goals.new.cx in
+    let w = c.try_evaluate_goals.new.table in
+    let gs = c.in_ok-goals.goals.items in
+    let mode = c.args.table.now.mode in
+    record {
+      runs = Runs-trans b.runs e.runs;
+      searches = search_then c.args.depth c.requires.search (ran b.runs) e.searches;
+      labels = begins.labels e.labels;
+      proved = λ s y.
+          let h = g.H.GoalHandler.handler s.base c.args.handler.now in
+          let sure = both_sure _ _ (sym c.and.ensures ∙ ok_inside y) in
+          let settled = rw (b.runs.goes.mode, c.goal_kind-kind.ensures.kind s.base s.variances) at (e.proved (Since-later (ran b.runs) s)) in
+          let none = e.sure (ap Ok sure.1) in
+          relating_holds (meaning h s.variances) (mode_of mode) (assumed_in z.nodes c.try_evaluate_goals.new.graph) c.args.goal c.args.candidate.now gs z.nodes w c.requires.posed c.requires.candidate c.requires.some begins s.declared e.runs.goes c.terms_are_formed-2.ensures (proved_all _ gs none settled) (ap certainty_of sure.0);
+      told = λ s tells.
+          let h = ruling_since (λ ts. g.H.GoalHandler.handler ts c.args.handler.now) s in
+          record {
+            left = goals_at m.nodes gs;
+            met = content_of m.nodes u.entries;
+            begun = inr (c.requires.outside, rw s.declared begins.begun);
+            reaches = rw b.runs.goes.mode at (e.told (Since-later (ran b.runs) s) (tell_grown h c.args.depth c.requires.search (ran b.runs) tells));
+          };
+      refuted = search rules;
+      decided = λ s n k d can. absurd (c.requires.some d.plain);
+    }
