@@ -3,11 +3,14 @@ use Rattle.std.proofs.Common.{◌≡◌, ◌≢◌, ℕ, zero, suc, ◌<◌, Boo
 use Rattle.std.specs.Prelude.{IfSome, slice_get}
 use Rattle.std.proofs.lemmas.Option.{slice_get-get_or}
 use Rattle.std.proofs.lemmas.List.Elements.{All-nil, All-cons, All-head, All-tail}
-use Rattle.nts_text.specs.Lines.{TokensSayNothing}
-use Rattle.nts_text.specs.Predicates.{is_name, is_complete, has_colon_behind, may_follow, may_follow_bound, may_stand, binding_behind, colon_allowed_behind, depth_behind, continues, are_predicates}
+use Rattle.nts_text.specs.Lines.{IsClause, TokensSayNothing}
+use Rattle.nts_text.specs.declared.predicates.Node.{Node}
+use Rattle.nts_text.specs.Predicates.{is_name, is_complete, is_many, may_have_colon, may_follow, may_follow_bound, may_stand, binding_behind, first_side, side_behind, depth_behind, before_first_of, continues, are_predicates}
+use Rattle.nts_text.specs.declared.predicates.Side.{Side}
+use Rattle.nts_text.specs.declared.predicates.Wanted.{Wanted}
 use Rattle.nts_text.specs.declared.lexer.Token.{Token}
 use Rattle.nts_text.specs.declared.lexer.TokenKind.{TokenKind}
-use Rattle.nts_text.specs.declared.lexer.TokenKind.TheVariants.{Name, Open, Comma, Colon, Greater, For, Arrow}
+use Rattle.nts_text.specs.declared.lexer.TokenKind.TheVariants.{Name, Open, Comma, Equals, Colon, Greater, For, Arrow}
 use Rattle.nts_text.specs.declared.parser.Keyword.TheVariants as keywords
 use Rattle.nts_text.specs.declared.parser.Line.TheVariants as lines
 use Rattle.nts_text.specs.declared.predicates.Wanted.TheVariants as wanted
@@ -23,33 +26,37 @@ both : (a b : Bool) → a && b ≡ true → (a ≡ true) × (b ≡ true)
 both true b h = (refl, h)
 both false b h = cc
 
-none_of : (a b c : Bool) → (a && false) || (b && false) || (c && false) ≡ false
-none_of a b c = rw (and_false a, and_false b, and_false c) refl
+none_of : (a b : Bool) → (a && false) || false || (b && false) ≡ false
+none_of a b = rw (and_false a, and_false b) refl
 
 -- no arrow follows in predicates
-never_follows : (many colon_allowed : Bool) (depth : ℕ) (k : TokenKind) → may_follow many colon_allowed depth k Arrow ≡ false
-never_follows many colon_allowed depth Open = refl
-never_follows many colon_allowed depth Comma = refl
-never_follows many colon_allowed depth Greater = and_false colon_allowed
-never_follows many colon_allowed depth Colon = refl
-never_follows many colon_allowed depth k = none_of (is_name k) (has_colon_behind colon_allowed depth k) (is_complete colon_allowed depth k)
+never_follows : (many : Bool) (s : Side) (depth : ℕ) (k : TokenKind) → may_follow many s depth k Arrow ≡ false
+never_follows many s depth Open = refl
+never_follows many s depth Comma = refl
+never_follows many s depth Greater = and_false (may_have_colon s)
+never_follows many s depth Colon = refl
+never_follows many s depth Equals = refl
+never_follows many s depth k = none_of (is_name k) (is_complete s depth k)
 
 never_bound : (k : TokenKind) → may_follow_bound k Arrow ≡ false
 never_bound For = refl
 never_bound Comma = refl
 never_bound k = refl
 
-never_stands : (many binding colon_allowed : Bool) (depth : ℕ) (k : TokenKind) → may_stand many binding colon_allowed depth k Arrow ≡ false
-never_stands many true colon_allowed depth k = never_bound k
-never_stands many false colon_allowed depth k = never_follows many colon_allowed depth k
+never_stands : (many binding : Bool) (s : Side) (depth : ℕ) (k : TokenKind) → may_stand many binding s depth k Arrow ≡ false
+never_stands many true s depth k = never_bound k
+never_stands many false s depth k = never_follows many s depth k
 
-continues_without : (many binding colon_allowed : Bool) (depth : ℕ) (k : TokenKind) (ts : List Token) → continues many binding colon_allowed depth k ts ≡ true → All IsNoArrow ts
-continues_without many binding colon_allowed depth k [] h = All-nil IsNoArrow
-continues_without many binding colon_allowed depth k (t ∷ ts) h =
-    let allowed = colon_allowed_behind colon_allowed depth t.kind in
-    let e = both (may_stand many binding colon_allowed depth k t.kind) (continues many (binding_behind binding t.kind) allowed (depth_behind depth t.kind) t.kind ts) h in
-    All-cons IsNoArrow t ts (λ arrow. let f : true ≡ false = sym e.0 ∙ ap (may_stand many binding colon_allowed depth k) arrow ∙ never_stands many binding colon_allowed depth k in cc)
-    (continues_without many (binding_behind binding t.kind) allowed (depth_behind depth t.kind) t.kind ts e.1)
+continues_without : (w : Wanted) (binding : Bool) (s : Side) (depth : ℕ) (k : TokenKind) (ts : List Token) → continues w binding s depth k ts ≡ true → All IsNoArrow ts
+continues_without w binding s depth k [] h = All-nil IsNoArrow
+continues_without w binding s depth k (t ∷ ts) h =
+    let next = side_behind w s depth t.kind in
+    let e = both (may_stand (is_many w) binding s depth k t.kind) (continues w (binding_behind binding t.kind) next (depth_behind depth t.kind) t.kind ts) h in
+    All-cons IsNoArrow t ts (λ arrow. let f : true ≡ false = sym e.0 ∙ ap (may_stand (is_many w) binding s depth k) arrow ∙ never_stands (is_many w) binding s depth k in cc)
+    (continues_without w (binding_behind binding t.kind) next (depth_behind depth t.kind) t.kind ts e.1)
+
+without_arrow : (w : Wanted) (ts : List Token) → are_predicates w ts ≡ true → All IsNoArrow ts
+without_arrow w ts h = continues_without w false (first_side w) 0 (before_first_of w) ts h
 
 holds_between : (P : Token → Type 0) (xs : List Token) (t : Token) (ys : List Token) → All P (xs ++ t ∷ ys) → P t
 holds_between P [] t ys h = All-head P t ys h
@@ -74,33 +81,30 @@ parts_at (t ∷ ts) (suc at) lt here =
     let e = parts_at ts at (omega (arith, lt)) here in
     (e.0, ap (λ xs. t ∷ xs) e.1, e.2)
 
-module _ (line : List ℕ) (ts : List Token) where
-  -- no clause is said where there is no arrow and the tokens are no predicate
-  pub says_no_fact : All IsNoArrow ts → are_predicates wanted.Base ts ≡ false → TokensSayNothing line ts keywords.Impl
-  says_no_fact none fails (lines.Mode m) says = says
-  says_no_fact none fails (lines.Depth d) says = says
-  says_no_fact none fails (lines.Type name params) says = says
-  says_no_fact none fails (lines.Trait name sorts coinductive) says = says
-  says_no_fact none fails (lines.Goal ns) says = says
-  says_no_fact none fails (lines.Env ns) says = says
-  says_no_fact none fails (lines.Impl head body) (inl h) = let f : true ≡ false = sym h.0 ∙ fails in cc
-  says_no_fact none fails (lines.Impl head body) (inr (before, after, t, parts, arrow, is, head_is, are, body_is)) =
+module _ (w : Wanted) (ts : List Token) where
+  -- there is no clause where there is no arrow and the tokens are no predicate
+  pub no_fact : All IsNoArrow ts → are_predicates w ts ≡ false → (head body : List Node) → IsClause w ts head body → ⊥
+  no_fact none fails head body (inl h) = let f : true ≡ false = sym h.0 ∙ fails in cc
+  no_fact none fails head body (inr (before, after, t, parts, arrow, is, head_is, are, body_is)) =
       holds_between IsNoArrow before t after (subst (All IsNoArrow) parts none) arrow
 
   -- .. or where there is one, and not predicates before and behind it
-  pub says_no_rule : (at : ℕ) → at < length ts → IfSome (slice_get ts at) (λ t. t.kind ≡ Arrow) → All IsNoArrow (take at ts)
-      → (are_predicates wanted.Base (take at ts) ≡ true → are_predicates wanted.Many (drop (suc at) ts) ≡ true → ⊥) → TokensSayNothing line ts keywords.Impl
-  says_no_rule at lt here first fails (lines.Mode m) says = says
-  says_no_rule at lt here first fails (lines.Depth d) says = says
-  says_no_rule at lt here first fails (lines.Type name params) says = says
-  says_no_rule at lt here first fails (lines.Trait name sorts coinductive) says = says
-  says_no_rule at lt here first fails (lines.Goal ns) says = says
-  says_no_rule at lt here first fails (lines.Env ns) says = says
-  says_no_rule at lt here first fails (lines.Impl head body) (inl h) =
+  pub no_rule : (at : ℕ) → at < length ts → IfSome (slice_get ts at) (λ t. t.kind ≡ Arrow) → All IsNoArrow (take at ts)
+      → (are_predicates w (take at ts) ≡ true → are_predicates wanted.Many (drop (suc at) ts) ≡ true → ⊥) → (head body : List Node) → IsClause w ts head body → ⊥
+  no_rule at lt here first fails head body (inl h) =
       let d : Token = record { kind = Name; start = 0; end = 0 } in
       let arrow : (get_or ts at d).kind ≡ Arrow = subst (λ o. IfSome o (λ t. t.kind ≡ Arrow)) (slice_get-get_or ts at d lt) here in
-      continues_without false false false 0 Greater ts h.0 at d lt arrow
-  says_no_rule at lt here first fails (lines.Impl head body) (inr (before, after, t, parts, arrow, is, head_is, are, body_is)) =
-      let e = parted before after t at (continues_without false false false 0 Greater before is) arrow
+      without_arrow w ts h.0 at d lt arrow
+  no_rule at lt here first fails head body (inr (before, after, t, parts, arrow, is, head_is, are, body_is)) =
+      let e = parted before after t at (without_arrow w before is) arrow
       (subst (λ xs. IfSome (slice_get xs at) (λ u. u.kind ≡ Arrow)) parts here) (subst (λ xs. All IsNoArrow (take at xs)) parts first) in
-      fails (ap (are_predicates wanted.Base) (ap (take at) parts ∙ sym e.0) ∙ is) (ap (are_predicates wanted.Many) (ap (drop (suc at)) parts ∙ sym e.1) ∙ are)
+      fails (ap (are_predicates w) (ap (take at) parts ∙ sym e.0) ∙ is) (ap (are_predicates wanted.Many) (ap (drop (suc at)) parts ∙ sym e.1) ∙ are)
+
+-- a line of an impl says a clause with a trait's head, and one of an alias's value a clause with such a head
+pub says_no_impl : (line : List ℕ) (ts : List Token) → ((head body : List Node) → IsClause wanted.Base ts head body → ⊥) → TokensSayNothing line ts keywords.Impl
+says_no_impl line ts none (lines.Impl head body) says = none head.items body.items says
+says_no_impl line ts none _ says = says
+
+pub says_no_norm : (line : List ℕ) (ts : List Token) → ((head body : List Node) → IsClause wanted.Norm ts head body → ⊥) → TokensSayNothing line ts keywords.Norm
+says_no_norm line ts none (lines.Norm head body) says = none head.items body.items says
+says_no_norm line ts none _ says = says

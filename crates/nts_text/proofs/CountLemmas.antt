@@ -1,13 +1,15 @@
 -- How the numbers of words at each level of brackets grow by one token.
-use Rattle.std.proofs.Common.{◌≡◌, ℕ, ◌+◌, ◌-◌, ◌==◌, ◌≤◌, ◌&&◌, if◌then◌else◌, is_none, length, zero, suc, Bool, true, false, List, [], ◌∷◌, ◌++◌, Option, None, Some, unwrap_or, option_to_list, reverse, get_or, refl, sym, ap, subst, ◌∙◌, arith}
+use Rattle.std.proofs.Common.{◌≡◌, ℕ, ◌+◌, ◌-◌, ◌==◌, ◌<◌, ◌≤◌, ◌&&◌, if◌then◌else◌, not, is_none, length, zero, suc, Bool, true, false, List, [], ◌∷◌, ◌++◌, Option, None, Some, unwrap_or, option_to_list, reverse, get_or, refl, sym, ap, subst, ◌∙◌, arith}
 use Rattle.std.proofs.lemmas.List.{reverse-append, reverse-reverse, length-append}
 use Rattle.nts_text.specs.declared.predicates.Role.{Role}
 use Rattle.nts_text.specs.declared.predicates.Role.TheVariants as roles
-use Rattle.nts_text.specs.Predicates.{is_open, is_close, is_word, is_name, is_colon, is_forest, may_stand, binding_behind, colon_allowed_behind, depth_behind, continues, trees_before, trees_at, written_nodes, word_node, behind_colon, colon_before, next_colon, taken_colon, colon_behind, arguments_behind, open_brackets, is_binding, role_before}
+use Rattle.nts_text.specs.Predicates.{is_open, is_close, is_word, is_name, is_equals, is_sign, is_forest, is_many, may_stand, binding_behind, side_behind, depth_behind, continues, trees_before, trees_at, nodes_behind, word_node, with_sign, behind_sign, sign_before, next_sign, taken_sign, sign_behind, kind_before, arguments_behind, open_brackets, is_binding, role_before}
+use Rattle.nts_text.specs.declared.predicates.Side.{Side}
+use Rattle.nts_text.specs.declared.predicates.Wanted.{Wanted}
 use Rattle.nts_text.specs.declared.predicates.Node.{Node}
 use Rattle.nts_text.specs.declared.lexer.Token.{Token}
 use Rattle.nts_text.specs.declared.lexer.TokenKind.{TokenKind}
-use Rattle.nts_text.specs.declared.lexer.TokenKind.TheVariants.{Open, Close, Colon}
+use Rattle.nts_text.specs.declared.lexer.TokenKind.TheVariants.{Open, Close, Equals, Colon}
 
 pub trees_at-open : (n : ℕ) (t : Token) (ts : List Token) → is_open t.kind ≡ true → trees_at n (t ∷ ts) ≡ trees_at (suc n) ts
 trees_at-open zero t ts h = grind (arith, h)
@@ -45,6 +47,23 @@ counts_open count outer rest None t ts e none opens counts = λ n.
     subst (λ xs. get_or (count ∷ reverse xs) (suc n) 0 ≡ trees_at (suc n) ts) outer_is (counts (suc n)) in
     subst (λ xs. get_or (0 ∷ reverse xs) n 0 ≡ trees_at n (t ∷ ts)) (sym rest_is) (zeros_of n ∙ at ∙ sym (trees_at-open n t ts opens))
 
+pub close_no_open : (k : TokenKind) → is_close k ≡ true → is_open k ≡ false
+close_no_open Open h = cc
+close_no_open _ h = refl
+
+pub counts_close : (count : ℕ) (outer new : List ℕ) (t : Token) (ts : List Token) → new ≡ outer ++ count ∷ [] → is_close t.kind ≡ true
+    → AreCounts (count ∷ reverse outer) ts → AreCounts (0 ∷ reverse new) (t ∷ ts)
+counts_close count outer new t ts e closes counts = λ n. by n
+  where
+    opens : is_open t.kind ≡ false
+    opens = close_no_open t.kind closes
+
+    by : (n : ℕ) → get_or (0 ∷ reverse new) n 0 ≡ trees_at n (t ∷ ts)
+    by zero = grind (arith, opens, closes)
+    by (suc n) =
+        let whole : reverse new ≡ count ∷ reverse outer = ap reverse e ∙ reverse-append outer (count ∷ []) in
+        ap (λ xs. get_or xs n 0) whole ∙ counts n ∙ grind (arith, opens, closes)
+
 pub counts_token : (count : ℕ) (outer : List ℕ) (t : Token) (ts : List Token)
     → is_open t.kind ≡ false → is_close t.kind ≡ false
     → AreCounts (count ∷ outer) ts → AreCounts (trees_before t.kind count ∷ outer) (t ∷ ts)
@@ -54,11 +73,17 @@ counts_token count outer t ts opens closes counts = λ n. by n
     by zero = ap (trees_before t.kind) (counts 0) ∙ sym (trees_at-token t ts opens closes)
     by (suc n) = counts (suc n) ∙ sym (trees_at-other n t ts opens closes)
 
-pub written_nodes-word : (t : Token) (ts : List Token) → is_word t.kind ≡ true → written_nodes (t ∷ ts) ≡ behind_colon (word_node t ts) (colon_behind ts) ++ written_nodes ts
-written_nodes-word t ts h = ap (λ b. if b then behind_colon (word_node t ts) (colon_behind ts) ++ written_nodes ts else written_nodes ts) h
+pub nodes_behind-word : (b : TokenKind) (t : Token) (ts : List Token) → is_word t.kind ≡ true → nodes_behind b (t ∷ ts) ≡ behind_sign (word_node b t ts) (sign_behind ts) ++ nodes_behind t.kind ts
+nodes_behind-word b t ts h = ap (λ w. if w then behind_sign (word_node b t ts) (sign_behind ts) ++ nodes_behind t.kind ts else nodes_behind t.kind ts) h
 
-pub written_nodes-other : (t : Token) (ts : List Token) → is_word t.kind ≡ false → written_nodes (t ∷ ts) ≡ written_nodes ts
-written_nodes-other t ts h = ap (λ b. if b then behind_colon (word_node t ts) (colon_behind ts) ++ written_nodes ts else written_nodes ts) h
+pub nodes_behind-other : (b : TokenKind) (t : Token) (ts : List Token) → is_word t.kind ≡ false → nodes_behind b (t ∷ ts) ≡ nodes_behind t.kind ts
+nodes_behind-other b t ts h = ap (λ w. if w then behind_sign (word_node b t ts) (sign_behind ts) ++ nodes_behind t.kind ts else nodes_behind t.kind ts) h
+
+-- what stands in front of the token behind another one
+pub kind_before-behind : (ts : List Token) (n : ℕ) (d : Token) → n < length ts → kind_before ts (suc n) ≡ (get_or ts n d).kind
+kind_before-behind [] n d h = absurd (omega (arith, h))
+kind_before-behind (t ∷ ts) zero d h = refl
+kind_before-behind (t ∷ ts) (suc n) d h = kind_before-behind ts n d (omega (arith, h))
 
 pub arguments_behind-open : (t : Token) (ts : List Token) → is_open t.kind ≡ true → arguments_behind (t ∷ ts) ≡ trees_at 0 ts
 arguments_behind-open t ts h = grind (arith, h)
@@ -72,6 +97,9 @@ open_brackets-open t ts h = grind (arith, h)
 pub open_brackets-other : (t : Token) (ts : List Token) → is_open t.kind ≡ false → is_close t.kind ≡ false → open_brackets (t ∷ ts) ≡ open_brackets ts
 open_brackets-other t ts h k = grind (arith, h, k)
 
+pub open_brackets-close : (t : Token) (ts : List Token) → is_close t.kind ≡ true → open_brackets (t ∷ ts) ≡ open_brackets ts + 1
+open_brackets-close t ts h = grind (arith, close_no_open t.kind h, h)
+
 -- one bracket less is open
 pub fewer_open : (outer rest : List ℕ) (top : Option ℕ) (n : ℕ) → outer ≡ rest ++ option_to_list top → (top ≡ None → rest ≡ []) → length outer ≡ n → length rest ≡ n - 1
 fewer_open outer rest (Some x) n e none h = omega (arith, h, ap length e ∙ length-append rest (x ∷ []))
@@ -79,32 +107,33 @@ fewer_open outer rest None n e none h =
     let counted : length outer ≡ length rest + 0 = ap length e ∙ length-append rest [] in
     omega (arith, h, counted, ap length (none refl))
 
-pub word_no_colon : (k : TokenKind) → is_word k ≡ true → is_colon k ≡ false
-word_no_colon Colon h = cc
-word_no_colon _ h = refl
+pub word_no_sign : (k : TokenKind) → is_word k ≡ true → is_sign k ≡ false
+word_no_sign Colon h = cc
+word_no_sign Equals h = cc
+word_no_sign _ h = refl
 
-abbrev role_with : TokenKind → Bool → ℕ → Option Token → Role
-role_with k binding depth colon =
-    if binding then roles.Bound else (if is_name k && (depth == 0) && is_none colon then roles.Trait else roles.Argument)
+abbrev role_with : TokenKind → TokenKind → Bool → ℕ → Option Token → Role
+role_with b k binding depth sign =
+    if binding then roles.Bound else (if is_name k && not (is_equals b) && (depth == 0) && is_none sign then roles.Trait else roles.Argument)
 
--- the role of a word, where this is known of what stands behind it
-pub role_of-behind : (k : TokenKind) (binding : Bool) (depth : ℕ) (colon : Option Token) (ts : List Token) (r : Role) → r ≡ role_with k binding depth colon
-    → binding ≡ is_binding ts → depth ≡ open_brackets ts → colon ≡ next_colon ts → r ≡ role_before k ts
-role_of-behind k binding depth colon ts r h e f g =
-    h ∙ ap (λ b. role_with k b depth colon) e ∙ ap (λ d. role_with k (is_binding ts) d colon) f
-    ∙ ap (role_with k (is_binding ts) (open_brackets ts)) g
+-- the role of a word, where this is known of what stands before and behind it
+pub role_of-behind : (b c k : TokenKind) (binding : Bool) (depth : ℕ) (sign : Option Token) (ts : List Token) (r : Role) → r ≡ role_with b k binding depth sign
+    → b ≡ c → binding ≡ is_binding ts → depth ≡ open_brackets ts → sign ≡ next_sign ts → r ≡ role_before c k ts
+role_of-behind b c k binding depth sign ts r h same e f g =
+    h ∙ ap (λ x. role_with x k binding depth sign) same ∙ ap (λ x. role_with c k x depth sign) e ∙ ap (λ d. role_with c k (is_binding ts) d sign) f
+    ∙ ap (role_with c k (is_binding ts) (open_brackets ts)) g
 
--- the colon of a word, and the next one, where this is known of what stands behind
-pub taken-behind : (depth : ℕ) (colon taken : Option Token) (ts : List Token) → taken ≡ taken_colon depth colon → depth ≡ open_brackets ts → colon ≡ next_colon ts → taken ≡ colon_behind ts
-taken-behind depth colon taken ts h f g = h ∙ ap (λ d. taken_colon d colon) f ∙ ap (taken_colon (open_brackets ts)) g
+-- the sign of a word, and the next one, where this is known of what stands behind
+pub taken-behind : (depth : ℕ) (sign taken : Option Token) (ts : List Token) → taken ≡ taken_sign depth sign → depth ≡ open_brackets ts → sign ≡ next_sign ts → taken ≡ sign_behind ts
+taken-behind depth sign taken ts h f g = h ∙ ap (λ d. taken_sign d sign) f ∙ ap (taken_sign (open_brackets ts)) g
 
-pub colon-behind : (t : Token) (depth trees : ℕ) (old new : Option Token) (ts : List Token) → new ≡ colon_before t depth trees old
-    → depth ≡ open_brackets ts → trees ≡ trees_at 0 ts → old ≡ next_colon ts → new ≡ next_colon (t ∷ ts)
-colon-behind t depth trees old new ts h e f g =
-    h ∙ ap (λ d. colon_before t d trees old) e ∙ ap (λ n. colon_before t (open_brackets ts) n old) f
-    ∙ ap (colon_before t (open_brackets ts) (trees_at 0 ts)) g
+pub sign-behind : (t : Token) (depth trees : ℕ) (old new : Option Token) (ts : List Token) → new ≡ sign_before t depth trees old
+    → depth ≡ open_brackets ts → trees ≡ trees_at 0 ts → old ≡ next_sign ts → new ≡ next_sign (t ∷ ts)
+sign-behind t depth trees old new ts h e f g =
+    h ∙ ap (λ d. sign_before t d trees old) e ∙ ap (λ n. sign_before t (open_brackets ts) n old) f
+    ∙ ap (sign_before t (open_brackets ts) (trees_at 0 ts)) g
 
--- a colon whose left side is still to come joins two trees
+-- a sign whose left side is still to come joins two trees
 abbrev pub pending : Option Token → ℕ
 pending None = 0
 pending (Some t) = 1
@@ -112,87 +141,95 @@ pending (Some t) = 1
 abbrev pub IsForestUpTo : ℕ → List Node → Type 0
 IsForestUpTo n ns = (k : ℕ) → k ≤ n → is_forest k ns ≡ true
 
-forest_word_if : (trees : ℕ) (outside : Bool) (colon : Option Token) (n : Node) (ns : List Node) → IsForestUpTo (trees + n.arguments + pending colon) ns
-    → IsForestUpTo (trees + 1 + pending (if outside then None else colon)) (behind_colon n (if outside then colon else None) ++ ns)
+forest_signed : (trees : ℕ) (b : Bool) (c : Token) (n : Node) (ns : List Node) → IsForestUpTo (trees + n.arguments + 1) ns → IsForestUpTo (trees + 1 + 0) (with_sign b n c ++ ns)
+forest_signed trees true c n ns h k le = h (k - 1 + (n.arguments + 1)) (omega (arith, le))
+forest_signed trees false c n ns h k le = h (k - 1 + 2 - 1 + n.arguments) (omega (arith, le))
+
+forest_word_if : (trees : ℕ) (outside : Bool) (sign : Option Token) (n : Node) (ns : List Node) → IsForestUpTo (trees + n.arguments + pending sign) ns
+    → IsForestUpTo (trees + 1 + pending (if outside then None else sign)) (behind_sign n (if outside then sign else None) ++ ns)
 forest_word_if trees true None n ns h k le = h (k - 1 + n.arguments) (omega (arith, le))
-forest_word_if trees true (Some c) n ns h k le = h (k - 1 + 2 - 1 + n.arguments) (omega (arith, le))
-forest_word_if trees false colon n ns h k le = h (k - 1 + n.arguments) (omega (arith, le))
+forest_word_if trees true (Some c) n ns h k le = forest_signed trees (is_equals c.kind) c n ns h k le
+forest_word_if trees false sign n ns h k le = h (k - 1 + n.arguments) (omega (arith, le))
 
-abbrev left_colon : Token → ℕ → ℕ → Option Token → Bool → Bool → Option Token
-left_colon t depth trees colon is_a_colon is_a_word =
-    if is_a_colon then (if trees == 0 then None else Some t) else (if is_a_word && (depth == 0) then None else colon)
+abbrev left_sign : Token → ℕ → ℕ → Option Token → Bool → Bool → Option Token
+left_sign t depth trees sign is_a_sign is_a_word =
+    if is_a_sign then (if trees == 0 then None else Some t) else (if is_a_word && (depth == 0) then None else sign)
 
--- the next colon before a word
-pub colon_before-word : (t : Token) (depth trees : ℕ) (colon : Option Token) → is_word t.kind ≡ true → colon_before t depth trees colon ≡ (if depth == 0 then None else colon)
-colon_before-word t depth trees colon h =
-    ap (λ b. left_colon t depth trees colon b (is_word t.kind)) (word_no_colon t.kind h) ∙ ap (left_colon t depth trees colon false) h
+-- the next sign before a word
+pub sign_before-word : (t : Token) (depth trees : ℕ) (sign : Option Token) → is_word t.kind ≡ true → sign_before t depth trees sign ≡ (if depth == 0 then None else sign)
+sign_before-word t depth trees sign h =
+    ap (λ b. left_sign t depth trees sign b (is_word t.kind)) (word_no_sign t.kind h) ∙ ap (left_sign t depth trees sign false) h
 
 -- a word before trees
-pub forest_word : (trees : ℕ) (t : Token) (depth count : ℕ) (colon : Option Token) (n : Node) (ns : List Node) → is_word t.kind ≡ true → IsForestUpTo (trees + n.arguments + pending colon) ns
-    → IsForestUpTo (trees + 1 + pending (colon_before t depth count colon)) (behind_colon n (taken_colon depth colon) ++ ns)
-forest_word trees t depth count colon n ns w h =
-    subst (λ c. IsForestUpTo (trees + 1 + pending c) (behind_colon n (taken_colon depth colon) ++ ns)) (sym (colon_before-word t depth count colon w))
-    (forest_word_if trees (depth == 0) colon n ns h)
+pub forest_word : (trees : ℕ) (t : Token) (depth count : ℕ) (sign : Option Token) (n : Node) (ns : List Node) → is_word t.kind ≡ true → IsForestUpTo (trees + n.arguments + pending sign) ns
+    → IsForestUpTo (trees + 1 + pending (sign_before t depth count sign)) (behind_sign n (taken_sign depth sign) ++ ns)
+forest_word trees t depth count sign n ns w h =
+    subst (λ c. IsForestUpTo (trees + 1 + pending c) (behind_sign n (taken_sign depth sign) ++ ns)) (sym (sign_before-word t depth count sign w))
+    (forest_word_if trees (depth == 0) sign n ns h)
 
-small_word_if : (trees arguments : ℕ) (outside : Bool) (colon : Option Token) (n : Node) (len : ℕ) → trees + arguments + pending colon ≤ len
-    → trees + 1 + pending (if outside then None else colon) ≤ len + length (behind_colon n (if outside then colon else None))
+small_signed : (trees arguments : ℕ) (b : Bool) (c : Token) (n : Node) (len : ℕ) → trees + arguments + 1 ≤ len → trees + 1 + 0 ≤ len + length (with_sign b n c)
+small_signed trees arguments true c n len h = omega (arith, h)
+small_signed trees arguments false c n len h = omega (arith, h)
+
+small_word_if : (trees arguments : ℕ) (outside : Bool) (sign : Option Token) (n : Node) (len : ℕ) → trees + arguments + pending sign ≤ len
+    → trees + 1 + pending (if outside then None else sign) ≤ len + length (behind_sign n (if outside then sign else None))
 small_word_if trees arguments true None n len h = omega (arith, h)
-small_word_if trees arguments true (Some c) n len h = omega (arith, h)
-small_word_if trees arguments false colon n len h = omega (arith, h)
+small_word_if trees arguments true (Some c) n len h = small_signed trees arguments (is_equals c.kind) c n len h
+small_word_if trees arguments false sign n len h = omega (arith, h)
 
 -- there are no more trees than nodes
-pub small_word : (trees arguments : ℕ) (t : Token) (depth count : ℕ) (colon : Option Token) (n : Node) (len : ℕ) → is_word t.kind ≡ true → trees + arguments + pending colon ≤ len
-    → trees + 1 + pending (colon_before t depth count colon) ≤ len + length (behind_colon n (taken_colon depth colon))
-small_word trees arguments t depth count colon n len w h =
-    subst (λ c. trees + 1 + pending c ≤ len + length (behind_colon n (taken_colon depth colon))) (sym (colon_before-word t depth count colon w))
-    (small_word_if trees arguments (depth == 0) colon n len h)
+pub small_word : (trees arguments : ℕ) (t : Token) (depth count : ℕ) (sign : Option Token) (n : Node) (len : ℕ) → is_word t.kind ≡ true → trees + arguments + pending sign ≤ len
+    → trees + 1 + pending (sign_before t depth count sign) ≤ len + length (behind_sign n (taken_sign depth sign))
+small_word trees arguments t depth count sign n len w h =
+    subst (λ c. trees + 1 + pending c ≤ len + length (behind_sign n (taken_sign depth sign))) (sym (sign_before-word t depth count sign w))
+    (small_word_if trees arguments (depth == 0) sign n len h)
 
-fewer_if : (t : Token) (count : ℕ) (colon : Option Token) (b none : Bool) → none ≡ (count == 0) → (if b then count - 1 else count) + pending (if b then (if none then None else Some t) else colon) ≤ count + pending colon
-fewer_if t count colon true true h = omega (arith)
-fewer_if t count colon true false h = grind (arith, h)
-fewer_if t count colon false none h = omega (arith)
+fewer_if : (t : Token) (count : ℕ) (sign : Option Token) (b none : Bool) → none ≡ (count == 0) → (if b then count - 1 else count) + pending (if b then (if none then None else Some t) else sign) ≤ count + pending sign
+fewer_if t count sign true true h = omega (arith)
+fewer_if t count sign true false h = grind (arith, h)
+fewer_if t count sign false none h = omega (arith)
 
 -- what is no word adds no tree
-pub fewer_trees : (t : Token) (depth count : ℕ) (colon : Option Token) → is_word t.kind ≡ false → trees_before t.kind count + pending (colon_before t depth count colon) ≤ count + pending colon
-fewer_trees t depth count colon h =
-    subst (λ w. (if w then suc count else (if is_colon t.kind then count - 1 else count)) + pending (left_colon t depth count colon (is_colon t.kind) w) ≤ count + pending colon) (sym h)
-    (fewer_if t count colon (is_colon t.kind) (count == 0) refl)
+pub fewer_trees : (t : Token) (depth count : ℕ) (sign : Option Token) → is_word t.kind ≡ false → trees_before t.kind count + pending (sign_before t depth count sign) ≤ count + pending sign
+fewer_trees t depth count sign h =
+    subst (λ w. (if w then suc count else (if is_sign t.kind then count - 1 else count)) + pending (left_sign t depth count sign (is_sign t.kind) w) ≤ count + pending sign) (sym h)
+    (fewer_if t count sign (is_sign t.kind) (count == 0) refl)
 
-pub fewer_before : (t : Token) (depth count new_count : ℕ) (colon new_colon : Option Token) → is_word t.kind ≡ false → new_count ≡ trees_before t.kind count → new_colon ≡ colon_before t depth count colon
-    → new_count + pending new_colon ≤ count + pending colon
-fewer_before t depth count new_count colon new_colon h e f = omega (arith, e, ap pending f, fewer_trees t depth count colon h)
+pub fewer_before : (t : Token) (depth count new_count : ℕ) (sign new_sign : Option Token) → is_word t.kind ≡ false → new_count ≡ trees_before t.kind count → new_sign ≡ sign_before t depth count sign
+    → new_count + pending new_sign ≤ count + pending sign
+fewer_before t depth count new_count sign new_sign h e f = omega (arith, e, ap pending f, fewer_trees t depth count sign h)
 
-pushed_nodes : (n : Node) (taken : Option Token) (old new : List Node) → new ≡ old ++ reverse (behind_colon n taken) → reverse new ≡ behind_colon n taken ++ reverse old
+pushed_nodes : (n : Node) (taken : Option Token) (old new : List Node) → new ≡ old ++ reverse (behind_sign n taken) → reverse new ≡ behind_sign n taken ++ reverse old
 pushed_nodes n taken old new e =
-    ap reverse e ∙ reverse-append old (reverse (behind_colon n taken)) ∙ ap (λ xs. xs ++ reverse old) (reverse-reverse (behind_colon n taken))
+    ap reverse e ∙ reverse-append old (reverse (behind_sign n taken)) ∙ ap (λ xs. xs ++ reverse old) (reverse-reverse (behind_sign n taken))
 
 -- the nodes from a word on
-pub nodes_before : (t : Token) (arguments : ℕ) (role : Role) (taken : Option Token) (old new : List Node) (ts : List Token)
-    → is_word t.kind ≡ true → arguments ≡ arguments_behind ts → role ≡ role_before t.kind ts → taken ≡ colon_behind ts → reverse old ≡ written_nodes ts
-    → new ≡ old ++ reverse (behind_colon (record { token = t; arguments = arguments; role = role }) taken) → reverse new ≡ written_nodes (t ∷ ts)
-nodes_before t arguments role taken old new ts word a r c h pushed =
+pub nodes_before : (b : TokenKind) (t : Token) (arguments : ℕ) (role : Role) (taken : Option Token) (old new : List Node) (ts : List Token)
+    → is_word t.kind ≡ true → arguments ≡ arguments_behind ts → role ≡ role_before b t.kind ts → taken ≡ sign_behind ts → reverse old ≡ nodes_behind t.kind ts
+    → new ≡ old ++ reverse (behind_sign (record { token = t; arguments = arguments; role = role }) taken) → reverse new ≡ nodes_behind b (t ∷ ts)
+nodes_before b t arguments role taken old new ts word a r c h pushed =
     pushed_nodes (record { token = t; arguments = arguments; role = role }) taken old new pushed
-    ∙ ap (λ xs. behind_colon (record { token = t; arguments = arguments; role = role }) taken ++ xs) h
-    ∙ ap (λ n. behind_colon (record { token = t; arguments = n; role = role }) taken ++ written_nodes ts) a
-    ∙ ap (λ x. behind_colon (record { token = t; arguments = arguments_behind ts; role = x }) taken ++ written_nodes ts) r
-    ∙ ap (λ x. behind_colon (word_node t ts) x ++ written_nodes ts) c ∙ sym (written_nodes-word t ts word)
+    ∙ ap (λ xs. behind_sign (record { token = t; arguments = arguments; role = role }) taken ++ xs) h
+    ∙ ap (λ n. behind_sign (record { token = t; arguments = n; role = role }) taken ++ nodes_behind t.kind ts) a
+    ∙ ap (λ x. behind_sign (record { token = t; arguments = arguments_behind ts; role = x }) taken ++ nodes_behind t.kind ts) r
+    ∙ ap (λ x. behind_sign (word_node b t ts) x ++ nodes_behind t.kind ts) c ∙ sym (nodes_behind-word b t ts word)
 
-pub forest_before : (outer count depth new_count : ℕ) (t : Token) (n : Node) (colon taken new_colon : Option Token) (old new : List Node)
-    → is_word t.kind ≡ true → new_count ≡ trees_before t.kind count → taken ≡ taken_colon depth colon → new_colon ≡ colon_before t depth count colon
-    → new ≡ old ++ reverse (behind_colon n taken) → IsForestUpTo (outer + count + n.arguments + pending colon) (reverse old)
-    → IsForestUpTo (outer + new_count + 0 + pending new_colon) (reverse new)
-forest_before outer count depth new_count t n colon taken new_colon old new word e f g pushed h k le =
-    let counted : new_count ≡ suc count = e ∙ ap (λ b. if b then suc count else (if is_colon t.kind then count - 1 else count)) word in
-    ap (is_forest k) (pushed_nodes n taken old new pushed) ∙ ap (λ o. is_forest k (behind_colon n o ++ reverse old)) f
-    ∙ forest_word (outer + count) t depth count colon n (reverse old) word h k (omega (arith, le, counted, ap pending g))
+pub forest_before : (outer count depth new_count : ℕ) (t : Token) (n : Node) (sign taken new_sign : Option Token) (old new : List Node)
+    → is_word t.kind ≡ true → new_count ≡ trees_before t.kind count → taken ≡ taken_sign depth sign → new_sign ≡ sign_before t depth count sign
+    → new ≡ old ++ reverse (behind_sign n taken) → IsForestUpTo (outer + count + n.arguments + pending sign) (reverse old)
+    → IsForestUpTo (outer + new_count + 0 + pending new_sign) (reverse new)
+forest_before outer count depth new_count t n sign taken new_sign old new word e f g pushed h k le =
+    let counted : new_count ≡ suc count = e ∙ ap (λ b. if b then suc count else (if is_sign t.kind then count - 1 else count)) word in
+    ap (is_forest k) (pushed_nodes n taken old new pushed) ∙ ap (λ o. is_forest k (behind_sign n o ++ reverse old)) f
+    ∙ forest_word (outer + count) t depth count sign n (reverse old) word h k (omega (arith, le, counted, ap pending g))
 
-pub small_before : (outer count arguments depth new_count : ℕ) (t : Token) (n : Node) (colon taken new_colon : Option Token) (len new_len : ℕ)
-    → is_word t.kind ≡ true → new_count ≡ trees_before t.kind count → taken ≡ taken_colon depth colon → new_colon ≡ colon_before t depth count colon
-    → new_len ≡ len + length (behind_colon n taken) → outer + count + arguments + pending colon ≤ len
-    → outer + new_count + 0 + pending new_colon ≤ new_len
-small_before outer count arguments depth new_count t n colon taken new_colon len new_len word e f g pushed h =
-    let counted : new_count ≡ suc count = e ∙ ap (λ b. if b then suc count else (if is_colon t.kind then count - 1 else count)) word in
-    omega (arith, counted, ap pending g, pushed, ap (λ o. length (behind_colon n o)) f, small_word (outer + count) arguments t depth count colon n len word h)
+pub small_before : (outer count arguments depth new_count : ℕ) (t : Token) (n : Node) (sign taken new_sign : Option Token) (len new_len : ℕ)
+    → is_word t.kind ≡ true → new_count ≡ trees_before t.kind count → taken ≡ taken_sign depth sign → new_sign ≡ sign_before t depth count sign
+    → new_len ≡ len + length (behind_sign n taken) → outer + count + arguments + pending sign ≤ len
+    → outer + new_count + 0 + pending new_sign ≤ new_len
+small_before outer count arguments depth new_count t n sign taken new_sign len new_len word e f g pushed h =
+    let counted : new_count ≡ suc count = e ∙ ap (λ b. if b then suc count else (if is_sign t.kind then count - 1 else count)) word in
+    omega (arith, counted, ap pending g, pushed, ap (λ o. length (behind_sign n o)) f, small_word (outer + count) arguments t depth count sign n len word h)
 
 pub is_open_false : (k : TokenKind) → (k ≡ Open → ⊥) → is_open k ≡ false
 is_open_false Open h = absurd (h refl)
@@ -203,14 +240,14 @@ is_close_false Close h = absurd (h refl)
 is_close_false _ h = refl
 
 -- a token that may stand where it does, and those behind it
-pub continues-step : (many binding colon_allowed : Bool) (depth : ℕ) (before : TokenKind) (t : Token) (ts : List Token) (new_binding new_allowed : Bool) (new_depth : ℕ)
-    → may_stand many binding colon_allowed depth before t.kind ≡ true → new_binding ≡ binding_behind binding t.kind → new_allowed ≡ colon_allowed_behind colon_allowed depth t.kind → new_depth ≡ depth_behind depth t.kind
-    → continues many new_binding new_allowed new_depth t.kind ts ≡ continues many binding colon_allowed depth before (t ∷ ts)
-continues-step many binding colon_allowed depth before t ts new_binding new_allowed new_depth h e f g =
-    ap (λ b. continues many b new_allowed new_depth t.kind ts) e
-    ∙ ap (λ b. continues many (binding_behind binding t.kind) b new_depth t.kind ts) f
-    ∙ ap (λ d. continues many (binding_behind binding t.kind) (colon_allowed_behind colon_allowed depth t.kind) d t.kind ts) g
-    ∙ sym (ap (λ b. b && continues many (binding_behind binding t.kind) (colon_allowed_behind colon_allowed depth t.kind) (depth_behind depth t.kind) t.kind ts) h)
+pub continues-step : (w : Wanted) (binding : Bool) (s : Side) (depth : ℕ) (before : TokenKind) (t : Token) (ts : List Token) (new_binding : Bool) (new_side : Side) (new_depth : ℕ)
+    → may_stand (is_many w) binding s depth before t.kind ≡ true → new_binding ≡ binding_behind binding t.kind → new_side ≡ side_behind w s depth t.kind → new_depth ≡ depth_behind depth t.kind
+    → continues w new_binding new_side new_depth t.kind ts ≡ continues w binding s depth before (t ∷ ts)
+continues-step w binding s depth before t ts new_binding new_side new_depth h e f g =
+    ap (λ b. continues w b new_side new_depth t.kind ts) e
+    ∙ ap (λ x. continues w (binding_behind binding t.kind) x new_depth t.kind ts) f
+    ∙ ap (λ d. continues w (binding_behind binding t.kind) (side_behind w s depth t.kind) d t.kind ts) g
+    ∙ sym (ap (λ b. b && continues w (binding_behind binding t.kind) (side_behind w s depth t.kind) (depth_behind depth t.kind) t.kind ts) h)
 
 pub depth_behind-other : (depth : ℕ) (k : TokenKind) → (k ≡ Open → ⊥) → (k ≡ Close → ⊥) → depth_behind depth k ≡ depth
 depth_behind-other depth Open no_open no_close = absurd (no_open refl)

@@ -1,11 +1,11 @@
--- Predicates that say what outlives a region, and what is none.
+-- Predicates that say what outlives a region or what an alias normalizes to, and what is none.
 use Rattle.std.proofs.Common.{◌≡◌, ℕ, ◌+◌, true, false, List, [], ◌∷◌, ◌++◌, refl}
 use Rattle.nts_model.specs.declared.labels.UintTy.TheVariants.{U8}
 use Rattle.nts_text.specs.Predicates.{are_predicates, written_nodes}
 use Rattle.nts_text.specs.Resolution.{AreSorted}
 use Rattle.nts_text.specs.declared.lexer.Token.{Token}
 use Rattle.nts_text.specs.declared.lexer.TokenKind.{TokenKind}
-use Rattle.nts_text.specs.declared.lexer.TokenKind.TheVariants.{Name, RegionParam, Open, Close, Comma, Colon, Greater, For}
+use Rattle.nts_text.specs.declared.lexer.TokenKind.TheVariants.{Name, RegionParam, Open, Close, Comma, Equals, Colon, Greater, For}
 use Rattle.nts_text.specs.declared.names.NameTable.{NameTable}
 use Rattle.nts_text.specs.declared.predicates.Node.{Node}
 use Rattle.nts_text.specs.declared.predicates.Role.{Role}
@@ -70,6 +70,42 @@ nodes_of_region = refl
 -- `T(u8)` has a trait and no colon
 nodes_of_trait : written_nodes (token 0 Name ∷ token 1 Open ∷ token 2 Name ∷ token 4 Close ∷ []) ≡ node_of (token 0 Name) 1 roles.Trait ∷ node_of (token 2 Name) 0 roles.Argument ∷ []
 nodes_of_trait = refl
+
+-- `A = u8` and `A(u8) = T(u8)`
+abbrev of_alias : List Token
+of_alias = token 0 Name ∷ token 2 Equals ∷ token 4 Name ∷ []
+
+abbrev with_arguments : List Token
+with_arguments = token 0 Name ∷ token 1 Open ∷ token 2 Name ∷ token 4 Close ∷ token 6 Equals ∷ token 8 Name ∷ token 9 Open ∷ token 10 Name ∷ token 12 Close ∷ []
+
+alias_is_norm : are_predicates wanted.Norm of_alias ≡ true
+alias_is_norm = refl
+
+arguments_are_norm : are_predicates wanted.Norm with_arguments ≡ true
+arguments_are_norm = refl
+
+-- it is no predicate, and `A(u8)`, `A = 'a`, `'a = u8` and `A = u8 = u8` say no value of an alias
+norm_is_none : are_predicates wanted.Many of_alias ≡ false
+norm_is_none = refl
+
+trait_is_no_norm : are_predicates wanted.Norm (token 0 Name ∷ token 1 Open ∷ token 2 Name ∷ token 4 Close ∷ []) ≡ false
+trait_is_no_norm = refl
+
+region_is_no_value : are_predicates wanted.Norm (token 0 Name ∷ token 2 Equals ∷ token 4 RegionParam ∷ []) ≡ false
+region_is_no_value = refl
+
+region_is_no_alias : are_predicates wanted.Norm (token 0 RegionParam ∷ token 2 Equals ∷ token 4 Name ∷ []) ≡ false
+region_is_no_alias = refl
+
+value_is_no_chain : are_predicates wanted.Norm (of_alias ++ token 6 Equals ∷ token 8 Name ∷ []) ≡ false
+value_is_no_chain = refl
+
+-- the value is the alias's last argument
+nodes_of_alias : written_nodes of_alias ≡ node_of (token 0 Name) 1 roles.Normalizes ∷ node_of (token 4 Name) 0 roles.Argument ∷ []
+nodes_of_alias = refl
+
+nodes_with_arguments : written_nodes with_arguments ≡ node_of (token 0 Name) 2 roles.Normalizes ∷ node_of (token 2 Name) 0 roles.Argument ∷ node_of (token 8 Name) 1 roles.Argument ∷ node_of (token 10 Name) 0 roles.Argument ∷ []
+nodes_with_arguments = refl
 
 -- a type stands before a region, and no region in its place
 sorted : (names : NameTable) → AreSorted names [] (nodes.TypeOutlives ∷ nodes.Uint U8 ∷ nodes.Static ∷ [])

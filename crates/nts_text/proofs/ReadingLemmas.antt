@@ -8,7 +8,7 @@ use Rattle.nts_text.specs.Spelled.{KeepsNames}
 use Rattle.nts_text.specs.declared.names.Scope.{Scope}
 use Rattle.nts_text.specs.declared.predicates.Node.{Node}
 use Rattle.nts_text.specs.declared.predicates.Role.TheVariants.{Argument}
-use Rattle.nts_text.specs.declared.refusals.Refusal.TheVariants.{ParameterInAClause, VariableInAnEnvironment, UnknownName, NameDeclaredTwice, WrongArguments}
+use Rattle.nts_text.specs.declared.refusals.Refusal.TheVariants.{AliasIsRigid, ParameterInAClause, VariableInAnEnvironment, UnknownName, NameDeclaredTwice, WrongArguments}
 use Rattle.nts_text.specs.declared.refusals.TextError.{TextError}
 use Rattle.nts_text.specs.declared.refusals.TextError.TheVariants.{Memory, Refused}
 use Rattle.nts_text.specs.declared.resolver.Resolved.{Resolved}
@@ -32,6 +32,7 @@ AnswersNode reading b node wanted U old new r = record {
   free : reading.site ≡ Environment → IfOk r IsNoVariable;
   unknown : r ≡ Err (Refused UnknownName) → U;
   twice : r ≡ Err (Refused NameDeclaredTwice) → ⊥;
+  rigid : r ≡ Err (Refused AliasIsRigid) → ⊥;
 }
 
 -- a node that is taken
@@ -50,6 +51,7 @@ taken reading b node wanted U old new x sort role declared means kept free = rec
   free = free;
   unknown = λ is. cc;
   twice = λ is. cc;
+  rigid = λ is. cc;
 }
 
 -- memory ran out
@@ -68,6 +70,7 @@ no_memory reading b node wanted U old new (Err e) h kept = record {
   free = λ is. tt;
   unknown = λ is. cc;
   twice = λ is. cc;
+  rigid = λ is. cc;
 }
 
 -- a parameter where none may stand
@@ -86,6 +89,7 @@ no_parameter reading b node wanted U scope (Err x) e h k kept = record {
   free = λ is. tt;
   unknown = λ is. cc;
   twice = λ is. cc;
+  rigid = λ is. cc;
 }
 
 -- a variable where none may stand
@@ -104,6 +108,7 @@ no_variable reading b node wanted U scope (Err x) e h k kept = record {
   free = λ is. tt;
   unknown = λ is. cc;
   twice = λ is. cc;
+  rigid = λ is. cc;
 }
 
 -- what is no argument is no variable, and a name is none
@@ -135,6 +140,7 @@ wrong_node reading b node wanted U scope (Err e) h kept =
       free = λ is. tt;
       unknown = λ is. cc;
       twice = λ is. cc;
+      rigid = λ is. cc;
     }
 
 -- a name that may be unknown, and stands for no region
@@ -154,12 +160,13 @@ no_region reading b node wanted U scope (Err (Refused UnknownName)) none wrong u
   free = λ is. tt;
   unknown = unknown;
   twice = λ is. cc;
+  rigid = λ is. cc;
 }
 no_region reading b node wanted U scope (Err e) none wrong unknown kept =
     wrong_node reading b node wanted U scope (Err e) (ap Err (wrong (λ is. cc))) kept
 
 -- The clauses of `predicate` and `named_type`, where a name is unknown, or stands for something else
-pub unknown_name : (S R D : Resolved → Type 0) (M : Scope → BoundNames → Resolved → Type 0) (U : Type 0) (r : Result Resolved TextError) (e : TextError) → IsErrAnd r (λ x. x ≡ e) → (e ≡ Refused UnknownName) × U
+pub unknown_name : (S R D : Resolved → Type 0) (M : Scope → BoundNames → Resolved → Type 0) (U G : Type 0) (r : Result Resolved TextError) (e : TextError) → IsErrAnd r (λ x. x ≡ e) → (e ≡ Refused UnknownName) × U
     → record {
       sort : IfOk r S;
       role : IfOk r R;
@@ -170,9 +177,10 @@ pub unknown_name : (S R D : Resolved → Type 0) (M : Scope → BoundNames → R
       variable : r ≢ Err (Refused VariableInAnEnvironment);
       unknown : r ≡ Err (Refused UnknownName) → U;
       declares : r ≢ Err (Refused NameDeclaredTwice);
+      rigid : r ≡ Err (Refused AliasIsRigid) → G;
     }
-unknown_name S R D M U (Ok x) e h k = absurd h
-unknown_name S R D M U (Err x) e h k = record {
+unknown_name S R D M U G (Ok x) e h k = absurd h
+unknown_name S R D M U G (Err x) e h k = record {
   sort = tt;
   role = tt;
   declared = tt;
@@ -182,9 +190,10 @@ unknown_name S R D M U (Err x) e h k = record {
   variable = λ is. cc;
   unknown = λ is. k.1;
   declares = λ is. cc;
+  rigid = λ is. cc;
 }
 
-pub wrong_name : (S R D : Resolved → Type 0) (M : Scope → BoundNames → Resolved → Type 0) (U : Type 0) (r : Result Resolved TextError) → r ≡ Err (Refused WrongArguments)
+pub wrong_name : (S R D : Resolved → Type 0) (M : Scope → BoundNames → Resolved → Type 0) (U G : Type 0) (r : Result Resolved TextError) → r ≡ Err (Refused WrongArguments)
     → record {
       sort : IfOk r S;
       role : IfOk r R;
@@ -195,9 +204,10 @@ pub wrong_name : (S R D : Resolved → Type 0) (M : Scope → BoundNames → Res
       variable : r ≢ Err (Refused VariableInAnEnvironment);
       unknown : r ≡ Err (Refused UnknownName) → U;
       declares : r ≢ Err (Refused NameDeclaredTwice);
+      rigid : r ≡ Err (Refused AliasIsRigid) → G;
     }
-wrong_name S R D M U (Ok x) h = cc
-wrong_name S R D M U (Err e) h =
+wrong_name S R D M U G (Ok x) h = cc
+wrong_name S R D M U G (Err e) h =
     let same : e ≡ Refused WrongArguments = cc in
     record {
       sort = tt;
@@ -209,6 +219,7 @@ wrong_name S R D M U (Err e) h =
       variable = λ is. cc;
       unknown = λ is. cc;
       declares = λ is. cc;
+      rigid = λ is. cc;
     }
 
 pub IfOk-map : {A E : Type 0} {P Q : A → Type 0} (r : Result A E) → ((x : A) → P x → Q x) → IfOk r P → IfOk r Q

@@ -1,5 +1,6 @@
 -- How sorted nodes grow by one.
-use Rattle.std.proofs.Common.{◌≡◌, ℕ, ◌==◌, true, length, List, [], ◌∷◌, ◌++◌, Option, None, Some, slice_get, drop, reverse, option_to_list, refl, sym, ap, subst, ◌∙◌, append_assoc}
+use Rattle.std.proofs.Common.{Result, Ok, Err, ◌≡◌, ℕ, ◌==◌, true, length, List, [], ◌∷◌, ◌++◌, Option, None, Some, slice_get, drop, reverse, option_to_list, refl, sym, ap, subst, ◌∙◌, append_assoc}
+use Rattle.std.specs.Prelude.{OnOk}
 use Rattle.std.proofs.lemmas.Bool.{eqb-true}
 use Rattle.std.proofs.lemmas.List.{nil_from_length, reverse-append, reverse-reverse}
 use Rattle.nts_model.specs.declared.labels.Sort.{Sort}
@@ -32,3 +33,10 @@ sorts_left new rest arguments tail e h =
 -- nothing is wanted where the stack is empty
 pub none_left : (xs : List Sort) (n : ℕ) → n ≡ length xs → (n == 0) ≡ true → xs ≡ []
 none_left xs n h e = nil_from_length xs (sym h ∙ eqb-true n 0 e)
+
+-- what is wanted behind a node with one argument more than these sorts
+pub wanted_with : {T E : Type 0} (r : Result T E) (old between new sorts : List Sort) (s : Sort) → between ≡ old ++ s ∷ [] → OnOk r (new ≡ between ++ reverse sorts)
+    → OnOk r (new ≡ old ++ reverse (sorts ++ s ∷ []))
+wanted_with (Err x) old between new sorts s e h = tt
+wanted_with (Ok x) old between new sorts s e h =
+    h ∙ ap (λ xs. xs ++ reverse sorts) e ∙ append_assoc old (s ∷ []) (reverse sorts) ∙ sym (ap (λ xs. old ++ xs) (reverse-append sorts (s ∷ [])))

@@ -4,7 +4,7 @@ use Rattle.nts_text.specs.Declarations.{bytes_of}
 use Rattle.nts_text.specs.declared.names.Bounds.{Bounds}
 use Rattle.nts_text.specs.declared.predicates.Node.{Node}
 use Rattle.nts_text.specs.declared.predicates.Role.{Role}
-use Rattle.nts_text.specs.declared.predicates.Role.TheVariants.{Bound, Trait, TypeOutlives, RegionOutlives, Argument}
+use Rattle.nts_text.specs.declared.predicates.Role.TheVariants.{Bound, Trait, TypeOutlives, RegionOutlives, Normalizes, Argument}
 
 -- the names that the binder of a predicate binds, and those of the next one's as far as it is read:
 -- each has its place in its binder's list as its number
@@ -24,12 +24,13 @@ abbrev pub predicate_begun : BoundNames → BoundNames
 predicate_begun b = record { here = b.next; next = [] }
 
 -- what is bound behind a node: a name of a binder is bound in the next predicate, which begins with
--- its trait or its colon
+-- its trait, its colon or its alias
 abbrev pub bound_by : BoundNames → List ℕ → Role → BoundNames
 bound_by b name Bound = with_bound b name
 bound_by b name Trait = predicate_begun b
 bound_by b name TypeOutlives = predicate_begun b
 bound_by b name RegionOutlives = predicate_begun b
+bound_by b name Normalizes = predicate_begun b
 bound_by b name Argument = b
 
 abbrev pub bound_behind : List ℕ → BoundNames → Node → BoundNames

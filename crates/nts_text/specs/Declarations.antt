@@ -1,4 +1,4 @@
--- How the parameters of a declared type or trait are written.
+-- How the parameters of a declared type, trait or alias are written.
 use Rattle.std.specs.Prelude.{◌≡◌, ℕ, true, false, Bool, List, [], ◌∷◌, ◌++◌, ◌⊎◌, map, slice_range, codes}
 use Rattle.nts_model.specs.declared.labels.Sort.{Sort}
 use Rattle.nts_model.specs.declared.labels.Sort.TheVariants as sorts
@@ -57,14 +57,23 @@ unmarked s = record { sort = s; variance = variances.Covariant }
 abbrev pub IsTypeBody : List ℕ → List Token → List Param → Type 0
 IsTypeBody line ts params = ((ts ≡ []) × (params ≡ [])) ⊎ AreParams line ts params
 
--- the last token is the word `coinductive`, behind these
-abbrev pub EndsInCoinductive : List ℕ → List Token → List Token → Type 0
-EndsInCoinductive line ts before =
-    (word : Token) × (ts ≡ before ++ word ∷ []) × (sign_of line word ≡ (Name, codes "coinductive"))
+-- the last token is this word, behind these
+abbrev pub EndsIn : List ℕ → List ℕ → List Token → List Token → Type 0
+EndsIn w line ts before = (word : Token) × (ts ≡ before ++ word ∷ []) × (sign_of line word ≡ (Name, w))
 
 -- the tokens behind the name of a trait: its sorts, with no marks, and `coinductive` behind them
 -- where it is so
 abbrev pub IsTraitBody : List ℕ → List Token → List Sort → Bool → Type 0
 IsTraitBody line ts given false = AreParams line ts (map unmarked given)
 IsTraitBody line ts given true =
-    (before : List Token) × EndsInCoinductive line ts before × AreParams line before (map unmarked given)
+    (before : List Token) × EndsIn (codes "coinductive") line ts before × AreParams line before (map unmarked given)
+
+-- nothing, or sorts with no marks
+abbrev pub AreSortsIfAny : List ℕ → List Token → List Sort → Type 0
+AreSortsIfAny line ts given = ((ts ≡ []) × (given ≡ [])) ⊎ AreParams line ts (map unmarked given)
+
+-- the tokens behind the name of an alias: nothing, or its sorts, and `rigid` behind them where it is so
+abbrev pub IsAliasBody : List ℕ → List Token → List Sort → Bool → Type 0
+IsAliasBody line ts given false = AreSortsIfAny line ts given
+IsAliasBody line ts given true =
+    (before : List Token) × EndsIn (codes "rigid") line ts before × AreSortsIfAny line before given

@@ -1,7 +1,7 @@
 -- What the words of a line are.
 use Rattle.std.specs.Prelude.{◌≡◌, ◌≢◌, ℕ, ◌<◌, true, false, List, [], ◌∷◌, ◌++◌, length, slice_index, codes, ◌⊎◌, All}
 pub use Rattle.nts_text.specs.Declarations.{bytes_of}
-use Rattle.nts_text.specs.Declarations.{IsTypeBody, IsTraitBody}
+use Rattle.nts_text.specs.Declarations.{IsTypeBody, IsTraitBody, IsAliasBody}
 use Rattle.nts_text.specs.Bytes.{is_blank, AllFrom, IsRun, decimal_value}
 use Rattle.nts_text.specs.Tokens.{IsInside, IsTokenAt, token_begins}
 use Rattle.nts_text.specs.Predicates.{are_predicates, written_nodes}
@@ -14,6 +14,7 @@ use Rattle.nts_text.specs.declared.parser.Line.TheVariants as lines
 use Rattle.nts_text.specs.declared.parser.Mode.{Mode}
 use Rattle.nts_text.specs.declared.parser.Mode.TheVariants as modes
 use Rattle.nts_text.specs.declared.predicates.Node.{Node}
+use Rattle.nts_text.specs.declared.predicates.Wanted.{Wanted}
 use Rattle.nts_text.specs.declared.predicates.Wanted.TheVariants as wanted
 
 abbrev pub word_of_keyword : Keyword → List ℕ
@@ -21,7 +22,9 @@ word_of_keyword keywords.Mode = codes "mode"
 word_of_keyword keywords.Depth = codes "depth"
 word_of_keyword keywords.Type = codes "type"
 word_of_keyword keywords.Trait = codes "trait"
+word_of_keyword keywords.Alias = codes "alias"
 word_of_keyword keywords.Impl = codes "impl"
+word_of_keyword keywords.Norm = codes "norm"
 word_of_keyword keywords.Goal = codes "goal"
 word_of_keyword keywords.Env = codes "env"
 
@@ -46,12 +49,12 @@ HasNoKeyword line =
     × ((token_begins line start ≡ false)
     ⊎ ((t : Token) × IsTokenAt line start t × ((k : Keyword) → bytes_of line t ≢ word_of_keyword k)))
 
--- the tokens are a predicate without a binder, and behind `<-`, if that is there, predicates
-abbrev pub IsClause : List Token → List Node → List Node → Type 0
-IsClause ts head body =
-    ((are_predicates wanted.Base ts ≡ true) × (head ≡ written_nodes ts) × (body ≡ []))
+-- the tokens are one predicate, such as is wanted, and behind `<-`, if that is there, predicates
+abbrev pub IsClause : Wanted → List Token → List Node → List Node → Type 0
+IsClause w ts head body =
+    ((are_predicates w ts ≡ true) × (head ≡ written_nodes ts) × (body ≡ []))
     ⊎ ((before after : List Token) × (t : Token) × (ts ≡ before ++ t ∷ after) × (t.kind ≡ Arrow)
-    × (are_predicates wanted.Base before ≡ true) × (head ≡ written_nodes before)
+    × (are_predicates w before ≡ true) × (head ≡ written_nodes before)
     × (are_predicates wanted.Many after ≡ true) × (body ≡ written_nodes after))
 
 -- there are no tokens, or they are predicates
@@ -68,7 +71,10 @@ Says line ts keywords.Type (lines.Type name params) =
     (rest : List Token) × (ts ≡ name ∷ rest) × (name.kind ≡ Name) × IsTypeBody line rest params.items
 Says line ts keywords.Trait (lines.Trait name sorts coinductive) =
     (rest : List Token) × (ts ≡ name ∷ rest) × (name.kind ≡ Name) × IsTraitBody line rest sorts.items coinductive
-Says line ts keywords.Impl (lines.Impl head body) = IsClause ts head.items body.items
+Says line ts keywords.Alias (lines.Alias name sorts rigid) =
+    (rest : List Token) × (ts ≡ name ∷ rest) × (name.kind ≡ Name) × IsAliasBody line rest sorts.items rigid
+Says line ts keywords.Impl (lines.Impl head body) = IsClause wanted.Base ts head.items body.items
+Says line ts keywords.Norm (lines.Norm head body) = IsClause wanted.Norm ts head.items body.items
 Says line ts keywords.Goal (lines.Goal ns) = (are_predicates wanted.One ts ≡ true) × (ns.items ≡ written_nodes ts)
 Says line ts keywords.Env (lines.Env ns) = IsEnvironment ts ns.items
 Says line ts _ _ = ⊥
@@ -85,6 +91,9 @@ SaysTooMuch line ts = (t : Token) × (ts ≡ t ∷ []) × (t.kind ≡ Number) ×
 abbrev pub NamesAreInside : List ℕ → Line → Type 0
 NamesAreInside line (lines.Type name params) = IsInside line name
 NamesAreInside line (lines.Trait name sorts coinductive) = IsInside line name
+NamesAreInside line (lines.Alias name sorts rigid) = IsInside line name
+NamesAreInside line (lines.Norm head body) =
+    All (λ n. IsInside line n.token) head.items × All (λ n. IsInside line n.token) body.items
 NamesAreInside line (lines.Impl head body) =
     All (λ n. IsInside line n.token) head.items × All (λ n. IsInside line n.token) body.items
 NamesAreInside line (lines.Goal ns) = All (λ n. IsInside line n.token) ns.items

@@ -1,5 +1,5 @@
 -- Which names are taken.
-use Rattle.std.specs.Prelude.{◌≡◌, ◌≢◌, ℕ, List, [], ◌∷◌, ◌++◌, map, vec_len, Option, Some, IsSome, nat_eq, ◌⊎◌}
+use Rattle.std.specs.Prelude.{◌≡◌, ◌≢◌, ℕ, Bool, List, [], ◌∷◌, ◌++◌, map, vec_len, Option, Some, IsSome, nat_eq, ◌⊎◌}
 use Rattle.std.specs.Cmp.Lexicographic.{pointwise}
 use Rattle.indexmap.specs.IndexMap.{get_by}
 use Rattle.nts_model.specs.declared.labels.Sort.{Sort}
@@ -25,7 +25,7 @@ NameStandsFor names name d = IsNameOf d name ⊎ (declared_as names name ≡ Som
 abbrev pub KeepsOthers : NameTable → NameTable → List ℕ → Type 0
 KeepsOthers old new name = (other : List ℕ) → other ≢ name → declared_as new other ≡ declared_as old other
 
--- the spellings of types or traits, and the sorts of their arguments
+-- the spellings of types, traits or aliases, and the sorts of their arguments
 abbrev pub signatures : List Signature → List (List ℕ × List Sort)
 signatures ss = map (λ s. (s.name.items, s.sorts.items)) ss
 
@@ -37,6 +37,7 @@ pub record AddsType (old new : NameTable) (name : List ℕ) (sorts : List Sort) 
   pub others : KeepsOthers old new name
   pub listed : signatures new.types.items ≡ signatures old.types.items ++ (name, sorts) ∷ []
   pub traits : new.traits ≡ old.traits
+  pub aliases : new.aliases ≡ old.aliases
 
 -- the same for a trait
 pub record AddsTrait (old new : NameTable) (name : List ℕ) (sorts : List Sort) : Type 0 where
@@ -45,3 +46,13 @@ pub record AddsTrait (old new : NameTable) (name : List ℕ) (sorts : List Sort)
   pub others : KeepsOthers old new name
   pub listed : signatures new.traits.items ≡ signatures old.traits.items ++ (name, sorts) ∷ []
   pub types : new.types ≡ old.types
+  pub aliases : new.aliases ≡ old.aliases
+
+-- .. and for an alias, which is rigid or not
+pub record AddsAlias (old new : NameTable) (name : List ℕ) (sorts : List Sort) (rigid : Bool) : Type 0 where
+  pub free : IsNameTaken old name → ⊥
+  pub named : declared_as new name ≡ Some (declared.Alias (vec_len old.aliases) rigid)
+  pub others : KeepsOthers old new name
+  pub listed : signatures new.aliases.items ≡ signatures old.aliases.items ++ (name, sorts) ∷ []
+  pub types : new.types ≡ old.types
+  pub traits : new.traits ≡ old.traits

@@ -7,12 +7,13 @@ use Rattle.nts_model.specs.declared.labels.UintTy.TheVariants as uints
 use Rattle.nts_text.specs.declared.names.Declared.{Declared}
 use Rattle.nts_text.specs.declared.names.Declared.TheVariants as declared
 
--- the number is one of so many types or traits
-abbrev pub is_numbered : ℕ → ℕ → Declared → Bool
-is_numbered types traits (declared.Int t) = true
-is_numbered types traits (declared.Uint t) = true
-is_numbered types traits (declared.Type n) = nat_lt n types
-is_numbered types traits (declared.Trait n) = nat_lt n traits
+-- the number is one of so many types, traits or aliases
+abbrev pub is_numbered : ℕ → ℕ → ℕ → Declared → Bool
+is_numbered types traits aliases (declared.Int t) = true
+is_numbered types traits aliases (declared.Uint t) = true
+is_numbered types traits aliases (declared.Type n) = nat_lt n types
+is_numbered types traits aliases (declared.Trait n) = nat_lt n traits
+is_numbered types traits aliases (declared.Alias n rigid) = nat_lt n aliases
 
 abbrev pub word_of_int : IntTy → List ℕ
 word_of_int ints.I8 = codes "i8"

@@ -1,5 +1,5 @@
 -- Nodes whose names have become numbers.
-use Rattle.std.specs.Prelude.{◌≡◌, ℕ, ◌<◌, Bool, true, false, List, [], ◌∷◌, ◌++◌, length, vec_len, Option, None, Some, slice_get, drop}
+use Rattle.std.specs.Prelude.{◌≡◌, ℕ, suc, ◌<◌, Bool, true, false, List, [], ◌∷◌, ◌++◌, length, vec_len, Option, None, Some, slice_get, drop}
 use Rattle.std.specs.Option.{option_map_or}
 use Rattle.nts_model.specs.declared.labels.Sort.{Sort}
 use Rattle.nts_model.specs.declared.labels.Sort.TheVariants.{Ty, Region, Const}
@@ -26,10 +26,16 @@ type_sorts names n = option_map_or (λ s. s.sorts.items) (slice_get names.types.
 abbrev pub trait_sorts : NameTable → ℕ → List Sort
 trait_sorts names n = option_map_or (λ s. s.sorts.items) (slice_get names.traits.items n) []
 
--- the sorts of a node's arguments
+-- the sorts of an alias's arguments
+abbrev pub alias_sorts : NameTable → ℕ → List Sort
+alias_sorts names n = option_map_or (λ s. s.sorts.items) (slice_get names.aliases.items n) []
+
+-- the sorts of a node's arguments; an alias that normalizes has its value behind its own
 abbrev pub argument_sorts : NameTable → Resolved → List Sort
 argument_sorts names (nodes.Trait n arguments) = trait_sorts names n
 argument_sorts names (nodes.Ctor n arguments) = type_sorts names n
+argument_sorts names (nodes.Alias n arguments) = alias_sorts names n
+argument_sorts names (nodes.Normalizes n arguments) = alias_sorts names n ++ Ty ∷ []
 argument_sorts names nodes.TypeOutlives = Ty ∷ Region ∷ []
 argument_sorts names nodes.RegionOutlives = Region ∷ Region ∷ []
 argument_sorts names _ = []
@@ -49,16 +55,19 @@ sort_of (nodes.Binds s) = None
 sort_of (nodes.Trait n arguments) = None
 sort_of nodes.TypeOutlives = None
 sort_of nodes.RegionOutlives = None
+sort_of (nodes.Normalizes n arguments) = None
 sort_of (nodes.BoundRegion n) = Some Region
 sort_of (nodes.RegionVariable n) = Some Region
 sort_of (nodes.RegionParam n) = Some Region
 sort_of nodes.Static = Some Region
 sort_of _ = Some Ty
 
--- a trait or a type is declared, and the node says how many arguments it takes
+-- a trait, a type or an alias is declared, and the node says how many arguments it takes
 abbrev pub IsDeclared : NameTable → Resolved → Type 0
 IsDeclared names (nodes.Trait n arguments) = (n < vec_len names.traits) × (arguments ≡ length (trait_sorts names n))
 IsDeclared names (nodes.Ctor n arguments) = (n < vec_len names.types) × (arguments ≡ length (type_sorts names n))
+IsDeclared names (nodes.Alias n arguments) = (n < vec_len names.aliases) × (arguments ≡ length (alias_sorts names n))
+IsDeclared names (nodes.Normalizes n arguments) = (n < vec_len names.aliases) × (arguments ≡ length (alias_sorts names n))
 IsDeclared names _ = Unit {0}
 
 -- what a node with this meaning is in its predicate
@@ -67,6 +76,7 @@ role_of (nodes.Binds s) = roles.Bound
 role_of (nodes.Trait n arguments) = roles.Trait
 role_of nodes.TypeOutlives = roles.TypeOutlives
 role_of nodes.RegionOutlives = roles.RegionOutlives
+role_of (nodes.Normalizes n arguments) = roles.Normalizes
 role_of _ = roles.Argument
 
 -- The nodes are of the sorts that are wanted, and each is followed by arguments of the sorts that
@@ -86,7 +96,7 @@ IsBoundAs Ty k = k ≡ Name
 IsBoundAs Region k = k ≡ RegionParam
 IsBoundAs Const k = ⊥
 
--- the node's word means this trait, type, variable, parameter or region, or this one of the names that
+-- the node's word means this trait, type, alias, variable, parameter or region, or this one of the names that
 -- the predicate's binder binds; or it is a name for a binder to bind, which is free and not yet in its list;
 -- or the node is a colon, and what its role is says what outlives the region
 abbrev pub IsMeaningOf : NameTable → Scope → List ℕ → BoundNames → Node → Resolved → Type 0
@@ -102,6 +112,10 @@ IsMeaningOf names scope line b n nodes.TypeOutlives = n.role ≡ roles.TypeOutli
 IsMeaningOf names scope line b n nodes.RegionOutlives = n.role ≡ roles.RegionOutlives
 IsMeaningOf names scope line b n (nodes.Ctor i arguments) =
     NameStandsFor names (bytes_of line n.token) (declared.Type i) × (arguments ≡ n.arguments)
+IsMeaningOf names scope line b n (nodes.Alias i arguments) =
+    ((rigid : Bool) × NameStandsFor names (bytes_of line n.token) (declared.Alias i rigid)) × (arguments ≡ n.arguments)
+IsMeaningOf names scope line b n (nodes.Normalizes i arguments) =
+    NameStandsFor names (bytes_of line n.token) (declared.Alias i false) × (suc arguments ≡ n.arguments)
 IsMeaningOf names scope line b n (nodes.Int t) = NameStandsFor names (bytes_of line n.token) (declared.Int t)
 IsMeaningOf names scope line b n (nodes.Uint t) = NameStandsFor names (bytes_of line n.token) (declared.Uint t)
 IsMeaningOf names scope line b n (nodes.TypeVariable i) =

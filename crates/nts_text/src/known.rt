@@ -6,10 +6,11 @@ ghost use Rattle.nts_text.specs.Binders.{BoundNames};
 ghost use Rattle.nts_text.specs.Names.{is_numbered};
 ghost use Rattle.nts_text.specs.Reasons.{is_name_reason};
 ghost use Rattle.nts_text.specs.Tokens.{IsInside};
+ghost use Rattle.nts_text.specs.Faults.{IsRigidAlias};
 ghost use Rattle.nts_text.specs.Resolution.{sort_of, role_of, IsDeclared, IsMeaningOf};
 ghost use Rattle.nts_text.specs.declared.names.Scope.{Scope};
 ghost use Rattle.nts_text.specs.declared.refusals.TextError.TheVariants.{Refused};
-ghost use Rattle.nts_text.specs.declared.refusals.Refusal.TheVariants.{NameDeclaredTwice, ParameterInAClause, UnknownName, VariableInAnEnvironment, WrongArguments};
+ghost use Rattle.nts_text.specs.declared.refusals.Refusal.TheVariants.{AliasIsRigid, NameDeclaredTwice, ParameterInAClause, UnknownName, VariableInAnEnvironment, WrongArguments};
 
 use crate::names::{Declared, NameTable, Scope};
 use crate::parser::text;
@@ -30,7 +31,7 @@ pub fn declared(names: &NameTable, line: &[u8], node: Node) -> Result<Declared, 
     ensures unknown { IfErr result (λ e. (e ≡ Refused UnknownName) ×
         (IsNameTaken names.now (bytes_of line.now node.token) → ⊥)) }
     ensures numbered { IfOk result (λ d. is_numbered (vec_len names.now.types)
-        (vec_len names.now.traits) d ≡ true) }
+        (vec_len names.now.traits) (vec_len names.now.aliases) d ≡ true) }
     ensures found { IfOk result (NameStandsFor names.now (bytes_of line.now node.token)) }
 {
     match names.lookup(text(line, node.token)) {
@@ -53,6 +54,7 @@ pub fn predicate(names: &NameTable, line: &[u8], node: Node) -> Result<Resolved,
     ensures unknown { result ≡ Err (Refused UnknownName) →
         IsNameTaken names.now (bytes_of line.now node.token) → ⊥ }
     ensures declares { result ≢ Err (Refused NameDeclaredTwice) }
+    ensures rigid { result ≢ Err (Refused AliasIsRigid) }
 {
     let Declared::Trait(number) = declared(names, line, node)? else {
         return refused(Refusal::WrongArguments);
@@ -64,6 +66,36 @@ pub fn predicate(names: &NameTable, line: &[u8], node: Node) -> Result<Resolved,
         number,
         arguments: node.arguments,
     })
+}
+
+/// An alias on the left of an `=`. One that is rigid has no other value than itself.
+pub fn normalized(names: &NameTable, line: &[u8], node: Node) -> Result<Resolved, TextError>
+    requires inside { IsInside line.now node.token }
+    requires role { node.role ≡ Role.Normalizes }
+    ensures sort { IfOk result (λ r. sort_of r ≡ None) }
+    ensures role { IfOk result (λ r. role_of r ≡ Role.Normalizes) }
+    ensures declared { IfOk result (IsDeclared names.now) }
+    ensures means { (scope : Scope) (b : BoundNames) →
+        IfOk result (IsMeaningOf names.now scope line.now b node) }
+    ensures reasons { IfErr result (λ e. is_name_reason e ≡ true) }
+    ensures reason { result ≢ Err (Refused ParameterInAClause) }
+    ensures variable { result ≢ Err (Refused VariableInAnEnvironment) }
+    ensures unknown { result ≡ Err (Refused UnknownName) →
+        IsNameTaken names.now (bytes_of line.now node.token) → ⊥ }
+    ensures declares { result ≢ Err (Refused NameDeclaredTwice) }
+    ensures rigid { result ≡ Err (Refused AliasIsRigid) → IsRigidAlias names.now line.now node }
+{
+    let Declared::Alias { number, is_rigid } = declared(names, line, node)? else {
+        return refused(Refusal::WrongArguments);
+    };
+    let arguments = names.aliases[number].sorts.len();
+    if node.arguments == 0 || node.arguments - 1 != arguments {
+        return refused(Refusal::WrongArguments);
+    }
+    if is_rigid {
+        return refused(Refusal::AliasIsRigid);
+    }
+    Ok(Resolved::Normalizes { number, arguments })
 }
 
 /// A known or declared name that stands in a type's place.
@@ -80,6 +112,7 @@ pub fn named_type(names: &NameTable, line: &[u8], node: Node) -> Result<Resolved
     ensures unknown { result ≡ Err (Refused UnknownName) →
         IsNameTaken names.now (bytes_of line.now node.token) → ⊥ }
     ensures declares { result ≢ Err (Refused NameDeclaredTwice) }
+    ensures rigid { result ≢ Err (Refused AliasIsRigid) }
 {
     let (found, wanted) = match declared(names, line, node)? {
         Declared::Int(int) => (Resolved::Int(int), 0),
@@ -90,6 +123,13 @@ pub fn named_type(names: &NameTable, line: &[u8], node: Node) -> Result<Resolved
                 arguments: node.arguments,
             },
             names.types[number].sorts.len(),
+        ),
+        Declared::Alias { number, .. } => (
+            Resolved::Alias {
+                number,
+                arguments: node.arguments,
+            },
+            names.aliases[number].sorts.len(),
         ),
         Declared::Trait(_) => return refused(Refusal::WrongArguments),
     };

@@ -16,16 +16,17 @@ use nts_model::{IntTy, Sort, UintTy};
 use std::alloc::{AllocError, Global};
 use std::mem;
 
-/// What a name stands for. Types and traits have numbers of their own, from 0 on.
+/// What a name stands for. Types, traits and aliases have numbers of their own, from 0 on.
 #[derive(Clone, Copy, PartialEq, Eq)]
 pub enum Declared {
     Int(IntTy),
     Uint(UintTy),
     Type(usize),
     Trait(usize),
+    Alias { number: usize, is_rigid: bool },
 }
 
-/// A declared type or trait: its name and the sorts of its arguments.
+/// A declared type, trait or alias: its name and the sorts of its arguments.
 #[derive(Drop)]
 pub struct Signature {
     pub name: Vec<u8>,
@@ -38,7 +39,8 @@ pub struct NameTable {
     pub numbers: IndexMap<Vec<u8>, Declared>,
     pub types: Vec<Signature>,
     pub traits: Vec<Signature>,
-    ghost numbered: { list_all (is_numbered (vec_len types) (vec_len traits)) (values numbers) ≡ true },
+    pub aliases: Vec<Signature>,
+    ghost numbered: { list_all (is_numbered (vec_len types) (vec_len traits) (vec_len aliases)) (values numbers) ≡ true },
 }
 
 /// The integer type of this name.
@@ -71,11 +73,13 @@ impl NameTable {
         ensures empty { (name : List ℕ) → declared_as result name ≡ None }
         ensures types { result.types.items ≡ [] }
         ensures traits { result.traits.items ≡ [] }
+        ensures aliases { result.aliases.items ≡ [] }
     {
         NameTable {
             numbers: IndexMap::new(alloc),
             types: Vec::new(alloc),
             traits: Vec::new(alloc),
+            aliases: Vec::new(alloc),
         }
     }
 
@@ -84,7 +88,7 @@ impl NameTable {
         ensures found { IfSome result (NameStandsFor self.now name.now) }
         ensures unknown { IsNone result → IsNameTaken self.now name.now → ⊥ }
         ensures numbered { IfSome result (λ d. is_numbered (vec_len self.now.types)
-            (vec_len self.now.traits) d ≡ true) }
+            (vec_len self.now.traits) (vec_len self.now.aliases) d ≡ true) }
     {
         match known_type(name) {
             Some(known) => Some(known),
@@ -110,6 +114,7 @@ impl NameTable {
         ensures listed { OnOk result (signatures self.new.types.items ≡ signatures
             self.old.types.items ++ (name.now, sorts.items) ∷ []) }
         ensures traits { self.new.traits ≡ self.old.traits }
+        ensures aliases { self.new.aliases ≡ self.old.aliases }
     {
         if self.lookup(name).is_some() {
             return Err(TextError::Refused(Refusal::NameDeclaredTwice));
@@ -140,6 +145,7 @@ impl NameTable {
         ensures listed { OnOk result (signatures self.new.traits.items ≡ signatures
             self.old.traits.items ++ (name.now, sorts.items) ∷ []) }
         ensures types { self.new.types ≡ self.old.types }
+        ensures aliases { self.new.aliases ≡ self.old.aliases }
     {
         if self.lookup(name).is_some() {
             return Err(TextError::Refused(Refusal::NameDeclaredTwice));
@@ -149,6 +155,40 @@ impl NameTable {
         let name = Vec::from_slice(alloc, name)?;
         self.traits.push(Signature { name, sorts })?;
         self.numbers.insert(key, Declared::Trait(number))?;
+        Ok(number)
+    }
+
+    /// Declares an alias of types, rigid or not, and answers its number. Where memory runs out no name changes
+    /// its meaning.
+    pub fn declare_alias(
+        &mut self,
+        alloc: Global,
+        name: &[u8],
+        sorts: Vec<Sort>,
+        is_rigid: bool,
+    ) -> Result<usize, TextError>
+        ensures taken { IfErr result (λ e. e ≢ Memory → (e ≡ Refused NameDeclaredTwice) ×
+            IsNameTaken self.old name.now) }
+        ensures kept { result ≡ Err (Refused NameDeclaredTwice) → self.new ≡ self.old }
+        ensures free { OnOk result (IsNameTaken self.old name.now → ⊥) }
+        ensures declared { IfOk result (λ n. declared_as self.new name.now ≡ Some
+            (Declared.Alias n is_rigid)) }
+        ensures others { KeepsOthers self.old self.new name.now }
+        ensures number { IfOk result (λ n. n ≡ vec_len self.old.aliases) }
+        ensures listed { OnOk result (signatures self.new.aliases.items ≡ signatures
+            self.old.aliases.items ++ (name.now, sorts.items) ∷ []) }
+        ensures types { self.new.types ≡ self.old.types }
+        ensures traits { self.new.traits ≡ self.old.traits }
+    {
+        if self.lookup(name).is_some() {
+            return Err(TextError::Refused(Refusal::NameDeclaredTwice));
+        }
+        let number = self.aliases.len();
+        let key = Vec::from_slice(alloc, name)?;
+        let name = Vec::from_slice(alloc, name)?;
+        self.aliases.push(Signature { name, sorts })?;
+        self.numbers
+            .insert(key, Declared::Alias { number, is_rigid })?;
         Ok(number)
     }
 }

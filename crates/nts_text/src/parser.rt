@@ -1,18 +1,19 @@
 //! The grammar of a line.
 
-ghost use Rattle.std.specs.Prelude.{◌≡◌, ◌≢◌, ◌<◌, ◌≤◌, ◌↔◌, true, false, [], ◌∷◌, length, All, IfOk, IfErr, OnErr, IfSome, IsSomeAnd, IsNone, IsErr, List, IsTrue, SomeIff, codes, map, slice_get, take};
+ghost use Rattle.std.specs.Prelude.{◌≡◌, ◌≢◌, ◌<◌, ◌≤◌, ◌↔◌, true, false, [], ◌∷◌, length, All, Contains, IfOk, IfErr, OnErr, IfSome, IsSomeAnd, IsNone, IsErr, List, IsTrue, SomeIff, map, slice_get, take};
 ghost use Rattle.nts_text.specs.Bytes.{decimal_value};
 ghost use Rattle.nts_text.specs.Tokens.{IsInside};
 ghost use Rattle.nts_text.specs.Predicates.{are_predicates};
 ghost use Rattle.nts_text.specs.Reasons.{is_form_reason};
-ghost use Rattle.nts_text.specs.Declarations.{AreParams, EndsInCoinductive, sign_of, unmarked, word_of_sort};
-ghost use Rattle.nts_text.specs.Lines.{word_of_keyword, word_of_mode, bytes_of, IsPassedOver, BeginsWithKeyword, HasNoKeyword, NamesAreInside, Says, TokensSayNothing, SaysTooMuch};
+ghost use Rattle.nts_text.specs.Declarations.{AreParams, AreSortsIfAny, EndsIn, sign_of, unmarked, word_of_sort};
+ghost use Rattle.nts_text.specs.Lines.{word_of_keyword, word_of_mode, bytes_of, IsPassedOver, BeginsWithKeyword, HasNoKeyword, NamesAreInside, IsClause, Says, TokensSayNothing, SaysTooMuch};
 ghost use Rattle.nts_text.specs.declared.refusals.TextError.TheVariants.{Refused};
 ghost use Rattle.nts_text.specs.declared.refusals.Refusal.TheVariants.{Syntax, NumberOutOfRange, UnknownCommand};
 ghost use Rattle.nts_text.specs.declared.lexer.Token.{Token};
 ghost use Rattle.nts_text.specs.declared.parser.Keyword.{Keyword};
 ghost use Rattle.nts_text.specs.declared.parser.Mode.{Mode};
 ghost use Rattle.nts_text.specs.declared.parser.Param.{Param};
+ghost use Rattle.nts_text.specs.declared.predicates.Node.{Node};
 ghost use Rattle.nts_model.specs.declared.labels.Sort.{Sort};
 
 use crate::lexer::{Token, TokenKind, skip_blanks, token_at};
@@ -28,7 +29,9 @@ pub enum Keyword {
     Depth,
     Type,
     Trait,
+    Alias,
     Impl,
+    Norm,
     Goal,
     Env,
 }
@@ -62,7 +65,16 @@ pub enum Line {
         sorts: Vec<Sort>,
         coinductive: bool,
     },
+    Alias {
+        name: Token,
+        sorts: Vec<Sort>,
+        is_rigid: bool,
+    },
     Impl {
+        head: Vec<Node>,
+        body: Vec<Node>,
+    },
+    Norm {
         head: Vec<Node>,
         body: Vec<Node>,
     },
@@ -87,7 +99,9 @@ fn keyword_word(word: &[u8]) -> Option<Keyword>
         b"depth" => Some(Keyword::Depth),
         b"type" => Some(Keyword::Type),
         b"trait" => Some(Keyword::Trait),
+        b"alias" => Some(Keyword::Alias),
         b"impl" => Some(Keyword::Impl),
+        b"norm" => Some(Keyword::Norm),
         b"goal" => Some(Keyword::Goal),
         b"env" => Some(Keyword::Env),
         _ => None,
@@ -300,27 +314,27 @@ fn type_line(alloc: Global, line: &[u8], tokens: &[Token]) -> Result<Option<Line
     }
 }
 
-fn is_coinductive(line: &[u8], token: Token) -> bool
-    requires { IsInside line.now token }
-    ensures { IsTrue result ↔ (sign_of line.now token ≡ (TokenKind.Name, codes "coinductive")) }
-{
-    token.kind == TokenKind::Name && text(line, token) == b"coinductive".as_slice()
-}
-
-/// What stands before a last word `coinductive`.
-fn before_coinductive<'a>(line: &[u8], tokens: &'a [Token]) -> Option<&'a [Token]>
+/// What stands before a last word that is this one.
+fn before_word<'a>(line: &[u8], tokens: &'a [Token], word: &[u8]) -> Option<&'a [Token]>
     requires { All (IsInside line.now) tokens.now }
-    ensures found { IfSome result (λ list. EndsInCoinductive line.now tokens.now list.now) }
+    ensures found { IfSome result (λ list. EndsIn word.now line.now tokens.now list.now) }
     ensures none { IsNone result → (list : List Token) →
-        EndsInCoinductive line.now tokens.now list → ⊥ }
+        EndsIn word.now line.now tokens.now list → ⊥ }
     ensures inside { IfSome result (λ list. All (IsInside line.now) list.now) }
 {
-    let (word, list) = tokens.split_last()?;
-    if is_coinductive(line, *word) {
+    let (last, list) = tokens.split_last()?;
+    if is_name(line, *last, word) {
         Some(list)
     } else {
         None
     }
+}
+
+fn is_name(line: &[u8], token: Token, word: &[u8]) -> bool
+    requires { IsInside line.now token }
+    ensures { IsTrue result ↔ (sign_of line.now token ≡ (TokenKind.Name, word.now)) }
+{
+    token.kind == TokenKind::Name && text(line, token) == word
 }
 
 fn trait_line(alloc: Global, line: &[u8], tokens: &[Token]) -> Result<Option<Line>, AllocError>
@@ -336,7 +350,7 @@ fn trait_line(alloc: Global, line: &[u8], tokens: &[Token]) -> Result<Option<Lin
     if name.kind != TokenKind::Name {
         return Ok(None);
     }
-    let (list, coinductive) = match before_coinductive(line, rest) {
+    let (list, coinductive) = match before_word(line, rest, b"coinductive".as_slice()) {
         Some(list) => (list, true),
         None => (rest, false),
     };
@@ -345,6 +359,50 @@ fn trait_line(alloc: Global, line: &[u8], tokens: &[Token]) -> Result<Option<Lin
             name: *name,
             sorts,
             coinductive,
+        })),
+        None => Ok(None),
+    }
+}
+
+/// The sorts that stand in brackets, none if there are no tokens, or `None` if these tokens are neither.
+fn sorts_if_any(
+    alloc: Global,
+    line: &[u8],
+    tokens: &[Token],
+) -> Result<Option<Vec<Sort>>, AllocError>
+    requires { All (IsInside line.now) tokens.now }
+    ensures sorts { IfOk result (λ o. IfSome o (λ v. AreSortsIfAny line.now tokens.now v.items)) }
+    ensures none { IfOk result (λ o. IsNone o → (ss : List Sort) →
+        AreSortsIfAny line.now tokens.now ss → ⊥) }
+{
+    if tokens.is_empty() {
+        return Ok(Some(Vec::new(alloc)));
+    }
+    sorts_of(alloc, line, tokens)
+}
+
+fn alias_line(alloc: Global, line: &[u8], tokens: &[Token]) -> Result<Option<Line>, AllocError>
+    requires { All (IsInside line.now) tokens.now }
+    ensures says { IfOk result (λ o. IfSome o (Says line.now tokens.now Keyword.Alias)) }
+    ensures inside { IfOk result (λ o. IfSome o (NamesAreInside line.now)) }
+    ensures none { IfOk result (λ o. IsNone o →
+        TokensSayNothing line.now tokens.now Keyword.Alias) }
+{
+    let [name, rest @ ..] = tokens else {
+        return Ok(None);
+    };
+    if name.kind != TokenKind::Name {
+        return Ok(None);
+    }
+    let (list, is_rigid) = match before_word(line, rest, b"rigid".as_slice()) {
+        Some(list) => (list, true),
+        None => (rest, false),
+    };
+    match sorts_if_any(alloc, line, list)? {
+        Some(sorts) => Ok(Some(Line::Alias {
+            name: *name,
+            sorts,
+            is_rigid,
         })),
         None => Ok(None),
     }
@@ -363,29 +421,78 @@ fn arrow_of(tokens: &[Token]) -> Option<usize>
         .position(|token| token.kind == TokenKind::Arrow)
 }
 
-/// A clause: a predicate that binds nothing, and the predicates behind `<-` if that is there.
-fn impl_line(alloc: Global, line: &[u8], tokens: &[Token]) -> Result<Option<Line>, AllocError>
-    requires { All (IsInside line.now) tokens.now }
-    ensures says { IfOk result (λ o. IfSome o (Says line.now tokens.now Keyword.Impl)) }
-    ensures inside { IfOk result (λ o. IfSome o (NamesAreInside line.now)) }
-    ensures none { IfOk result (λ o. IsNone o → TokensSayNothing line.now tokens.now Keyword.Impl) }
+/// The parts of a clause: a predicate that binds nothing, and the predicates behind `<-` if that is there.
+#[derive(Drop)]
+struct Parts {
+    head: Vec<Node>,
+    body: Vec<Node>,
+}
+
+/// The parts of a clause whose head is such a predicate, or `None` if these tokens are none.
+fn clause_parts(
+    alloc: Global,
+    tokens: &[Token],
+    wanted: Wanted,
+) -> Result<Option<Parts>, AllocError>
+    ensures clause { IfOk result (λ o. IfSome o (λ p. IsClause wanted tokens.now p.head.items
+        p.body.items)) }
+    ensures head { IfOk result (λ o. IfSome o (λ p. All (λ n. Contains tokens.now n.token)
+        p.head.items)) }
+    ensures body { IfOk result (λ o. IfSome o (λ p. All (λ n. Contains tokens.now n.token)
+        p.body.items)) }
+    ensures none { IfOk result (λ o. IsNone o → (head body : List Node) →
+        IsClause wanted tokens.now head body → ⊥) }
 {
     let Some(at) = arrow_of(tokens) else {
-        return match predicates_of(alloc, tokens, Wanted::Base)? {
-            Some(head) => Ok(Some(Line::Impl {
+        return match predicates_of(alloc, tokens, wanted)? {
+            Some(head) => Ok(Some(Parts {
                 head,
                 body: Vec::new(alloc),
             })),
             None => Ok(None),
         };
     };
-    let Some(head) = predicates_of(alloc, &tokens[..at], Wanted::Base)? else {
+    let Some(head) = predicates_of(alloc, &tokens[..at], wanted)? else {
         return Ok(None);
     };
     let Some(body) = predicates_of(alloc, &tokens[at + 1..], Wanted::Many)? else {
         return Ok(None);
     };
-    Ok(Some(Line::Impl { head, body }))
+    Ok(Some(Parts { head, body }))
+}
+
+/// A clause whose head is a trait's.
+fn impl_line(alloc: Global, line: &[u8], tokens: &[Token]) -> Result<Option<Line>, AllocError>
+    requires { All (IsInside line.now) tokens.now }
+    ensures says { IfOk result (λ o. IfSome o (Says line.now tokens.now Keyword.Impl)) }
+    ensures inside { IfOk result (λ o. IfSome o (NamesAreInside line.now)) }
+    ensures none { IfOk result (λ o. IsNone o → TokensSayNothing line.now tokens.now Keyword.Impl) }
+{
+    let _ = line;
+    match clause_parts(alloc, tokens, Wanted::Base)? {
+        Some(parts) => Ok(Some(Line::Impl {
+            head: parts.head,
+            body: parts.body,
+        })),
+        None => Ok(None),
+    }
+}
+
+/// A clause whose head is an alias with its value.
+fn norm_line(alloc: Global, line: &[u8], tokens: &[Token]) -> Result<Option<Line>, AllocError>
+    requires { All (IsInside line.now) tokens.now }
+    ensures says { IfOk result (λ o. IfSome o (Says line.now tokens.now Keyword.Norm)) }
+    ensures inside { IfOk result (λ o. IfSome o (NamesAreInside line.now)) }
+    ensures none { IfOk result (λ o. IsNone o → TokensSayNothing line.now tokens.now Keyword.Norm) }
+{
+    let _ = line;
+    match clause_parts(alloc, tokens, Wanted::Norm)? {
+        Some(parts) => Ok(Some(Line::Norm {
+            head: parts.head,
+            body: parts.body,
+        })),
+        None => Ok(None),
+    }
 }
 
 /// A goal: one predicate.
@@ -441,7 +548,9 @@ pub fn line_of(
         Keyword::Depth => return depth_line(line, tokens).map_err(TextError::Refused),
         Keyword::Type => type_line(alloc, line, tokens)?,
         Keyword::Trait => trait_line(alloc, line, tokens)?,
+        Keyword::Alias => alias_line(alloc, line, tokens)?,
         Keyword::Impl => impl_line(alloc, line, tokens)?,
+        Keyword::Norm => norm_line(alloc, line, tokens)?,
         Keyword::Goal => goal_line(alloc, line, tokens)?,
         Keyword::Env => env_line(alloc, line, tokens)?,
     };

@@ -1,7 +1,7 @@
 //! Predicates, as the grammar reads them.
 
-ghost use Rattle.std.specs.Prelude.{◌≡◌, ◌<◌, ◌+◌, ◌^◌, true, ◌==◌, ◌&&◌, ◌++◌, if◌then◌else◌, is_some, is_none, map, filter, reverse, All, Contains, IfOk, IfSome, OnOk};
-ghost use Rattle.nts_text.specs.Predicates.{is_bound_token, is_marked, is_name, is_region, is_word, ends_item, is_complete, has_colon_behind, may_follow, may_follow_bound, may_stand, binding_before, binding_behind, colon_allowed_behind, is_many, may_outlive, before_first_of, are_predicates, colon_before, taken_colon, trees_before, outlives_role, behind_colon, written_nodes, is_forest};
+ghost use Rattle.std.specs.Prelude.{◌≡◌, ◌<◌, ◌≤◌, ◌+◌, ◌^◌, true, not, ◌==◌, ◌&&◌, ◌++◌, if◌then◌else◌, is_some, is_none, length, map, filter, reverse, All, Contains, IfOk, IfSome, OnOk};
+ghost use Rattle.nts_text.specs.Predicates.{is_bound_token, is_marked, is_name, is_equals, is_region, is_sign, is_type, is_word, ends_item, is_complete, may_have_colon, may_have_equals, is_right, is_value, may_sign, may_follow, may_follow_bound, may_stand, binding_before, binding_behind, first_side, side_behind, is_many, before_first_of, are_predicates, kind_before, sign_before, taken_sign, trees_before, outlives_role, behind_sign, written_nodes, is_forest};
 
 use crate::lexer::{Token, TokenKind};
 use std::alloc::{AllocError, Global};
@@ -17,7 +17,9 @@ pub enum Role {
     TypeOutlives,
     /// The colon between a region and one that it outlives.
     RegionOutlives,
-    /// An argument of the trait, or of another argument, or what stands on one side of a colon.
+    /// The alias on the left of an `=`. Its last argument is what stands behind that.
+    Normalizes,
+    /// An argument of the trait, or of another argument, or what stands on one side of a colon or behind an `=`.
     Argument,
 }
 
@@ -25,8 +27,8 @@ pub enum Role {
 /// arguments are the type or region and the region that stand on its sides.
 ///
 /// Predicates, types and arguments are lists of nodes in the order of the text, but for the colon:
-/// each node stands before its arguments, and the names that a binder binds before the trait or the
-/// colon.
+/// each node stands before its arguments, and the names that a binder binds before the trait, the colon
+/// or the alias.
 #[derive(Clone, Copy, PartialEq, Eq)]
 pub struct Node {
     pub token: Token,
@@ -39,10 +41,27 @@ pub struct Node {
 pub enum Wanted {
     /// One of a trait, without a binder.
     Base,
+    /// An alias and its value, without a binder.
+    Norm,
     /// One.
     One,
     /// Many, parted by commas.
     Many,
+}
+
+/// What a predicate may yet be where its tokens so far are read, or on which side of its sign they stand.
+#[derive(Clone, Copy, PartialEq, Eq)]
+pub enum Side {
+    /// One of a trait.
+    Trait,
+    /// One of a trait, or on the left of a colon.
+    Left,
+    /// On the left of an `=`.
+    Alias,
+    /// Behind a colon.
+    Region,
+    /// Behind an `=`.
+    Type,
 }
 
 fn is_marked(kind: TokenKind) -> bool
@@ -73,6 +92,19 @@ fn is_region(kind: TokenKind) -> bool
     )
 }
 
+/// A type begins with it.
+fn is_type(kind: TokenKind) -> bool
+    ensures { result ≡ is_type kind }
+{
+    is_word(kind) && !is_region(kind)
+}
+
+fn is_sign(kind: TokenKind) -> bool
+    ensures { result ≡ is_sign kind }
+{
+    matches!(kind, TokenKind::Colon | TokenKind::Equals)
+}
+
 fn is_bound(kind: TokenKind) -> bool
     ensures { result ≡ is_bound_token kind }
 {
@@ -93,34 +125,62 @@ fn ends_item(many: bool, depth: usize, kind: TokenKind) -> bool
     }
 }
 
+fn may_have_colon(side: Side) -> bool
+    ensures { result ≡ may_have_colon side }
+{
+    side == Side::Left
+}
+
+fn may_have_equals(side: Side) -> bool
+    ensures { result ≡ may_have_equals side }
+{
+    side == Side::Alias
+}
+
+fn is_right(side: Side) -> bool
+    ensures { result ≡ is_right side }
+{
+    matches!(side, Side::Region | Side::Type)
+}
+
+fn is_value(side: Side) -> bool
+    ensures { result ≡ is_value side }
+{
+    side == Side::Type
+}
+
 /// Whether an argument or a predicate may be complete with this token.
-fn is_complete(colon_allowed: bool, depth: usize, kind: TokenKind) -> bool
-    ensures { result ≡ is_complete colon_allowed depth kind }
+fn is_complete(side: Side, depth: usize, kind: TokenKind) -> bool
+    ensures { result ≡ is_complete side depth kind }
 {
     match kind {
-        TokenKind::Close => true,
-        TokenKind::Name => depth > 0,
-        _ => is_marked(kind) && (depth > 0 || !colon_allowed),
+        TokenKind::Close => depth > 0 || !may_have_equals(side),
+        TokenKind::Name => depth > 0 || is_value(side),
+        _ => is_marked(kind) && (depth > 0 || is_right(side)),
     }
 }
 
-/// Whether a colon may stand behind a token.
-fn has_colon_behind(colon_allowed: bool, depth: usize, before: TokenKind) -> bool
-    ensures { result ≡ has_colon_behind colon_allowed depth before }
+/// Whether a colon or an `=` may stand behind a token.
+fn may_sign(kind: TokenKind, side: Side, depth: usize, before: TokenKind) -> bool
+    ensures { result ≡ may_sign kind side depth before }
 {
-    colon_allowed && depth == 0 && (is_word(before) || before == TokenKind::Close)
+    match kind {
+        TokenKind::Colon => {
+            may_have_colon(side) && depth == 0 && (is_word(before) || before == TokenKind::Close)
+        }
+        TokenKind::Equals => {
+            may_have_equals(side)
+                && depth == 0
+                && (before == TokenKind::Name || before == TokenKind::Close)
+        }
+        _ => false,
+    }
 }
 
-/// Whether a token may stand behind another one, where so many brackets are open between them, and
-/// where a colon may yet stand in the predicate or not.
-fn may_follow(
-    many: bool,
-    colon_allowed: bool,
-    depth: usize,
-    before: TokenKind,
-    kind: TokenKind,
-) -> bool
-    ensures { result ≡ may_follow many colon_allowed depth before kind }
+/// Whether a token may stand behind another one, where so many brackets are open between them, on
+/// this side of the predicate's sign.
+fn may_follow(many: bool, side: Side, depth: usize, before: TokenKind, kind: TokenKind) -> bool
+    ensures { result ≡ may_follow many side depth before kind }
 {
     match before {
         TokenKind::Open => is_word(kind),
@@ -128,12 +188,13 @@ fn may_follow(
             TokenKind::For => depth == 0,
             _ => is_word(kind),
         },
-        TokenKind::Greater => kind == TokenKind::Name || colon_allowed && is_marked(kind),
+        TokenKind::Greater => kind == TokenKind::Name || may_have_colon(side) && is_marked(kind),
         TokenKind::Colon => is_region(kind),
+        TokenKind::Equals => is_type(kind),
         _ => match kind {
             TokenKind::Open => before == TokenKind::Name,
-            TokenKind::Colon => has_colon_behind(colon_allowed, depth, before),
-            _ => is_complete(colon_allowed, depth, before) && ends_item(many, depth, kind),
+            TokenKind::Colon | TokenKind::Equals => may_sign(kind, side, depth, before),
+            _ => is_complete(side, depth, before) && ends_item(many, depth, kind),
         },
     }
 }
@@ -152,28 +213,40 @@ fn may_follow_bound(before: TokenKind, kind: TokenKind) -> bool
 fn may_stand(
     many: bool,
     binding: bool,
-    colon_allowed: bool,
+    side: Side,
     depth: usize,
     before: TokenKind,
     kind: TokenKind,
 ) -> bool
-    ensures { result ≡ may_stand many binding colon_allowed depth before kind }
+    ensures { result ≡ may_stand many binding side depth before kind }
 {
     if binding {
         may_follow_bound(before, kind)
     } else {
-        may_follow(many, colon_allowed, depth, before, kind)
+        may_follow(many, side, depth, before, kind)
     }
 }
 
-/// Whether a colon may yet stand behind this.
-fn colon_allowed_behind(colon_allowed: bool, depth: usize, kind: TokenKind) -> bool
-    ensures { result ≡ colon_allowed_behind colon_allowed depth kind }
+/// On which side a predicate begins.
+fn first_side(wanted: Wanted) -> Side
+    ensures { result ≡ first_side wanted }
+{
+    match wanted {
+        Wanted::Base => Side::Trait,
+        Wanted::Norm => Side::Alias,
+        Wanted::One | Wanted::Many => Side::Left,
+    }
+}
+
+/// On which side a predicate is behind this.
+fn side_behind(wanted: Wanted, side: Side, depth: usize, kind: TokenKind) -> Side
+    ensures { result ≡ side_behind wanted side depth kind }
 {
     match kind {
-        TokenKind::Colon => false,
-        TokenKind::Comma => colon_allowed || depth == 0,
-        _ => colon_allowed,
+        TokenKind::Colon => Side::Region,
+        TokenKind::Equals => Side::Type,
+        TokenKind::Comma => { if depth == 0 { first_side(wanted) } else { side } }
+        _ => side,
     }
 }
 
@@ -205,20 +278,13 @@ fn is_many(wanted: Wanted) -> bool
     wanted == Wanted::Many
 }
 
-/// The head of a clause is a trait's.
-fn may_outlive(wanted: Wanted) -> bool
-    ensures { result ≡ may_outlive wanted }
-{
-    wanted != Wanted::Base
-}
-
 /// Behind what the first predicate stands, as it were: a predicate is to come behind a comma, and one
 /// without a binder behind the end of a binder.
 fn before_first_of(wanted: Wanted) -> TokenKind
     ensures { result ≡ before_first_of wanted }
 {
     match wanted {
-        Wanted::Base => TokenKind::Greater,
+        Wanted::Base | Wanted::Norm => TokenKind::Greater,
         Wanted::One | Wanted::Many => TokenKind::Comma,
     }
 }
@@ -230,14 +296,14 @@ fn are_predicates(tokens: &[Token], wanted: Wanted) -> bool
     let many = is_many(wanted);
     let mut before = before_first_of(wanted);
     let mut binding = false;
-    let mut colon_allowed = may_outlive(wanted);
+    let mut side = first_side(wanted);
     let mut depth: usize = 0;
     for token in tokens {
-        if !may_stand(many, binding, colon_allowed, depth, before, token.kind) {
+        if !may_stand(many, binding, side, depth, before, token.kind) {
             return false;
         }
         binding = binding_behind(binding, token.kind);
-        colon_allowed = colon_allowed_behind(colon_allowed, depth, token.kind);
+        side = side_behind(wanted, side, depth, token.kind);
         match token.kind {
             TokenKind::Open => depth += 1,
             TokenKind::Close => depth -= 1,
@@ -245,30 +311,53 @@ fn are_predicates(tokens: &[Token], wanted: Wanted) -> bool
         }
         before = token.kind;
     }
-    is_complete(colon_allowed, depth, before) && depth == 0
+    is_complete(side, depth, before) && depth == 0
 }
 
-/// What a word is, where the list of a binder is open behind it or not, so many brackets are, and a
-/// colon stands behind it or not.
-fn role_of(kind: TokenKind, binding: bool, depth: usize, colon: Option<Token>) -> Role
+/// What stands in front of the token at this place; in front of the first one a comma, as it were.
+fn kind_before(tokens: &[Token], at: usize) -> TokenKind
+    requires { at ≤ length tokens.now }
+    ensures { result ≡ kind_before tokens.now at }
+{
+    if at == 0 {
+        TokenKind::Comma
+    } else {
+        tokens[at - 1].kind
+    }
+}
+
+/// What a word is behind such a token, where the list of a binder is open behind it or not, so many
+/// brackets are, and a sign stands behind it or not.
+fn role_of(
+    before: TokenKind,
+    kind: TokenKind,
+    binding: bool,
+    depth: usize,
+    sign: Option<Token>,
+) -> Role
     ensures { result ≡ (if binding then Role.Bound else
-        (if is_name kind && (depth == 0) && is_none colon then Role.Trait else Role.Argument)) }
+        (if is_name kind && not (is_equals before) && (depth == 0) && is_none sign then Role.Trait
+        else Role.Argument)) }
 {
     if binding {
         Role::Bound
-    } else if kind == TokenKind::Name && depth == 0 && colon.is_none() {
+    } else if kind == TokenKind::Name
+        && before != TokenKind::Equals
+        && depth == 0
+        && sign.is_none()
+    {
         Role::Trait
     } else {
         Role::Argument
     }
 }
 
-/// The next colon before a token, where this is the next one behind it, and so many brackets are
+/// The next sign before a token, where this is the next one behind it, and so many brackets are
 /// open and so many trees begin at its level.
-fn colon_before(token: Token, depth: usize, trees: usize, behind: Option<Token>) -> Option<Token>
-    ensures { result ≡ colon_before token depth trees behind }
+fn sign_before(token: Token, depth: usize, trees: usize, behind: Option<Token>) -> Option<Token>
+    ensures { result ≡ sign_before token depth trees behind }
 {
-    if token.kind == TokenKind::Colon {
+    if is_sign(token.kind) {
         if trees == 0 { None } else { Some(token) }
     } else if is_word(token.kind) && depth == 0 {
         None
@@ -277,9 +366,9 @@ fn colon_before(token: Token, depth: usize, trees: usize, behind: Option<Token>)
     }
 }
 
-/// The colon that a word takes: inside of brackets none.
-fn taken_colon(depth: usize, behind: Option<Token>) -> Option<Token>
-    ensures { result ≡ taken_colon depth behind }
+/// The sign that a word takes: inside of brackets none.
+fn taken_sign(depth: usize, behind: Option<Token>) -> Option<Token>
+    ensures { result ≡ taken_sign depth behind }
 {
     if depth == 0 { behind } else { None }
 }
@@ -302,31 +391,43 @@ fn trees_before(kind: TokenKind, behind: usize) -> usize
 {
     if is_word(kind) {
         behind + 1
-    } else if kind == TokenKind::Colon {
+    } else if is_sign(kind) {
         behind.saturating_sub(1)
     } else {
         behind
     }
 }
 
-/// Adds a node, and then that of the colon that it stands on the left of.
-fn push_word(nodes: &mut Vec<Node>, node: Node, colon: Option<Token>) -> Result<(), AllocError>
+/// Adds a node, and then that of the colon that it stands on the left of. An alias on the left of an
+/// `=` takes what stands behind that as its last argument.
+fn push_word(nodes: &mut Vec<Node>, node: Node, sign: Option<Token>) -> Result<(), AllocError>
+    requires { node.arguments + 1 < 2 ^ 64 }
     ensures { OnOk result (nodes.new.items ≡ nodes.old.items ++
-        reverse (behind_colon node colon)) }
+        reverse (behind_sign node sign)) }
 {
-    nodes.push(node)?;
-    if let Some(token) = colon {
+    let Some(token) = sign else {
+        nodes.push(node)?;
+        return Ok(());
+    };
+    if token.kind == TokenKind::Equals {
         nodes.push(Node {
-            token,
-            arguments: 2,
-            role: outlives_role(node.token.kind),
+            token: node.token,
+            arguments: node.arguments + 1,
+            role: Role::Normalizes,
         })?;
+        return Ok(());
     }
+    nodes.push(node)?;
+    nodes.push(Node {
+        token,
+        arguments: 2,
+        role: outlives_role(node.token.kind),
+    })?;
     Ok(())
 }
 
 /// The nodes of predicates, in the order of the text. They are found from the last to the first,
-/// so that a name's arguments are counted when it is reached, and the colon is known that it stands
+/// so that a name's arguments are counted when it is reached, and the sign is known that it stands
 /// on the left of.
 fn nodes_of(alloc: Global, tokens: &[Token]) -> Result<Vec<Node>, AllocError>
     ensures nodes { IfOk result (λ ns. ns.items ≡ written_nodes tokens.now) }
@@ -340,16 +441,17 @@ fn nodes_of(alloc: Global, tokens: &[Token]) -> Result<Vec<Node>, AllocError>
     let mut count: usize = 0;
     let mut arguments: usize = 0;
     let mut binding = false;
-    let mut colon = None;
+    let mut sign = None;
     let mut at = tokens.len();
     while at > 0 {
         at -= 1;
         let token = tokens[at];
         let depth = outer.len();
-        let role = role_of(token.kind, binding, depth, colon);
-        let taken = taken_colon(depth, colon);
+        let before = kind_before(tokens, at);
+        let role = role_of(before, token.kind, binding, depth, sign);
+        let taken = taken_sign(depth, sign);
         binding = binding_before(token.kind, binding);
-        colon = colon_before(token, depth, count, colon);
+        sign = sign_before(token, depth, count, sign);
         match token.kind {
             TokenKind::Close => {
                 outer.push(count)?;

@@ -20,6 +20,7 @@ pub enum Refusal {
     WrongArguments,
     ParameterInAClause,
     VariableInAnEnvironment,
+    AliasIsRigid,
 }
 
 impl Refusal {
@@ -36,6 +37,7 @@ impl Refusal {
             Refusal::WrongArguments => "wrong arguments",
             Refusal::ParameterInAClause => "parameter in a clause",
             Refusal::VariableInAnEnvironment => "variable in an environment",
+            Refusal::AliasIsRigid => "alias is rigid",
         }
     }
 }

@@ -1,16 +1,18 @@
 //! Predicates whose names have become numbers.
-ghost use Rattle.std.specs.Prelude.{◌≡◌, ◌≢◌, true, None, Some, Err, ◌++◌, ◌∷◌, [], length, reverse, All, IfOk, IfErr, IsErr, OnOk};
+ghost use Rattle.std.specs.Prelude.{◌≡◌, ◌≢◌, ◌<◌, vec_len, true, None, Some, Err, ◌++◌, ◌∷◌, [], length, reverse, All, IfOk, IfErr, IsErr, OnOk};
 ghost use Rattle.nts_text.specs.Binders.{BoundNames, bound_names, bound_behind, nothing_bound};
-ghost use Rattle.nts_text.specs.Faults.{IsUnknown, HasFreeName, IsBoundTwice, HasBoundTwice};
+ghost use Rattle.nts_text.specs.Faults.{IsUnknown, HasFreeName, IsBoundTwice, HasBoundTwice, IsRigidAlias, HasRigidAlias};
 ghost use Rattle.nts_text.specs.Spelled.{KeepsNames};
 ghost use Rattle.nts_text.specs.Reasons.{is_name_reason};
 ghost use Rattle.nts_text.specs.Tokens.{IsInside};
-ghost use Rattle.nts_text.specs.Resolution.{argument_sorts, sort_of, role_of, IsDeclared, IsMeaningOf, IsNoVariable, AreMeanings, AreSorted};
+ghost use Rattle.nts_text.specs.Resolution.{alias_sorts, argument_sorts, sort_of, role_of, IsDeclared, IsMeaningOf, IsNoVariable, AreMeanings, AreSorted};
 ghost use Rattle.nts_text.specs.declared.names.Scope.{Scope};
 ghost use Rattle.nts_text.specs.declared.refusals.TextError.TheVariants.{Refused};
-ghost use Rattle.nts_text.specs.declared.refusals.Refusal.TheVariants.{NameDeclaredTwice, ParameterInAClause, UnknownName, VariableInAnEnvironment, WrongArguments};
+ghost use Rattle.nts_text.specs.declared.refusals.Refusal.TheVariants.{AliasIsRigid, NameDeclaredTwice, ParameterInAClause, UnknownName, VariableInAnEnvironment, WrongArguments};
 
-use crate::known::{allows_parameter, allows_variable, declared, named_type, predicate, refused};
+use crate::known::{
+    allows_parameter, allows_variable, declared, named_type, normalized, predicate, refused,
+};
 use crate::lexer::TokenKind;
 use crate::names::{Bounds, NameTable, Scope};
 use crate::parser::text;
@@ -27,7 +29,7 @@ pub enum Site {
     Environment,
 }
 
-/// A node whose name has become a number: a trait's, a type's, that of a variable or of a parameter
+/// A node whose name has become a number: a trait's, a type's, an alias's, that of a variable or of a parameter
 /// among those of its sort, or its place in the list of its predicate's binder.
 #[derive(Clone, Copy, PartialEq, Eq)]
 pub enum Resolved {
@@ -42,6 +44,9 @@ pub enum Resolved {
     /// A region outlives another one.
     RegionOutlives,
     Ctor { number: usize, arguments: usize },
+    Alias { number: usize, arguments: usize },
+    /// An alias normalizes to the type behind its arguments.
+    Normalizes { number: usize, arguments: usize },
     Int(IntTy),
     Uint(UintTy),
     TypeVariable(usize),
@@ -78,6 +83,7 @@ impl Reading<'_> {
         ensures unknown { result ≢ Err (Refused UnknownName) }
         ensures twice { result ≡ Err (Refused NameDeclaredTwice) →
             IsBoundTwice self.now.names.now self.now.line.now (bound_names bounds.old) node }
+        ensures rigid { result ≢ Err (Refused AliasIsRigid) }
     {
         let sort = match node.token.kind {
             TokenKind::Name => Sort::Ty,
@@ -113,11 +119,39 @@ impl Reading<'_> {
         ensures unknown { result ≡ Err (Refused UnknownName) →
             IsUnknown self.now.names.now self.now.line.now (bound_names bounds.old) node }
         ensures twice { result ≢ Err (Refused NameDeclaredTwice) }
+        ensures rigid { result ≢ Err (Refused AliasIsRigid) }
     {
         bounds.begin_predicate(self.alloc);
         match bounds.number(text(self.line, node.token)) {
             Some(_) => refused(Refusal::WrongArguments),
             None => predicate(self.names, self.line, node),
+        }
+    }
+
+    /// An alias on the left of an `=`. The names that were to be bound are now bound.
+    fn alias_node(&self, bounds: &mut Bounds, node: Node) -> Result<Resolved, TextError>
+        requires inside { IsInside self.now.line.now node.token }
+        requires role { node.role ≡ Role.Normalizes }
+        ensures sort { IfOk result (λ r. sort_of r ≡ None) }
+        ensures role { IfOk result (λ r. role_of r ≡ Role.Normalizes) }
+        ensures declared { IfOk result (IsDeclared self.now.names.now) }
+        ensures means { (scope : Scope) (b : BoundNames) →
+            IfOk result (IsMeaningOf self.now.names.now scope self.now.line.now b node) }
+        ensures bounds { bound_names bounds.new ≡ bound_behind self.now.line.now (bound_names
+            bounds.old) node }
+        ensures reasons { IfErr result (λ e. is_name_reason e ≡ true) }
+        ensures parameter { result ≢ Err (Refused ParameterInAClause) }
+        ensures variable { result ≢ Err (Refused VariableInAnEnvironment) }
+        ensures unknown { result ≡ Err (Refused UnknownName) →
+            IsUnknown self.now.names.now self.now.line.now (bound_names bounds.old) node }
+        ensures twice { result ≢ Err (Refused NameDeclaredTwice) }
+        ensures rigid { result ≡ Err (Refused AliasIsRigid) →
+            IsRigidAlias self.now.names.now self.now.line.now node }
+    {
+        bounds.begin_predicate(self.alloc);
+        match bounds.number(text(self.line, node.token)) {
+            Some(_) => refused(Refusal::WrongArguments),
+            None => normalized(self.names, self.line, node),
         }
     }
 
@@ -137,6 +171,7 @@ impl Reading<'_> {
         ensures unknown { result ≡ Err (Refused UnknownName) →
             IsUnknown self.now.names.now self.now.line.now (bound_names bounds.now) node }
         ensures twice { result ≢ Err (Refused NameDeclaredTwice) }
+        ensures rigid { result ≢ Err (Refused AliasIsRigid) }
     {
         match bounds.number(text(self.line, node.token)) {
             Some(number) => {
@@ -173,6 +208,7 @@ impl Reading<'_> {
         ensures unknown { result ≡ Err (Refused UnknownName) →
             IsUnknown self.now.names.now self.now.line.now (bound_names bounds.now) node }
         ensures twice { result ≢ Err (Refused NameDeclaredTwice) }
+        ensures rigid { result ≢ Err (Refused AliasIsRigid) }
     {
         let name = text(self.line, node.token);
         match node.token.kind {
@@ -212,6 +248,7 @@ impl Reading<'_> {
         ensures free { self.now.site ≡ Site.Environment → IfOk result IsNoVariable }
         ensures unknown { result ≢ Err (Refused UnknownName) }
         ensures twice { result ≢ Err (Refused NameDeclaredTwice) }
+        ensures rigid { result ≢ Err (Refused AliasIsRigid) }
     {
         let name = text(self.line, node.token);
         if let Some(number) = bounds.number(name) {
@@ -263,6 +300,7 @@ impl Reading<'_> {
         ensures unknown { result ≡ Err (Refused UnknownName) →
             IsUnknown self.now.names.now self.now.line.now (bound_names bounds.now) node }
         ensures twice { result ≢ Err (Refused NameDeclaredTwice) }
+        ensures rigid { result ≢ Err (Refused AliasIsRigid) }
     {
         let name = text(self.line, node.token);
         match node.token.kind {
@@ -304,10 +342,13 @@ impl Reading<'_> {
             IsUnknown self.now.names.now self.now.line.now (bound_names bounds.old) node }
         ensures twice { result ≡ Err (Refused NameDeclaredTwice) →
             IsBoundTwice self.now.names.now self.now.line.now (bound_names bounds.old) node }
+        ensures rigid { result ≡ Err (Refused AliasIsRigid) →
+            IsRigidAlias self.now.names.now self.now.line.now node }
     {
         match (node.role, wanted) {
             (Role::Bound, None) => self.bound(bounds, node),
             (Role::Trait, None) => self.trait_node(bounds, node),
+            (Role::Normalizes, None) => self.alias_node(bounds, node),
             (Role::TypeOutlives, None) => {
                 bounds.begin_predicate(self.alloc);
                 Ok(Resolved::TypeOutlives)
@@ -329,6 +370,26 @@ const TYPE_AND_REGION: [Sort; 2] = [Sort::Ty, Sort::Region];
 
 const TWO_REGIONS: [Sort; 2] = [Sort::Region, Sort::Region];
 
+/// Adds sorts to those that are wanted, the first one last.
+fn want_all(wanted: &mut Vec<Sort>, sorts: &[Sort]) -> Result<(), AllocError>
+    ensures { OnOk result (wanted.new.items ≡ wanted.old.items ++ reverse sorts.now) }
+{
+    let mut at = sorts.len();
+    while at > 0 {
+        at -= 1;
+        wanted.push(sorts[at])?;
+    }
+    Ok(())
+}
+
+/// The sorts of an alias's arguments.
+fn alias_sorts(names: &NameTable, number: usize) -> &[Sort]
+    requires { number < vec_len names.now.aliases }
+    ensures { result.now ≡ alias_sorts names.now number }
+{
+    &names.aliases[number].sorts
+}
+
 /// Adds the sorts of a node's arguments to those that are wanted, the first one last.
 fn want_arguments(
     wanted: &mut Vec<Sort>,
@@ -339,19 +400,18 @@ fn want_arguments(
     ensures { OnOk result (wanted.new.items ≡ wanted.old.items ++ reverse
         (argument_sorts names.now node)) }
 {
-    let sorts = match node {
-        Resolved::Trait { number, .. } => names.traits[number].sorts.as_slice(),
-        Resolved::Ctor { number, .. } => names.types[number].sorts.as_slice(),
-        Resolved::TypeOutlives => TYPE_AND_REGION.as_slice(),
-        Resolved::RegionOutlives => TWO_REGIONS.as_slice(),
-        _ => return Ok(()),
-    };
-    let mut at = sorts.len();
-    while at > 0 {
-        at -= 1;
-        wanted.push(sorts[at])?;
+    match node {
+        Resolved::Trait { number, .. } => want_all(wanted, &names.traits[number].sorts),
+        Resolved::Ctor { number, .. } => want_all(wanted, &names.types[number].sorts),
+        Resolved::Alias { number, .. } => want_all(wanted, alias_sorts(names, number)),
+        Resolved::Normalizes { number, .. } => {
+            wanted.push(Sort::Ty)?;
+            want_all(wanted, alias_sorts(names, number))
+        }
+        Resolved::TypeOutlives => want_all(wanted, &TYPE_AND_REGION),
+        Resolved::RegionOutlives => want_all(wanted, &TWO_REGIONS),
+        _ => Ok(()),
     }
-    Ok(())
 }
 
 /// Keeps a node, and wants its arguments.
@@ -402,6 +462,8 @@ impl Reading<'_> {
             HasFreeName self.now.names.now self.now.line.now nodes.now }
         ensures twice { result ≡ Err (Refused NameDeclaredTwice) →
             HasBoundTwice self.now.names.now self.now.line.now nodes.now }
+        ensures rigid { result ≡ Err (Refused AliasIsRigid) →
+            HasRigidAlias self.now.names.now self.now.line.now nodes.now }
     {
         for node in nodes {
             let resolved = self.node(bounds, scope, wanted.pop(), *node)?;
@@ -441,6 +503,8 @@ pub fn resolve_nodes(
         HasFreeName names.now line.now nodes.now }
     ensures twice { result ≡ Err (Refused NameDeclaredTwice) →
         HasBoundTwice names.now line.now nodes.now }
+    ensures rigid { result ≡ Err (Refused AliasIsRigid) →
+        HasRigidAlias names.now line.now nodes.now }
 {
     let reading = Reading {
         alloc,

@@ -1,60 +1,13 @@
-use Rattle.std.proofs.Common.{◌≡◌, ◌+◌, ◌++◌, ◌∷◌, inr, suc, true, false, is_some, take, drop, refl, sym, ap, ◌∙◌, arith}
-use Rattle.std.proofs.lemmas.Grind.{common_steps}
-use Rattle.nts_text.specs.Predicates.{are_predicates, written_nodes}
-use Rattle.nts_text.specs.declared.predicates.Wanted.TheVariants as wanted
-use Rattle.nts_text.proofs.ArrowLemmas.{parts_at, says_no_fact, says_no_rule}
-use Rattle.nts_text.proofs.NodeLemmas.{inside_nodes, none_inside}
-use Rattle.nts_text.proofs.WordLemmas.{of_nodes}
-use Rattle.std.proofs.lemmas.List.Elements.{All-take, All-drop}
-use Rattle.nts_text.specs.Tokens.{IsInside}
+use Rattle.std.proofs.Common.{is_some, ap}
+use Rattle.nts_text.proofs.ArrowLemmas.{says_no_impl}
+use Rattle.nts_text.proofs.NodeLemmas.{inside_nodes}
 use Rattle.nts_text.proofs.parser.impl_line.Goals as goal
 
--- the tokens before the arrow and those behind it are inside, so their nodes are
-pub returns-clause-inside : goal.returns-clause-inside
-returns-clause-inside c =
-    let line = c.args.line.now in
-    let tokens = c.args.tokens.now in
-    let body : c.in-Some-4.body.items ≡ written_nodes (drop (c.in-Some.at + 1) tokens) = grind (arith, common_steps, c.in_ok-body.ensures.nodes, c.in-Some-4.is) in (
-      inside_nodes line c.in-Some-3.head.items (take c.in-Some.at tokens) (rw c.in-Some-3.is at c.in_ok-head-2.ensures.tokens) (All-take (IsInside line) c.in-Some.at tokens c.requires),
-      rw body (of_nodes (IsInside line) (drop (c.in-Some.at + 1) tokens) (All-drop (IsInside line) (c.in-Some.at + 1) tokens c.requires)),
-    )
-
-pub returns-in-Some-2-clause-inside : goal.returns-in-Some-2-clause-inside
-returns-in-Some-2-clause-inside c = (
-  inside_nodes c.args.line.now c.in-Some-2.head.items c.args.tokens.now (rw c.in-Some-2.is at c.in_ok-head.ensures.tokens) c.requires,
-  none_inside c.args.line.now c.new.result.items c.new.ensures.items,
+pub returns-in-Some-clause-inside : goal.returns-in-Some-clause-inside
+returns-in-Some-clause-inside c = (
+  inside_nodes c.args.line.now c.in-Some.parts.head.items c.args.tokens.now (rw c.in-Some.is at c.in_ok-parts.ensures.head) c.requires,
+  inside_nodes c.args.line.now c.in-Some.parts.body.items c.args.tokens.now (rw c.in-Some.is at c.in_ok-parts.ensures.body) c.requires,
 )
 
--- no arrow, and no predicate
 pub returns-in-None-clause-none : goal.returns-in-None-clause-none
-returns-in-None-clause-none c = λ _.
-    says_no_fact c.args.line.now c.args.tokens.now (c.in_default.ensures.none refl) (sym c.in_ok-head.ensures.written ∙ ap is_some c.in-None.is)
-
--- no predicate before the arrow
-pub returns-in_default-2-clause-none : goal.returns-in_default-2-clause-none
-returns-in_default-2-clause-none c = λ _.
-    let e = c.in-Some.ensures in
-    let no : are_predicates wanted.Base (take c.in-Some.at c.args.tokens.now) ≡ false = grind (arith, c.in_ok-head-2.ensures.written, c.in_default-2.is) in
-    says_no_rule c.args.line.now c.args.tokens.now c.in-Some.at e.inside e.found e.first (λ is _. let f : true ≡ false = sym is ∙ no in cc)
-
--- no predicates behind it
-pub returns-in_default-3-clause-none : goal.returns-in_default-3-clause-none
-returns-in_default-3-clause-none c = λ _.
-    let e = c.in-Some.ensures in
-    let behind : suc c.in-Some.at ≡ c.in-Some.at + 1 = omega arith in
-    let no : are_predicates wanted.Many (drop (c.in-Some.at + 1) c.args.tokens.now) ≡ false = grind (arith, common_steps, c.in_ok-body.ensures.written, c.in_default-3.is) in
-    says_no_rule c.args.line.now c.args.tokens.now c.in-Some.at e.inside e.found e.first (λ _ are. let f : true ≡ false = sym are ∙ ap (λ n. are_predicates wanted.Many (drop n c.args.tokens.now)) behind ∙ no in cc)
-
--- a predicate, an arrow and predicates
-pub returns-clause-says : goal.returns-clause-says
-returns-clause-says c =
-    let ts = c.args.tokens.now in
-    let at = c.in-Some.at in
-    let e = c.in-Some.ensures in
-    let parts = parts_at ts at e.inside e.found in
-    let next : suc at ≡ at + 1 = omega arith in
-    let is : are_predicates wanted.Base (take at ts) ≡ true = grind (arith, c.in_ok-head-2.ensures.written, c.in-Some-3.is) in
-    let head_is : c.in-Some-3.head.items ≡ written_nodes (take at ts) = grind (arith, c.in_ok-head-2.ensures.nodes, c.in-Some-3.is) in
-    let are : are_predicates wanted.Many (drop (at + 1) ts) ≡ true = grind (arith, common_steps, c.in_ok-body.ensures.written, c.in-Some-4.is) in
-    let body_is : c.in-Some-4.body.items ≡ written_nodes (drop (at + 1) ts) = grind (arith, common_steps, c.in_ok-body.ensures.nodes, c.in-Some-4.is) in
-    inr (take at ts, drop (at + 1) ts, parts.0, (parts.1 ∙ ap (λ n. take at ts ++ parts.0 ∷ drop n ts) next), parts.2, is, head_is, are, body_is)
+returns-in-None-clause-none c = λ _. says_no_impl c.args.line.now c.args.tokens.now (c.in_ok-parts.ensures.none (ap is_some c.in-None.is))

@@ -1,4 +1,5 @@
-use Rattle.std.proofs.Common.{ap, refl, is_some}
+use Rattle.std.specs.Prelude.{codes}
+use Rattle.std.proofs.Common.{◌≡◌, ap, refl, is_some}
 use Rattle.nts_text.proofs.FaultLemmas.{no_coinductive_trait, no_trait, rest_is}
 use Rattle.nts_text.proofs.parser.trait_line.Goals.{in-Some, in-None}
 use Rattle.nts_text.proofs.parser.trait_line.Goals as goal
@@ -7,7 +8,8 @@ use Rattle.nts_text.proofs.parser.trait_line.Goals as goal
 pub returns-in-None-2-clause-none : goal.returns-in-None-2-clause-none
 returns-in-None-2-clause-none c = λ _.
     let none = c.in_ok-sorts.ensures.none (ap is_some c.in-None-2.is) in
-    elim c.match-before_coinductive.branch [
-      | in-Some w ↦ no_coinductive_trait c.args.line.now c.args.tokens.now _ _ (rest_is c.args.tokens.now) w.in-Some.ensures.found (rw w.coinductive-is at none)
-      | in-None w ↦ no_trait c.args.line.now c.args.tokens.now _ (rest_is c.args.tokens.now) (w.in-None.ensures.none refl) (rw w.coinductive-is at none)
+    let word : c.as_slice.result.now ≡ codes "coinductive" = c.as_slice.ensures in
+    elim c.match-before_word.branch [
+      | in-Some w ↦ no_coinductive_trait c.args.line.now c.args.tokens.now _ _ (rest_is c.args.tokens.now) (rw word at w.in-Some.ensures.found) (rw w.coinductive-is at none)
+      | in-None w ↦ no_trait c.args.line.now c.args.tokens.now _ (rest_is c.args.tokens.now) (rw word at w.in-None.ensures.none refl) (rw w.coinductive-is at none)
     ]

@@ -1,6 +1,6 @@
 use Rattle.std.proofs.Common.{◌≡◌, ◌≤◌, ◌+◌, ◌∷◌, ◌∙◌, suc, true, drop, get_or, sym, ap, arith}
 use Rattle.std.proofs.Math.Seq.{drop-cons}
-use Rattle.nts_text.specs.Predicates.{continues, may_stand, depth_behind}
+use Rattle.nts_text.specs.Predicates.{continues, is_many, may_stand, depth_behind}
 use Rattle.nts_text.specs.declared.lexer.Token.{Token}
 use Rattle.nts_text.specs.declared.lexer.TokenKind.TheVariants.{Name}
 use Rattle.nts_text.proofs.CountLemmas.{continues-step, depth_behind-other}
@@ -19,8 +19,8 @@ loop-token-preserved c =
     let t = get_or tokens at no_token in
     let rest = drop (at + 1) tokens in
     let split : drop at tokens ≡ t ∷ rest = drop-cons tokens at no_token c.loop-token-test.true ∙ ap (λ k. t ∷ drop k tokens) (let e : suc at ≡ at + 1 = omega arith in e) in
-    let stands : may_stand c.is_many-many.result c.loop-token.binding c.loop-token.colon_allowed c.loop-token.depth c.loop-token.before t.kind ≡ true =
-    grind (arith, c.may_stand.ensures, c.if-not-may_stand.false) in
+    let stands : may_stand (is_many c.args.wanted) c.loop-token.binding c.loop-token.side c.loop-token.depth c.loop-token.before t.kind ≡ true =
+    grind (arith, c.may_stand.ensures, c.is_many-many.ensures, c.if-not-may_stand.false) in
     let depth : c.match-token.depth ≡ depth_behind c.loop-token.depth t.kind = elim c.match-token.branch [
       | in-Open w ↦ w.depth-is ∙ sym (ap (depth_behind c.loop-token.depth) w.in-Open.is)
       | in-Close w ↦ w.depth-is ∙ sym (ap (depth_behind c.loop-token.depth) w.in-Close.is)
@@ -33,7 +33,7 @@ loop-token-preserved c =
     ] in
     record {
       shallow = shallow;
-      rest = continues-step c.is_many-many.result c.loop-token.binding c.loop-token.colon_allowed c.loop-token.depth c.loop-token.before t rest
-          c.binding_behind-binding.result c.colon_allowed_behind-colon_allowed.result c.match-token.depth stands c.binding_behind-binding.ensures c.colon_allowed_behind-colon_allowed.ensures depth
-          ∙ sym (ap (continues c.is_many-many.result c.loop-token.binding c.loop-token.colon_allowed c.loop-token.depth c.loop-token.before) split) ∙ c.loop-token.invariant.rest;
+      rest = continues-step c.args.wanted c.loop-token.binding c.loop-token.side c.loop-token.depth c.loop-token.before t rest
+          c.binding_behind-binding.result c.side_behind-side.result c.match-token.depth stands c.binding_behind-binding.ensures c.side_behind-side.ensures depth
+          ∙ sym (ap (continues c.args.wanted c.loop-token.binding c.loop-token.side c.loop-token.depth c.loop-token.before) split) ∙ c.loop-token.invariant.rest;
     }

@@ -5,5 +5,5 @@ use Rattle.nts_text.proofs.predicates.are_predicates.Given as goal
 abbrev pub invariant-loop-token : goal.invariant-loop-token
 invariant-loop-token l = record {
   shallow : l.depth ≤ l.token-index;
-  rest : continues l.many l.binding l.colon_allowed l.depth l.before (drop l.token-index l.tokens) ≡ are_predicates l.fn.wanted l.tokens;
+  rest : continues l.fn.wanted l.binding l.side l.depth l.before (drop l.token-index l.tokens) ≡ are_predicates l.fn.wanted l.tokens;
 }

@@ -33,4 +33,5 @@ returns c =
       free = λ is. ok_of d all _ (done.free is);
       unknown = λ is. done.unknown (same_err d all _ is);
       twice = λ is. done.twice (same_err d all _ is);
+      rigid = λ is. done.rigid (same_err d all _ is);
     })

@@ -11,7 +11,7 @@ pub invariant_of-self-2 : goal.invariant_of-self-2
 invariant_of-self-2 c =
     let longer = chosen _ _ _ _ c.push.ensures.len (ap is_ok c.in_ok-push.was) in
     record {
-      numbered = numbered_insert _ _ _ _ _ _ _ _ _ _ c.insert.ensures.entries c.insert.ensures.err (omega (arith, longer)) (omega arith)
+      numbered = numbered_insert _ _ _ _ _ _ _ _ _ _ _ _ c.insert.ensures.entries c.insert.ensures.err (omega (arith, longer)) (omega arith) (omega arith)
           (grind (arith, common_steps, longer, c.len-number.ensures)) c.args.self.now.numbered;
     }
 
@@ -21,10 +21,10 @@ returns-clause-others c = λ other differs.
 
 -- memory ran out before the name was put into the table
 pub returns-in_err-key : goal.returns-in_err-key
-returns-in_err-key c = declares_no_type _ _ _ _ _ _ _ _ c.from_residual.result c.from_residual.ensures.1 (λ other differs. refl) refl
+returns-in_err-key c = declares_no_type _ _ _ _ _ _ _ _ _ c.from_residual.result c.from_residual.ensures.1 (λ other differs. refl) refl refl
 
 pub returns-in_err-name : goal.returns-in_err-name
-returns-in_err-name c = declares_no_type _ _ _ _ _ _ _ _ c.from_residual-in_err-name.result c.from_residual-in_err-name.ensures.1 (λ other differs. refl) refl
+returns-in_err-name c = declares_no_type _ _ _ _ _ _ _ _ _ c.from_residual-in_err-name.result c.from_residual-in_err-name.ensures.1 (λ other differs. refl) refl refl
 
 pub returns-in_err-push : goal.returns-in_err-push
-returns-in_err-push c = declares_no_type _ _ _ _ _ _ _ _ c.from_residual-in_err-push.result c.from_residual-in_err-push.ensures.1 (λ other differs. refl) refl
+returns-in_err-push c = declares_no_type _ _ _ _ _ _ _ _ _ c.from_residual-in_err-push.result c.from_residual-in_err-push.ensures.1 (λ other differs. refl) refl refl

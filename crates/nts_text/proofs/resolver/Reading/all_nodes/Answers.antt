@@ -1,5 +1,5 @@
 use Rattle.std.proofs.lemmas.Option.{slice_get-get_or}
-use Rattle.nts_text.proofs.FaultLemmas.{unknown_on, twice_on}
+use Rattle.nts_text.proofs.FaultLemmas.{unknown_on, twice_on, rigid_on}
 use Rattle.std.proofs.Common.{◌≡◌, Err, [], length, vec_len, reverse, drop, get_or, subst, sym, ap, arith, ◌∙◌}
 use Rattle.std.proofs.lemmas.Grind.{common_steps}
 use Rattle.std.proofs.lemmas.List.{append-nil, take_all}
@@ -62,6 +62,17 @@ returns-in_err-resolved-clause-twice c =
       get_or c.args.nodes.now c.loop-node.node-index no_node,
       slice_get-get_or c.args.nodes.now c.loop-node.node-index no_node c.loop-node-test.true,
       subst (λ b. IsBoundTwice c.args.self.now.names.now c.args.self.now.line.now b (get_or c.args.nodes.now c.loop-node.node-index no_node)) c.loop-node.invariant.bound (c.in_err-resolved.ensures.twice (ap Err e)),
+    ))
+
+-- the alias that is rigid
+pub returns-in_err-resolved-clause-rigid : goal.returns-in_err-resolved-clause-rigid
+returns-in_err-resolved-clause-rigid c =
+    rigid_on c.from_residual.result c.in_err-resolved.field-0.0 _ c.from_residual.ensures.1
+    (λ e. (
+      c.loop-node.node-index,
+      get_or c.args.nodes.now c.loop-node.node-index no_node,
+      slice_get-get_or c.args.nodes.now c.loop-node.node-index no_node c.loop-node-test.true,
+      c.in_err-resolved.ensures.rigid (ap Err e),
     ))
 
 pub returns-then-is_empty-clause-means : goal.returns-then-is_empty-clause-means

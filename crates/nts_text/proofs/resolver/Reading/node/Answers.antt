@@ -1,5 +1,5 @@
 use Rattle.std.proofs.Common.{◌≡◌, sym, ◌∙◌}
-use Rattle.nts_text.specs.declared.predicates.Role.TheVariants.{Bound, Trait, Argument}
+use Rattle.nts_text.specs.declared.predicates.Role.TheVariants.{Bound, Trait, Normalizes, Argument}
 use Rattle.nts_text.proofs.ReadingLemmas.{IfOk-map, no_argument}
 use Rattle.nts_text.specs.Binders.{bound_names}
 use Rattle.nts_text.proofs.resolver.Reading.node.Goals as goal
@@ -16,3 +16,9 @@ returns-in-Bound-None-clause-free c = λ is. IfOk-map c.bound.result (λ x m. no
 
 pub returns-in-Trait-None-clause-free : goal.returns-in-Trait-None-clause-free
 returns-in-Trait-None-clause-free c = λ is. IfOk-map c.trait_node.result (λ x m. no_argument x (λ a. let f : Trait ≡ Argument = sym m ∙ a in cc)) c.trait_node.ensures.role
+
+pub returns-in-Normalizes-None-clause-means : goal.returns-in-Normalizes-None-clause-means
+returns-in-Normalizes-None-clause-means c = c.alias_node.ensures.means c.args.scope.now (bound_names c.args.bounds.now)
+
+pub returns-in-Normalizes-None-clause-free : goal.returns-in-Normalizes-None-clause-free
+returns-in-Normalizes-None-clause-free c = λ is. IfOk-map c.alias_node.result (λ x m. no_argument x (λ a. let f : Normalizes ≡ Argument = sym m ∙ a in cc)) c.alias_node.ensures.role

@@ -39,6 +39,7 @@ returns-in-RegionParam c =
       free = e.free;
       unknown = λ is. absurd (e.unknown is);
       twice = e.twice;
+      rigid = λ is. absurd (e.rigid is);
     }
 
 -- a name

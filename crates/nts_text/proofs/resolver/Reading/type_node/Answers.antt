@@ -21,6 +21,7 @@ returns-in-Name c =
       free = λ is. IfOk-map c.type_name.result (λ x m. name_is_free c.args.self.now.names.now c.args.scope.now c.args.self.now.line.now (bound_names c.args.bounds.now) c.args.node x c.in-Name.is m) (e.means c.args.scope.now);
       unknown = e.unknown;
       twice = e.twice;
+      rigid = λ is. absurd (e.rigid is);
     }
 
 -- a variable
