@@ -7,8 +7,9 @@ use Rattle.nts_store.specs.Growth.{Extends}
 use Rattle.nts_store.proofs.Growing.{Extends-refl}
 use Rattle.nts_terms.specs.declared.cx.Cx.{Cx}
 use Rattle.nts_terms.specs.Rest.{Grows}
-use Rattle.nts_terms.specs.Signatures.{Declared, with_ctor, with_trait}
-use Rattle.nts_text.specs.Resolution.{trait_sorts}
+use Rattle.nts_terms.specs.Signatures.{Declared, with_ctor, with_trait, with_alias}
+use Rattle.nts_terms.specs.declared.declarations.AliasKind.TheVariants.{Projection}
+use Rattle.nts_text.specs.Resolution.{trait_sorts, alias_sorts}
 use Rattle.nts_text.specs.declared.commands.Command.{Command}
 use Rattle.nts_text.specs.declared.commands.Command.TheVariants as commands
 use Rattle.nts_delegate.specs.Adding.{AddsClause}
@@ -77,6 +78,12 @@ heads_declared old new (commands.Trait n false) f h =
     heads_beside old new (with_trait old.cx.declarations (trait_sorts new.names n)) f.0 (λ i ss e. get_front old.cx.declarations.traits (trait_sorts new.names n ∷ []) i ss e)
     (λ i. ap (λ x. clauses_of x i) f.1.clauses) h
 heads_declared old new (commands.Impl head body) f h = heads_added old.cx new.cx old.clauses new.clauses f.0 f.1 f.3 f.4 h
+heads_declared old new (commands.Alias n true) f h =
+    heads_beside old new (with_alias old.cx.declarations (alias_sorts new.names n) Projection) f.0 (λ i ss e. e) f.1.clauses h
+heads_declared old new (commands.Alias n false) f h =
+    heads_beside old new (with_alias old.cx.declarations (alias_sorts new.names n) Projection) f.0 (λ i ss e. e) (λ i. ap (λ x. clauses_of x i) f.1.clauses) h
+heads_declared old new (commands.Norm head body) f h =
+    heads_later old.cx new.cx old.clauses new.clauses (λ i ss e. ap (λ d. slice_get d.traits i) f.3.rest.declarations ∙ e) f.3.extends f.1.clauses h
 heads_declared old new (commands.Goal nodes) f h = heads_same old.cx new.cx old.clauses new.clauses f.0 f.1.clauses h
 heads_declared old new (commands.Env nodes) f h = subst (HeadsFit new.cx) (sym f.2) (heads_grown old.cx new.cx old.clauses f.1 h)
 

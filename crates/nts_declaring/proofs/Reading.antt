@@ -22,6 +22,9 @@ module _ (old new : Program) (names : NameTable) (scope : Scope) where
   declared_from (commands.Type n params) h = (h.0, rules_from h.1)
   declared_from (commands.Trait n true) h = h
   declared_from (commands.Trait n false) h = (h.0, rules_from h.1)
+  declared_from (commands.Alias n true) h = h
+  declared_from (commands.Alias n false) h = (h.0, rules_from h.1)
   declared_from (commands.Impl head body) h = h
+  declared_from (commands.Norm head body) h = h
   declared_from (commands.Goal nodes) h = (h.0, rules_from h.1)
   declared_from (commands.Env nodes) h = h

@@ -1,23 +1,24 @@
 //! The state of a run, and what each command but a goal does to it.
 ghost use Rattle.std.specs.Prelude.{◌≡◌, true, false, length, map, IfOk, IfErr, OnOk};
-ghost use Rattle.nts_delegate.specs.Adding.{AddsClause, MakesCoinductive};
+ghost use Rattle.nts_delegate.specs.Adding.{AddsClause, AddsNormClause, MakesCoinductive, MakesRigid};
 ghost use Rattle.nts_delegate.specs.Clauses.{AreClausesReady};
+ghost use Rattle.nts_delegate.specs.declared.alias_table.NormClause.{NormClause};
 ghost use Rattle.nts_delegate.specs.declared.clauses.Clause.{Clause};
-ghost use Rattle.nts_text.specs.Resolution.{trait_sorts};
+ghost use Rattle.nts_text.specs.Resolution.{trait_sorts, alias_sorts};
 ghost use Rattle.nts_wording.specs.Fitting.{HeadFits};
-ghost use Rattle.nts_wording.specs.Meaning.{IsRuleOf};
+ghost use Rattle.nts_wording.specs.Meaning.{IsRuleOf, IsNormRuleOf};
 ghost use Rattle.nts_wording.specs.Answers.{IsAnswerPut};
 ghost use Rattle.nts_wording.specs.Growing.{Begins};
 ghost use Rattle.nts_wording.specs.Statuses.{is_refusal};
 ghost use Rattle.nts_declaring.specs.Heads.{HeadsFit};
-ghost use Rattle.nts_declaring.specs.Declaring.{IsNewProgram, DeclaresType, DeclaresTrait, HasDeclared, KeepsRules, AssumesNodes, IsInStep};
+ghost use Rattle.nts_declaring.specs.Declaring.{IsNewProgram, DeclaresType, DeclaresTrait, DeclaresAlias, next_alias, HasDeclared, KeepsRules, AssumesNodes, IsInStep};
 ghost use Rattle.nts_terms.specs.Rest.{Grows};
 
 use nts_delegate::Clauses;
 use nts_model::{Sort, Variance};
-use nts_terms::{Cx, ParamEnv, are_variances};
-use nts_text::{Command, Mode, NameTable, Param, Resolved, Scope};
-use nts_wording::{Answer, MISFIT, Stop, clause_of, environment_of, write_answer};
+use nts_terms::{AliasDefId, AliasKind, Cx, ParamEnv, are_variances};
+use nts_text::{Command, Mode, NameTable, Param, Refusal, Resolved, Scope};
+use nts_wording::{Answer, MISFIT, Stop, clause_of, environment_of, norm_clause_of, write_answer};
 use std::alloc::{AllocError, Global};
 use std::io::Write;
 
@@ -100,7 +101,9 @@ impl Program {
                 number,
                 coinductive,
             } => self.declare_trait(*number, *coinductive),
+            Command::Alias { number, is_rigid } => self.declare_alias(*number, *is_rigid),
             Command::Impl { head, body } => self.add_impl(head, body),
+            Command::Norm { head, body } => self.add_norm(head, body),
             Command::Env(nodes) => self.assume(nodes),
             Command::Goal(_) => Ok(()),
         }
@@ -169,6 +172,62 @@ impl Program {
             return Err(MISFIT);
         }
         self.clauses.add_clause(&self.cx, clause)?;
+        Ok(())
+    }
+
+    #[tactic(auto, using(crate::proofs::Values::keeping))]
+    fn declare_alias(&mut self, number: usize, is_rigid: bool) -> Result<(), Stop>
+        requires ready { AreClausesReady self.old.cx.nodes self.old.clauses }
+        ensures ready { OnOk result (AreClausesReady self.new.cx.nodes self.new.clauses) }
+        ensures declared { OnOk result (DeclaresAlias (alias_sorts self.old.names number)
+            self.old.cx self.new.cx) }
+        ensures rigid { OnOk result (is_rigid ≡ true →
+            MakesRigid self.old.clauses self.new.clauses (next_alias self.old.cx)) }
+        ensures loose { OnOk result (is_rigid ≡ false → self.new.clauses ≡ self.old.clauses) }
+        ensures mode { self.new.mode ≡ self.old.mode }
+        ensures env { self.new.env ≡ self.old.env }
+        ensures names { self.new.names ≡ self.old.names }
+        ensures scope { self.new.scope ≡ self.old.scope }
+    {
+        let names = &self.names;
+        let Some(signature) = names.aliases.get(number) else {
+            return Err(MISFIT);
+        };
+        let id = self
+            .cx
+            .declare_alias(&signature.sorts, AliasKind::Projection)?;
+        if is_rigid {
+            let is_made = self.clauses.set_rigid(AliasDefId::Ty(id))?;
+            // A new alias has no clauses.
+            if !is_made {
+                return Err(MISFIT);
+            }
+        }
+        Ok(())
+    }
+
+    /// Adds what an alias normalizes to.
+    #[tactic(auto, using(crate::proofs::Values::keeping))]
+    fn add_norm(&mut self, head: &[Resolved], body: &[Resolved]) -> Result<(), Stop>
+        requires ready { AreClausesReady self.old.cx.nodes self.old.clauses }
+        ensures ready { OnOk result (AreClausesReady self.new.cx.nodes self.new.clauses) }
+        ensures added { OnOk result ((c : NormClause) × AddsNormClause self.old.clauses
+            self.new.clauses c × IsNormRuleOf self.new.cx.nodes head.now body.now c) }
+        ensures grows { OnOk result (Grows self.old.cx self.new.cx) }
+        ensures mode { self.new.mode ≡ self.old.mode }
+        ensures env { self.new.env ≡ self.old.env }
+        ensures names { self.new.names ≡ self.old.names }
+        ensures scope { self.new.scope ≡ self.old.scope }
+    {
+        let clause = norm_clause_of(&mut self.cx, head, body)?;
+        if !Clauses::norm_clause_fits(&self.cx, &clause)? {
+            return Err(MISFIT);
+        }
+        let is_added = self.clauses.add_norm_clause(clause)?;
+        // The reader of lines refuses this before.
+        if !is_added {
+            return Err(Stop::Refused(Refusal::AliasIsRigid));
+        }
         Ok(())
     }
 

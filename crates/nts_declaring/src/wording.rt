@@ -295,15 +295,33 @@ impl Wording<'_> {
             Label::Ty(TyHead::Uint(uint)) => self.write(uint_name(uint)),
             Label::Ty(TyHead::Ctor(number)) => {
                 let names = self.names;
-                self.write(name_of(&names.types, number))?;
-                let nodes = &self.cx.nodes;
-                if nodes.child_count(term) == 0 {
-                    return Ok(());
-                }
-                self.open(nodes.child(term, 0), pieces)
+                self.declared(name_of(&names.types, number), term, pieces)
+            }
+            Label::Ty(TyHead::Alias(number)) => {
+                let names = self.names;
+                self.declared(name_of(&names.aliases, number), term, pieces)
             }
             _ => self.write(b"_"),
         }
+    }
+
+    /// The name of a declared type or alias, and the bracket behind it if it has arguments.
+    fn declared(
+        &mut self,
+        name: &[u8],
+        term: NodeId,
+        pieces: &mut Vec<Piece>,
+    ) -> Result<(), AllocError>
+        requires { IsIn self.old.cx.now.nodes term }
+        ensures more { OnOk result (Lengthens self.old.text.items self.new.text.items) }
+        ensures rest { self.new ≡ record self.old { text = self.new.text } }
+    {
+        self.write(name)?;
+        let nodes = &self.cx.nodes;
+        if nodes.child_count(term) == 0 {
+            return Ok(());
+        }
+        self.open(nodes.child(term, 0), pieces)
     }
 
     /// The bracket in front of these arguments, if there are any.
@@ -455,7 +473,7 @@ fn spelling(names: &IndexSet<Vec<u8>>, number: usize) -> Option<&[u8]> {
     }
 }
 
-/// The name of a declared type or trait.
+/// The name of a declared type, trait or alias.
 fn name_of(declared: &[Signature], number: usize) -> &[u8] {
     match declared.get(number) {
         Some(signature) => &signature.name,

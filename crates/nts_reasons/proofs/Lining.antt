@@ -1,5 +1,5 @@
 -- Lines are in step with clauses.
-use Rattle.std.proofs.Common.{◌≡◌, ◌⊎◌, ℕ, ◌≤◌, ◌==◌, Bool, true, false, if◌then◌else◌, List, [], ◌∷◌, ◌++◌, map, length, take, length-append, Option, None, Some, Result, Ok, Err, inl, inr, refl, sym, ap, ◌∙◌, arith}
+use Rattle.std.proofs.Common.{◌≡◌, ◌⊎◌, ℕ, suc, ◌≤◌, ◌==◌, Bool, true, false, if◌then◌else◌, List, [], ◌∷◌, ◌++◌, map, length, take, length-append, Option, None, Some, Result, Ok, Err, inl, inr, refl, sym, ap, ◌∙◌, arith}
 use Rattle.std.specs.Prelude.{IfOk, OnOk}
 use Rattle.nts_model.specs.declared.labels.ClauseHead.TheVariants as clause
 use Rattle.nts_model.specs.declared.labels.Label.TheVariants as label
@@ -67,6 +67,11 @@ first_named v (nodes.RegionOutlives ∷ rs) b bs n e h =
     let same : binding_nothing (term_of v nodes.RegionOutlives (take 2 m.arguments)) ≡ b = cc in
     let t : term_of v nodes.RegionOutlives (take 2 m.arguments) ≡ node (label.Clause (clause.Trait n)) h.0 = ap (λ x. x.statement) same ∙ h.1 in
     cc
+first_named v (nodes.Normalizes i k ∷ rs) b bs n e h =
+    let m = nodes_meaning v rs in
+    let same : binding_nothing (term_of v (nodes.Normalizes i k) (take (suc k) m.arguments)) ≡ b = cc in
+    let t : term_of v (nodes.Normalizes i k) (take (suc k) m.arguments) ≡ node (label.Clause (clause.Trait n)) h.0 = ap (λ x. x.statement) same ∙ h.1 in
+    cc
 first_named v (r ∷ rs) b bs n e h = first_named v rs b bs n e h
 
 -- the trait of a clause is the one that the words of its head name
@@ -97,6 +102,9 @@ module _ (a b : Explainer) (n : ℕ) where
       let e : Some k.0 ≡ Some r.0.trait_id.number = sym k.1 ∙ trait_of-rule b.program.cx.nodes head.items body.items r.0 r.2 in
       let same : k.0 ≡ r.0.trait_id.number = cc in
       by_rule r.0 k.0 same r.1 k.2 h
+  by_command (commands.Alias t true) o f k h = same_lines a b k f.1.1.clauses h
+  by_command (commands.Alias t false) o f k h = same_lines a b k (λ i. ap (λ x. clauses_of x i) f.1.1.clauses) h
+  by_command (commands.Norm head body) o f k h = same_lines a b k f.1.1.clauses h
   by_command (commands.Goal rs) o f k h = same_lines a b k (λ i. ap (λ x. clauses_of x i) f.4.clauses) h
   by_command (commands.Env rs) o f k h = same_lines a b k (λ i. ap (λ x. clauses_of x i) f.1.2) h
 
@@ -130,6 +138,7 @@ none_named v (nodes.Binds s ∷ rs) e = none_named v rs (none_bound s (nodes_mea
 none_named v (nodes.Trait i k ∷ rs) e = cc
 none_named v (nodes.TypeOutlives ∷ rs) e = cc
 none_named v (nodes.RegionOutlives ∷ rs) e = cc
+none_named v (nodes.Normalizes i k ∷ rs) e = cc
 none_named v (r ∷ rs) e = none_named v rs e
 
 -- the one predicate that nodes say is about the trait that they name
@@ -150,6 +159,11 @@ named_first v (nodes.TypeOutlives ∷ rs) b n e h =
     let some : trait_of rs ≡ Some n = h in
     cc
 named_first v (nodes.RegionOutlives ∷ rs) b n e h =
+    let none : (nodes_meaning v rs).predicates ≡ [] = cc in
+    let no : trait_of rs ≡ None = none_named v rs none in
+    let some : trait_of rs ≡ Some n = h in
+    cc
+named_first v (nodes.Normalizes i k ∷ rs) b n e h =
     let none : (nodes_meaning v rs).predicates ≡ [] = cc in
     let no : trait_of rs ≡ None = none_named v rs none in
     let some : trait_of rs ≡ Some n = h in

@@ -1,9 +1,10 @@
--- What nodes mean that say what outlives a region.
+-- What nodes mean that say what outlives a region or what an alias normalizes to.
 use Rattle.std.proofs.Common.{◌≡◌, List, [], ◌∷◌, refl}
 use Rattle.std.specs.Global.{Vec}
 use Rattle.nts_model.specs.declared.labels.Label.TheVariants as label
 use Rattle.nts_model.specs.declared.labels.Leaf.TheVariants as leaf
 use Rattle.nts_model.specs.declared.labels.FreeRegion.TheVariants as free
+use Rattle.nts_model.specs.declared.labels.AliasHead.TheVariants as alias
 use Rattle.nts_model.specs.declared.labels.TyHead.TheVariants as ty
 use Rattle.nts_model.specs.declared.labels.ClauseHead.TheVariants as clause
 use Rattle.nts_model.specs.declared.labels.Sort.TheVariants as sort
@@ -16,7 +17,7 @@ use Rattle.nts_terms.specs.declared.handles.Region.{Region}
 use Rattle.nts_terms.specs.declared.kinds.ClauseKind.{ClauseKind}
 use Rattle.nts_terms.specs.declared.kinds.ClauseKind.TheVariants as statements
 use Rattle.nts_text.specs.declared.resolver.Resolved.TheVariants as nodes
-use Rattle.nts_wording.specs.Meaning.{BoundStatement, nodes_meaning, no_values, MakesStatement, TakesLast}
+use Rattle.nts_wording.specs.Meaning.{BoundStatement, argument_list, nodes_meaning, no_values, MakesStatement, TakesLast}
 
 abbrev static : Tree
 static = node (label.Leaf (leaf.Region free.Static)) empty
@@ -38,6 +39,18 @@ of_region = refl
 -- `for<P> P: 'static` binds a type
 bound : (nodes_meaning no_values (nodes.Binds sort.Ty ∷ nodes.TypeOutlives ∷ nodes.BoundType 0 ∷ nodes.Static ∷ [])).predicates ≡ [] → ⊥
 bound h = cc
+
+-- `A(u8) = u8`: the value is behind the arguments
+of_alias : says [] (node (label.Clause (clause.Projection (alias.Ty 0))) (more (argument_list (type_u8 ∷ [])) (more type_u8 empty)))
+    (nodes_meaning no_values (nodes.Normalizes 0 1 ∷ nodes.Uint U8 ∷ nodes.Uint U8 ∷ [])).predicates
+of_alias = refl
+
+-- an alias alone is a type and states nothing
+alias_is_none : (nodes_meaning no_values (nodes.Alias 0 1 ∷ nodes.Uint U8 ∷ [])).predicates ≡ []
+alias_is_none = refl
+
+alias_is_type : (nodes_meaning no_values (nodes.Alias 0 1 ∷ nodes.Uint U8 ∷ [])).arguments ≡ node (label.Ty (ty.Alias 0)) (more (argument_list (type_u8 ∷ [])) empty) ∷ []
+alias_is_type = refl
 
 -- a type alone states nothing, and no name of a type is stated
 type_is_none : (nodes_meaning no_values (nodes.Uint U8 ∷ [])).predicates ≡ []

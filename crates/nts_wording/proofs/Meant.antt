@@ -5,14 +5,19 @@ use Rattle.std.proofs.lemmas.List.{reverse-append}
 use Rattle.std.proofs.lemmas.List.Elements.{All-head, All-tail}
 use Rattle.nts_model.specs.declared.labels.Label.TheVariants as label
 use Rattle.nts_model.specs.declared.labels.ListHead.TheVariants as list
-use Rattle.nts_model.specs.Terms.Trees.{Tree, more, node}
+use Rattle.nts_model.specs.declared.labels.AliasHead.TheVariants as alias
+use Rattle.nts_model.specs.declared.labels.ClauseHead.TheVariants as clause_head
+use Rattle.nts_model.specs.Terms.Trees.{Tree, empty, more, node}
 use Rattle.nts_terms.specs.declared.handles.GenericArg.{GenericArg}
 use Rattle.nts_terms.specs.declared.handles.GenericArgs.{GenericArgs}
 use Rattle.nts_store.specs.Growth.{tree_at, trees_at, Extends}
 use Rattle.nts_terms.specs.declared.handles.Goal.{Goal}
 use Rattle.nts_terms.specs.declared.handles.ParamEnv.{ParamEnv}
 use Rattle.nts_terms.specs.declared.handles.Predicate.{Predicate}
+use Rattle.nts_terms.specs.declared.handles.AliasDefId.TheVariants as alias_def
+use Rattle.nts_terms.specs.declared.handles.Term.{Term}
 use Rattle.nts_terms.specs.declared.kinds.ClauseKind.{ClauseKind}
+use Rattle.nts_terms.specs.declared.kinds.ClauseKind.TheVariants as clause_kind
 use Rattle.nts_store.specs.declared.nodes.NodeId.{NodeId}
 use Rattle.nts_terms.specs.Handles.{HoldsArg, HoldsArgs, HoldsEnv}
 use Rattle.nts_terms.specs.Kinds.{tree_of_args, tree_of_clause, tree_of_env}
@@ -94,6 +99,10 @@ module _ (ts mid : List Tree) (variables : LineVariables) (values : List Generic
   made_argument (nodes.Ctor i n) last a h e makes pushed = λ us later.
       let was = h us (Extends-trans e later) in
       (one_more us last a _ (term_of (values_in us variables values) (nodes.Ctor i n)) n pushed was.0 (makes us later).0 (makes us later).1, was.1)
+  made_argument (nodes.Alias i n) last a h e makes pushed = λ us later.
+      let was = h us (Extends-trans e later) in
+      (one_more us last a _ (term_of (values_in us variables values) (nodes.Alias i n)) n pushed was.0 (makes us later).0 (makes us later).1, was.1)
+  made_argument (nodes.Normalizes i n) last a h e makes pushed = absurd makes
   made_argument (nodes.Int i) last a h e makes pushed = λ us later.
       let was = h us (Extends-trans e later) in
       (one_more us last a _ (term_of (values_in us variables values) (nodes.Int i)) 0 pushed was.0 (makes us later).0 (makes us later).1, was.1)
@@ -139,6 +148,7 @@ module _ (ts mid : List Tree) (variables : LineVariables) (values : List Generic
   made_statement (nodes.Trait i n) c b last h e makes unbound is pushed = stated (nodes.Trait i n) c b last (λ v m. refl) h e makes unbound is pushed
   made_statement nodes.TypeOutlives c b last h e makes unbound is pushed = stated nodes.TypeOutlives c b last (λ v m. refl) h e makes unbound is pushed
   made_statement nodes.RegionOutlives c b last h e makes unbound is pushed = stated nodes.RegionOutlives c b last (λ v m. refl) h e makes unbound is pushed
+  made_statement (nodes.Normalizes i n) c b last h e makes unbound is pushed = stated (nodes.Normalizes i n) c b last (λ v m. refl) h e makes unbound is pushed
   made_statement r c b last h e makes unbound is pushed = absurd makes
 
 -- the last argument is the first of those that are read from the end
@@ -150,6 +160,29 @@ taken_last old new a n e same = λ us.
 -- two arguments that were taken one after the other
 pub both_taken : (old mid new : Vec GenericArg) (a b : NodeId) → TakesLast old mid a → TakesLast mid new b → (us : List Tree) → made_trees us old ≡ tree_at us a ∷ tree_at us b ∷ made_trees us new
 both_taken old mid new a b h k us = h us ∙ ap (λ xs. tree_at us a ∷ xs) (k us)
+
+front_kept : {A : Type 0} (n : ℕ) (xs : List A) → take n (take (suc n) xs) ≡ take n xs
+front_kept zero xs = refl
+front_kept (suc n) [] = refl
+front_kept (suc n) (x ∷ xs) = ap (λ w. x ∷ w) (front_kept n xs)
+
+one_behind : {A : Type 0} (n : ℕ) (xs : List A) (x : A) (rest : List A) → drop n xs ≡ x ∷ rest → (drop n (take (suc n) xs) ≡ x ∷ []) × (drop (suc n) xs ≡ rest)
+one_behind zero [] x rest h = cc
+one_behind zero (y ∷ ys) x rest h = let first : y ≡ x = cc in (ap (λ w. w ∷ []) first, cc)
+one_behind (suc n) [] x rest h = cc
+one_behind (suc n) (y ∷ ys) x rest h = one_behind n ys x rest h
+
+-- the value of an alias is taken behind its arguments
+pub value_stated : (ts : List Tree) (old mid new : Vec GenericArg) (i n : ℕ) (args : GenericArgs) (value : NodeId) (term : Term) → TakesArguments ts old mid n args → TakesLast mid new value → term.node ≡ value
+    → StatesOf ts (nodes.Normalizes i n) old new (clause_kind.Projection (record { def_id = alias_def.Ty (record { number = i }); args = args }) term)
+value_stated ts old mid new i n args value term taken last is us v later =
+    let first = taken us later in
+    let second = one_behind n (made_trees us old) (tree_at us value) (made_trees us new) (sym first.1 ∙ last us) in (
+      ap (λ x. node (label.Clause (clause_head.Projection (alias.Ty i))) (more (tree_at us args.node) (more (tree_at us x) empty))) is
+          ∙ ap (λ x. node (label.Clause (clause_head.Projection (alias.Ty i))) (more x (more (tree_at us value) empty))) (first.0 ∙ ap argument_list (sym (front_kept n (made_trees us old))))
+          ∙ ap (λ xs. node (label.Clause (clause_head.Projection (alias.Ty i))) (more (argument_list (take n (take (suc n) (made_trees us old)))) (argument_row xs))) (sym second.0),
+      sym second.1,
+    )
 
 pub one_item : {A : Type 0} (xs : List A) (d : A) → 1 ≤ length xs → length xs < 2 → xs ≡ get_or xs 0 d ∷ []
 one_item [] d l h = absurd (omega (arith, l))

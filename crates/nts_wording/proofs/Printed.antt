@@ -1,5 +1,5 @@
 -- How the pieces of a term print its text.
-use Rattle.std.proofs.Common.{◌≡◌, ℕ, zero, suc, ◌+◌, ◌<◌, ◌≤◌, List, [], ◌∷◌, ◌++◌, length, reverse, refl, sym, ap, subst, ◌∙◌, append_assoc, arith}
+use Rattle.std.proofs.Common.{◌≡◌, ℕ, zero, suc, ◌+◌, ◌<◌, ◌≤◌, List, [], ◌∷◌, ◌++◌, length, reverse, Some, refl, sym, ap, subst, ◌∙◌, append_assoc, arith}
 use Rattle.std.specs.Prelude.{codes}
 use Rattle.std.proofs.lemmas.List.{append-nil, reverse-append, get_or_past}
 use Rattle.nts_model.specs.declared.labels.Label.TheVariants as label
@@ -13,7 +13,7 @@ use Rattle.nts_model.specs.declared.labels.Label.{Label}
 use Rattle.nts_model.specs.declared.labels.TyHead.{TyHead}
 use Rattle.nts_model.specs.declared.labels.TyHead.TheVariants as ty
 use Rattle.nts_model.specs.declared.labels.Leaf.{Leaf}
-use Rattle.nts_wording.specs.Printing.{Lexicon, Seen, IsText, IsUnnamedType, separator, in_brackets, type_name}
+use Rattle.nts_wording.specs.Printing.{Lexicon, Seen, IsText, IsUnnamedType, separator, in_brackets, type_name, head_name}
 use Rattle.nts_wording.specs.Pieces.{ArePrinted, Completes, Opens}
 use Rattle.nts_replacing.proofs.Replacing.{row_drop as row_from}
 
@@ -125,19 +125,25 @@ arguments_of (more (node l row) (more x y)) h = absurd h.1
 arguments_of (more (node l row) (node k d)) h = absurd h.1
 arguments_of (node l c) h = absurd h
 
--- a constructed type: its name, and its arguments
-pub constructs : (n : Lexicon) (old between : Seen) (t : NodeId) (i : ℕ) (c list : Tree) (ps qs : List Piece) (name text : List ℕ)
-    → tree_at n.trees t ≡ node (label.Ty (ty.Ctor i)) c → Meets (in_order (is arguments ∷ [])) c → list ≡ row_at c 0 → name ≡ type_name n.types i
+-- what is declared, with arguments: its name, and these
+named : (n : Lexicon) (h : TyHead) (name : List ℕ) → head_name n h ≡ Some name → (old new : Seen) (row : Tree) (x : List ℕ) → IsText n old row x new
+    → IsText n old (node (label.Ty h) (more (node (label.List heads.Args) row) empty)) (name ++ in_brackets row x) new
+named n (ty.Ctor i) name e old new row x texts = let same : type_name n.types i ≡ name = cc in (x, texts, ap (λ w. w ++ in_brackets row x) (sym same))
+named n (ty.Alias i) name e old new row x texts = let same : type_name n.aliases i ≡ name = cc in (x, texts, ap (λ w. w ++ in_brackets row x) (sym same))
+named n _ name e old new row x texts = cc
+
+pub constructs : (n : Lexicon) (old between : Seen) (t : NodeId) (head : TyHead) (c list : Tree) (ps qs : List Piece) (name text : List ℕ)
+    → tree_at n.trees t ≡ node (label.Ty head) c → Meets (in_order (is arguments ∷ [])) c → list ≡ row_at c 0 → head_name n head ≡ Some name
     → Opens n old (children list) ps text between qs → Completes n old (pieces.Term t ∷ ps) (name ++ text) between qs
-constructs n old between t i c list ps qs name text tree meets lists named h = λ rest new all.
+constructs n old between t head c list ps qs name text tree meets lists is_named h = λ rest new all.
     let (x, y, middle, texts, older, e) = h rest new all in
     let row = children list in
-    let whole : tree_at n.trees t ≡ node (label.Ty (ty.Ctor i)) (more (node (label.List heads.Args) row) empty) =
-    tree ∙ ap (node (label.Ty (ty.Ctor i))) (arguments_of c meets ∙ ap (λ l. more (node (label.List heads.Args) (children l)) empty) (sym lists)) in (
+    let whole : tree_at n.trees t ≡ node (label.Ty head) (more (node (label.List heads.Args) row) empty) =
+    tree ∙ ap (node (label.Ty head)) (arguments_of c meets ∙ ap (λ l. more (node (label.List heads.Args) (children l)) empty) (sym lists)) in (
       name ++ in_brackets row x,
       y,
       middle,
-      rw whole (x, texts, ap (λ w. w ++ in_brackets row x) named),
+      subst (λ w. IsText n old w (name ++ in_brackets row x) middle) (sym whole) (named n head name is_named old middle row x texts),
       older,
       append_assoc name text rest ∙ ap (λ w. name ++ w) e ∙ sym (append_assoc name (in_brackets row x) y),
     )

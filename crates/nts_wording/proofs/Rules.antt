@@ -1,18 +1,17 @@
--- The clause that an impl says.
+-- The rule that a line says.
 use Rattle.std.proofs.Common.{◌≡◌, ℕ, ◌+◌, ◌<◌, List, [], ◌∷◌, ◌++◌, All, map, reverse, take, get_or, length, sym, ap, ◌∙◌}
 use Rattle.std.proofs.lemmas.List.{map-append, take_more}
+use Rattle.nts_model.specs.declared.labels.Sort.{Sort}
 use Rattle.nts_model.specs.Terms.Trees.{Tree}
 use Rattle.nts_store.specs.Growth.{tree_at, Extends}
 use Rattle.nts_store.proofs.Growing.{Extends-trans}
-use Rattle.nts_delegate.specs.declared.clauses.Clause.{Clause}
 use Rattle.nts_terms.specs.declared.handles.GenericArg.{GenericArg}
 use Rattle.nts_terms.specs.declared.handles.Predicate.{Predicate}
-use Rattle.nts_terms.specs.declared.kinds.ClauseKind.TheVariants as clause_kind
 use Rattle.nts_terms.specs.Kinds.{tree_of_clause}
 use Rattle.nts_wording.specs.declared.build.BoundClause.{BoundClause}
 use Rattle.nts_text.specs.declared.resolver.Resolved.{Resolved}
 use Rattle.nts_wording.specs.declared.variables.LineVariables.{LineVariables}
-use Rattle.nts_wording.specs.Meaning.{statements, AreSaid, States, AreConditions, predicate_tree, binding_nothing, HasOwnPlaces, HasPlace, AreClausePositions, IsRuleOf}
+use Rattle.nts_wording.specs.Meaning.{statements, AreSaid, States, AreConditions, predicate_tree, HasOwnPlaces, HasPlace, AreClausePositions, IsStatedRule}
 
 -- what holds of the predicates holds of the conditions
 pub conditions_said : (a ts : List Tree) (variables : LineVariables) (values : List GenericArg) (rs : List Resolved) (traits : List BoundClause) (ps : List Predicate)
@@ -33,21 +32,19 @@ stated_push mid ts traits i d ps p lt h e states us later =
     ∙ ap (λ t. map predicate_tree (statements us (take i traits)) ++ t ∷ []) (states us later)
     ∙ sym (ap (map predicate_tree) parts ∙ map-append predicate_tree (statements us (take i traits)) (statements us (r ∷ [])))
 
--- the clause of the one trait that the head says
-pub rule_of : (a b ts : List Tree) (variables : LineVariables) (values : List GenericArg) (head body : List Resolved) (traits : List BoundClause) (r : BoundClause) (c : Clause)
-    → HasOwnPlaces variables → All (HasPlace variables) head × All (HasPlace variables) body → c.fresh.items ≡ variables.sorts.items → r.binds.items ≡ [] → r.clause ≡ clause_kind.Trait (record { def_id = c.trait_id; args = c.head })
-    → AreClausePositions ts variables.sorts.items values → AreSaid a variables values head traits → traits ≡ r ∷ [] → Extends a ts
-    → AreConditions b variables values body c.body.items → Extends b ts
-    → IsRuleOf ts head body c
-rule_of a b ts variables values head body traits r c own placed fresh unbound is positions said one e conditions f = record {
+-- the rule of the one predicate that the head says
+pub rule_of : (a b ts : List Tree) (variables : LineVariables) (values : List GenericArg) (head body : List Resolved) (found : List BoundClause) (r : BoundClause) (fresh : List Sort) (conditions : List Predicate)
+    → HasOwnPlaces variables → All (HasPlace variables) head × All (HasPlace variables) body → fresh ≡ variables.sorts.items → r.binds.items ≡ []
+    → AreClausePositions ts variables.sorts.items values → AreSaid a variables values head found → found ≡ r ∷ [] → Extends a ts
+    → AreConditions b variables values body conditions → Extends b ts
+    → IsStatedRule ts head body fresh (tree_of_clause ts r.clause) conditions
+rule_of a b ts variables values head body found r fresh conditions own placed sorts unbound positions said one e are f = record {
   variables = variables;
   values = values;
   own = own;
   placed = placed;
-  sorts = fresh;
-  positions = rw fresh positions;
-  head = sym (said ts e) ∙ ap (statements ts) one
-      ∙ ap (λ xs. record { binds = reverse xs; statement = tree_of_clause ts r.clause } ∷ []) unbound
-      ∙ ap (λ k. binding_nothing (tree_of_clause ts k) ∷ []) is;
-  body = conditions ts f;
+  sorts = sorts;
+  positions = rw sorts positions;
+  head = sym (said ts e) ∙ ap (statements ts) one ∙ ap (λ xs. record { binds = reverse xs; statement = tree_of_clause ts r.clause } ∷ []) unbound;
+  body = are ts f;
 }

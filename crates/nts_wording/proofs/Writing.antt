@@ -2,12 +2,12 @@
 use Rattle.std.proofs.Common.{◌≡◌, ◌<◌, ◌≤◌, List, ℕ, zero, suc, arith, Bool, true, false, [], ◌∷◌, ◌++◌, refl, sym, ap, subst, ◌∙◌, append_assoc, Option, Some, None, Result, Ok, Err}
 use Rattle.std.specs.Prelude.{OnOk, length}
 use Rattle.nts_model.specs.declared.labels.Label.TheVariants as label
-use Rattle.nts_model.specs.declared.labels.TyHead.TheVariants as ty
+use Rattle.nts_model.specs.declared.labels.TyHead.{TyHead}
 use Rattle.nts_model.specs.Terms.Trees.{Tree, node, children, row_at, in_order, is, arguments, Meets}
 use Rattle.nts_store.specs.Growth.{tree_at}
 use Rattle.nts_wording.specs.declared.printer.Piece.{Piece}
 use Rattle.nts_wording.specs.declared.printer.Piece.TheVariants as pieces
-use Rattle.nts_wording.specs.Printing.{Seen, type_name}
+use Rattle.nts_wording.specs.Printing.{Seen, head_name}
 use Rattle.nts_wording.proofs.Printed.{constructs, Completes-trans}
 use Rattle.std.proofs.lemmas.List.{append-nil}
 use Rattle.std.specs.Global.{Vec}
@@ -74,17 +74,17 @@ pub on_ok : {T E A B : Type 0} (r : Result T E) → (A → B) → OnOk r A → O
 on_ok (Ok x) f h = f h
 on_ok (Err e) f h = tt
 
--- a constructed type, whose name is written first
-pub constructs_after : (p q : Printer) (between : Seen) (t list : NodeId) (i : ℕ) (ps qs : List Piece) (name text : List ℕ)
+-- what is declared, with arguments: its name is written first
+pub constructs_after : (p q : Printer) (between : Seen) (t list : NodeId) (head : TyHead) (ps qs : List Piece) (name text : List ℕ)
     → Writes p q name → seen_by q ≡ seen_by p
-    → tree_at p.nodes.now t ≡ node (label.Ty (ty.Ctor i)) (children (tree_at p.nodes.now t)) → Meets (in_order (is arguments ∷ [])) (children (tree_at p.nodes.now t))
-    → tree_at q.nodes.now list ≡ row_at (children (tree_at q.nodes.now t)) 0 → name ≡ type_name p.names.now.types.items i
+    → tree_at p.nodes.now t ≡ node (label.Ty head) (children (tree_at p.nodes.now t)) → Meets (in_order (is arguments ∷ [])) (children (tree_at p.nodes.now t))
+    → tree_at q.nodes.now list ≡ row_at (children (tree_at q.nodes.now t)) 0 → head_name (lexicon_of p) head ≡ Some name
     → Opens (lexicon_of q) (seen_by q) (children (tree_at q.nodes.now list)) ps text between qs
     → Completes (lexicon_of p) (seen_by p) (pieces.Term t ∷ ps) (name ++ text) between qs
-constructs_after p q between t list i ps qs name text w seen label meets lists named opens =
+constructs_after p q between t list head ps qs name text w seen label meets lists named opens =
     let trees : q.nodes.now ≡ p.nodes.now = ap (λ n. n.trees) w.same in
     let row = children (tree_at q.nodes.now list) in
-    constructs (lexicon_of p) (seen_by p) between t i (children (tree_at p.nodes.now t)) (tree_at q.nodes.now list) ps qs name text
+    constructs (lexicon_of p) (seen_by p) between t head (children (tree_at p.nodes.now t)) (tree_at q.nodes.now list) ps qs name text
     label meets (lists ∙ ap (λ ts. row_at (children (tree_at ts t)) 0) trees) named
     (subst (λ s. Opens (lexicon_of p) s row ps text between qs) seen (subst (λ n. Opens n (seen_by q) row ps text between qs) w.same opens))
 

@@ -115,7 +115,7 @@ pub record IsFoundText (n : Lexicon) (s : Scope) (f : Found) (text : List ℕ) :
 -- what terms are printed with, where the variables that are left have these names
 abbrev pub lexicon_with : List Tree → NameTable → Scope → List (NodeId × List ℕ) → Lexicon
 lexicon_with ts names s variables =
-    record { trees = ts; types = names.types.items; parameters = s.parameters; variables = variables }
+    record { trees = ts; types = names.types.items; aliases = names.aliases.items; parameters = s.parameters; variables = variables }
 
 -- the text of an answer
 abbrev pub IsAnswerText : List Tree → NameTable → Scope → Answer → List ℕ → Type 0

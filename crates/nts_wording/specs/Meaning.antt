@@ -14,7 +14,10 @@ use Rattle.nts_model.specs.declared.labels.ListHead.TheVariants as list
 use Rattle.nts_model.specs.Canonical.Numbered.{position}
 use Rattle.nts_model.specs.Terms.Trees.{Tree, empty, more, node, variable_tree}
 use Rattle.nts_table.specs.Fresh.{variable_kind}
+use Rattle.nts_delegate.specs.declared.alias_table.NormClause.{NormClause}
 use Rattle.nts_delegate.specs.declared.clauses.Clause.{Clause}
+use Rattle.nts_terms.specs.Handles.{alias_head}
+use Rattle.nts_model.specs.declared.labels.AliasHead.TheVariants as alias
 use Rattle.nts_terms.specs.declared.handles.GenericArg.{GenericArg}
 use Rattle.nts_terms.specs.declared.handles.GenericArgs.{GenericArgs}
 use Rattle.nts_terms.specs.declared.kinds.ClauseKind.{ClauseKind}
@@ -46,6 +49,8 @@ argument_list ts = node (label.List list.Args) (argument_row ts)
 abbrev pub argument_count : Resolved → ℕ
 argument_count (nodes.Trait i n) = n
 argument_count (nodes.Ctor i n) = n
+argument_count (nodes.Alias i n) = n
+argument_count (nodes.Normalizes i n) = suc n
 argument_count nodes.TypeOutlives = 2
 argument_count nodes.RegionOutlives = 2
 argument_count r = 0
@@ -60,6 +65,9 @@ term_of v (nodes.Trait i n) args = node (label.Clause (clause.Trait i)) (more (a
 term_of v nodes.TypeOutlives args = node (label.Clause clause.TypeOutlives) (argument_row args)
 term_of v nodes.RegionOutlives args = node (label.Clause clause.RegionOutlives) (argument_row args)
 term_of v (nodes.Ctor i n) args = node (label.Ty (ty.Ctor i)) (more (argument_list args) empty)
+term_of v (nodes.Alias i n) args = node (label.Ty (ty.Alias i)) (more (argument_list args) empty)
+term_of v (nodes.Normalizes i n) args =
+    node (label.Clause (clause.Projection (alias.Ty i))) (more (argument_list (take n args)) (argument_row (drop n args)))
 term_of v (nodes.Int i) args = node (label.Ty (ty.Int i)) empty
 term_of v (nodes.Uint i) args = node (label.Ty (ty.Uint i)) empty
 term_of v (nodes.TypeVariable i) args = v.types i
@@ -104,6 +112,7 @@ meaning_before v (nodes.Binds s) m = record m { predicates = binding_first s m.p
 meaning_before v (nodes.Trait i n) m = statement_before v (nodes.Trait i n) m
 meaning_before v nodes.TypeOutlives m = statement_before v nodes.TypeOutlives m
 meaning_before v nodes.RegionOutlives m = statement_before v nodes.RegionOutlives m
+meaning_before v (nodes.Normalizes i n) m = statement_before v (nodes.Normalizes i n) m
 meaning_before v r m = record {
   arguments = term_of v r (take (argument_count r) m.arguments) ∷ drop (argument_count r) m.arguments;
   predicates = m.predicates;
@@ -192,6 +201,7 @@ MakesArgument ts variables values (nodes.Binds s) old new a = ⊥
 MakesArgument ts variables values (nodes.Trait i n) old new a = ⊥
 MakesArgument ts variables values nodes.TypeOutlives old new a = ⊥
 MakesArgument ts variables values nodes.RegionOutlives old new a = ⊥
+MakesArgument ts variables values (nodes.Normalizes i n) old new a = ⊥
 MakesArgument ts variables values r old new a =
     (us : List Tree) → Extends ts us
     → (tree_at us a.node ≡ term_of (values_in us variables values) r (take (argument_count r) (made_trees us old)))
@@ -212,6 +222,7 @@ abbrev pub MakesStatement : List Tree → Resolved → Vec GenericArg → Vec Ge
 MakesStatement ts (nodes.Trait i n) old new c = StatesOf ts (nodes.Trait i n) old new c
 MakesStatement ts nodes.TypeOutlives old new c = StatesOf ts nodes.TypeOutlives old new c
 MakesStatement ts nodes.RegionOutlives old new c = StatesOf ts nodes.RegionOutlives old new c
+MakesStatement ts (nodes.Normalizes i n) old new c = StatesOf ts (nodes.Normalizes i n) old new c
 MakesStatement ts r old new c = ⊥
 
 -- predicates are what nodes say, here and in each later store
@@ -264,18 +275,34 @@ AreConditions ts variables values rs ps =
 abbrev pub head_of : List Tree → Clause → Tree
 head_of ts c = node (label.Clause (clause.Trait c.trait_id.number)) (more (tree_at ts c.head.node) empty)
 
--- the clause has a variable for each variable of the nodes, its head is the one predicate that the
--- first nodes say, which binds nothing, and its conditions are those that the others say, in order
-pub record IsRuleOf (ts : List Tree) (first others : List Resolved) (c : Clause) : Type 0 where
+-- a rule has a variable for each variable of the nodes, its head states the one predicate that the first nodes
+-- say, which binds nothing, and its conditions are those that the others say, in order
+pub record IsStatedRule (ts : List Tree) (first others : List Resolved) (fresh : List Sort) (stated : Tree) (conditions : List Predicate) : Type 0 where
   pub variables : LineVariables
   pub values : List GenericArg
   pub own : HasOwnPlaces variables
   pub placed : All (HasPlace variables) first × All (HasPlace variables) others
-  pub sorts : c.fresh.items ≡ variables.sorts.items
-  pub positions : AreClausePositions ts c.fresh.items values
-  pub head : (nodes_meaning (values_in ts variables values) first).predicates ≡ binding_nothing (head_of ts c) ∷ []
-  pub body : map (λ p. tree_at ts p.node) c.body.items ≡ map predicate_tree (nodes_meaning (values_in ts variables values) others).predicates
+  pub sorts : fresh ≡ variables.sorts.items
+  pub positions : AreClausePositions ts fresh values
+  pub head : (nodes_meaning (values_in ts variables values) first).predicates ≡ binding_nothing stated ∷ []
+  pub body : map (λ p. tree_at ts p.node) conditions ≡ map predicate_tree (nodes_meaning (values_in ts variables values) others).predicates
+
+-- the clause of a trait is such a rule
+abbrev pub IsRuleOf : List Tree → List Resolved → List Resolved → Clause → Type 0
+IsRuleOf ts first others c = IsStatedRule ts first others c.fresh.items (head_of ts c) c.body.items
 
 -- here and in each later store
 abbrev pub IsRuleFor : List Tree → List Resolved → List Resolved → Clause → Type 0
 IsRuleFor ts head body c = (us : List Tree) → Extends ts us → IsRuleOf us head body c
+
+-- what a clause says of an alias, as a predicate: with the arguments of its head it normalizes to the result
+abbrev pub value_of : List Tree → NormClause → Tree
+value_of ts c =
+    node (label.Clause (clause.Projection (alias_head c.alias))) (more (tree_at ts c.head.node) (more (tree_at ts c.result.node) empty))
+
+-- the clause of an alias is such a rule, which states that
+abbrev pub IsNormRuleOf : List Tree → List Resolved → List Resolved → NormClause → Type 0
+IsNormRuleOf ts first others c = IsStatedRule ts first others c.fresh.items (value_of ts c) c.body.items
+
+abbrev pub IsNormRuleFor : List Tree → List Resolved → List Resolved → NormClause → Type 0
+IsNormRuleFor ts head body c = (us : List Tree) → Extends ts us → IsNormRuleOf us head body c

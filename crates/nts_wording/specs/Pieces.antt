@@ -19,6 +19,7 @@ abbrev pub lexicon_of : Printer → Lexicon
 lexicon_of p = record {
   trees = p.nodes.now;
   types = p.names.now.types.items;
+  aliases = p.names.now.aliases.items;
   parameters = p.scope.now.parameters;
   variables = names_in p.known.entries;
 }

@@ -10,6 +10,7 @@ use Rattle.nts_model.specs.declared.labels.FreeRegion.TheVariants as region
 use Rattle.nts_model.specs.declared.labels.Constant.TheVariants as constant
 use Rattle.nts_model.specs.declared.labels.Leaf.{Leaf}
 use Rattle.nts_model.specs.declared.labels.Leaf.TheVariants as leaf
+use Rattle.nts_model.specs.declared.labels.TyHead.{TyHead}
 use Rattle.nts_model.specs.declared.labels.TyHead.TheVariants as ty
 use Rattle.nts_model.specs.declared.labels.Label.TheVariants as label
 use Rattle.nts_model.specs.Terms.Trees.{Tree, empty, more, node}
@@ -20,11 +21,12 @@ use Rattle.nts_text.specs.Spelled.{type_names, region_names}
 use Rattle.nts_text.specs.declared.names.Signature.{Signature}
 use Rattle.nts_text.specs.declared.names.Spellings.{Spellings}
 
--- what terms are printed with: their trees, the declared types, the parameters, and the names of
+-- what terms are printed with: their trees, the declared types and aliases, the parameters, and the names of
 -- the variables that are left of a goal
 pub record Lexicon : Type 0 where
   pub trees : List Tree
   pub types : List Signature
+  pub aliases : List Signature
   pub parameters : Spellings
   pub variables : List (NodeId × List ℕ)
 
@@ -67,9 +69,15 @@ IsLeafText n l old t text new =
     (MatchBool (is_region_leaf l) (IsUnnamedRegion old t text new) (IsUnnamedType old t text new))
     (λ name. (text ≡ name) × (new ≡ old))
 
--- the name of a declared type
+-- the name of a declared type or alias
 abbrev pub type_name : List Signature → ℕ → List ℕ
 type_name types i = option_map_or (λ s. s.name.items) (slice_get types i) []
+
+-- .. by the head of its types
+abbrev pub head_name : Lexicon → TyHead → Option (List ℕ)
+head_name n (ty.Ctor i) = Some (type_name n.types i)
+head_name n (ty.Alias i) = Some (type_name n.aliases i)
+head_name n h = None
 
 -- what stands between an argument and those behind it
 abbrev pub separator : Tree → List ℕ
@@ -89,6 +97,8 @@ IsText n old (more a b) text new =
     (x y : List ℕ) × (between : Seen) × IsText n old a x between × IsText n between b y new × (text ≡ x ++ separator b ++ y)
 IsText n old (node (label.Ty (ty.Ctor i)) (more (node l row) empty)) text new =
     (x : List ℕ) × IsText n old row x new × (text ≡ type_name n.types i ++ in_brackets row x)
+IsText n old (node (label.Ty (ty.Alias i)) (more (node l row) empty)) text new =
+    (x : List ℕ) × IsText n old row x new × (text ≡ type_name n.aliases i ++ in_brackets row x)
 IsText n old (node (label.Ty (ty.Int i)) c) text new = (text ≡ word_of_int i) × (new ≡ old)
 IsText n old (node (label.Ty (ty.Uint i)) c) text new = (text ≡ word_of_uint i) × (new ≡ old)
 IsText n old (node (label.Leaf l) c) text new =

@@ -7,15 +7,17 @@ ghost use Rattle.nts_terms.specs.Signatures.{StatementIsDeclared};
 ghost use Rattle.nts_terms.specs.declared.kinds.TyKind.TheVariants as ty;
 ghost use Rattle.nts_wording.specs.Fitting.{IsDeclaredPredicate};
 ghost use Rattle.nts_wording.specs.Meaning.{tree_at_place, BindsFirst, TakesArguments, TakesLast, MakesArgument, MakesStatement, AreSaid, States, AreClausePositions};
-ghost use Rattle.nts_terms.specs.Handles.{HoldsArg, HoldsArgs, HoldsPredicate};
+ghost use Rattle.nts_terms.specs.Handles.{HoldsArg, HoldsArgs, HoldsPredicate, HoldsResult};
+ghost use Rattle.nts_terms.specs.declared.handles.AliasDefId.TheVariants as alias_def;
 ghost use Rattle.nts_terms.specs.Rest.{Grows};
 
 use crate::status::Stop;
 use crate::variables::LineVariables;
 use nts_model::{BoundVarIndexKind, Sort};
 use nts_terms::{
-    Binder, BoundRegion, BoundTy, ClauseKind, CtorId, Cx, DefId, GenericArg, GenericArgKind,
-    GenericArgs, Predicate, PredicateKind, Region, RegionKind, TraitId, TraitRef, Ty, TyKind,
+    AliasDefId, AliasId, AliasTerm, Binder, BoundRegion, BoundTy, ClauseKind, Const, CtorId, Cx,
+    DefId, GenericArg, GenericArgKind, GenericArgs, Predicate, PredicateKind, Region, RegionKind,
+    Term, TraitId, TraitRef, Ty, TyKind,
 };
 use nts_text::{Refusal, Resolved};
 use std::alloc::{AllocError, Global};
@@ -53,7 +55,8 @@ impl Terms<'_> {
     }
 }
 
-/// What a predicate states, under a binder: a trait with its arguments, or what outlives a region.
+/// What a predicate states, under a binder: a trait with its arguments, what outlives a region, or what an
+/// alias normalizes to.
 #[derive(Drop)]
 pub struct BoundClause {
     /// The sorts of the variables that the binder binds, the last one first.
@@ -92,7 +95,10 @@ pub fn bound_clauses(
         let node = nodes[at];
         match node {
             Resolved::Binds(sort) => bind_first(&mut found, sort)?,
-            Resolved::Trait { .. } | Resolved::TypeOutlives | Resolved::RegionOutlives => {
+            Resolved::Trait { .. }
+            | Resolved::TypeOutlives
+            | Resolved::RegionOutlives
+            | Resolved::Normalizes { .. } => {
                 let clause = statement(cx, &mut made, node)?;
                 found.push(BoundClause {
                     binds: Vec::new(alloc),
@@ -130,6 +136,15 @@ fn statement(cx: &mut Cx, made: &mut Vec<GenericArg>, node: Resolved) -> Result<
             let longer = take_region(cx, made)?;
             let shorter = take_region(cx, made)?;
             Ok(ClauseKind::RegionOutlives(longer, shorter))
+        }
+        Resolved::Normalizes { number, arguments } => {
+            let args = take_args(cx, made, arguments)?;
+            let value = take_type(cx, made)?;
+            let def_id = AliasDefId::Ty(AliasId { number });
+            Ok(ClauseKind::Projection {
+                alias: AliasTerm { def_id, args },
+                term: value.into(),
+            })
         }
         _ => Err(MISFIT),
     }
@@ -191,7 +206,8 @@ fn argument(
         Resolved::Binds(_)
         | Resolved::Trait { .. }
         | Resolved::TypeOutlives
-        | Resolved::RegionOutlives => Err(MISFIT),
+        | Resolved::RegionOutlives
+        | Resolved::Normalizes { .. } => Err(MISFIT),
         Resolved::BoundType(var) => {
             let kind = TyKind::Bound(BoundVarIndexKind::Bound(0), BoundTy { var });
             Ok(cx.mk_ty(kind)?.into())
@@ -203,6 +219,10 @@ fn argument(
         Resolved::Ctor { number, arguments } => {
             let args = take_args(cx, made, arguments)?;
             constructed(cx, CtorId { number }, args)
+        }
+        Resolved::Alias { number, arguments } => {
+            let args = take_args(cx, made, arguments)?;
+            aliased(cx, AliasId { number }, args)
         }
         Resolved::TypeVariable(number) => terms.of_type(number).ok_or(MISFIT),
         Resolved::RegionVariable(number) => terms.of_region(number).ok_or(MISFIT),
@@ -258,6 +278,22 @@ fn constructed(cx: &mut Cx, ctor: CtorId, args: GenericArgs) -> Result<GenericAr
     Ok(cx.mk_ty(TyKind::Ctor(ctor, args))?.into())
 }
 
+/// An alias of types with its arguments.
+#[tactic(auto, using(crate::proofs::Stores::growing))]
+fn aliased(cx: &mut Cx, alias: AliasId, args: GenericArgs) -> Result<GenericArg, Stop>
+    requires { HoldsArgs cx.old.nodes args }
+    ensures tree { IfOk result (λ a. tree_at cx.new.nodes a.node ≡ tree_of_ty cx.old.nodes
+        (ty.Alias (record { def_id = alias_def.Ty alias; args = args }))) }
+    ensures holds { IfOk result (HoldsArg cx.new.nodes) }
+    ensures grows { Grows cx.old cx.new }
+{
+    let def_id = AliasDefId::Ty(alias);
+    if !cx.fits(DefId::Alias(def_id), args) {
+        return Err(MISFIT);
+    }
+    Ok(cx.mk_ty(TyKind::Alias(AliasTerm { def_id, args }))?.into())
+}
+
 /// The sorts of a binder, the first one first.
 fn in_order(alloc: Global, binds: &[Sort]) -> Result<Vec<Sort>, AllocError>
     ensures { IfOk result (λ v. v.items ≡ reverse binds.now) }
@@ -277,8 +313,24 @@ pub fn clause_fits(cx: &Cx, clause: ClauseKind) -> bool
         }
         ClauseKind::TypeOutlives(ty, region) => cx.holds(ty) && cx.holds(region),
         ClauseKind::RegionOutlives(longer, shorter) => cx.holds(longer) && cx.holds(shorter),
+        ClauseKind::Projection { alias, term } => {
+            cx.holds(alias.args)
+                && cx.fits(DefId::Alias(alias.def_id), alias.args)
+                && may_be(cx, alias, term)
+        }
         // No text says anything else.
         _ => false,
+    }
+}
+
+/// Whether a term is of this store and of the sort of the alias.
+fn may_be(cx: &Cx, alias: AliasTerm, term: Term) -> bool
+    ensures { IsTrue result → HoldsResult cx.now.nodes alias term }
+{
+    let node = term.node;
+    match alias.def_id {
+        AliasDefId::Ty(_) => cx.holds(Ty { node }),
+        AliasDefId::Const(_) => cx.holds(Const { node }),
     }
 }
 

@@ -19,6 +19,6 @@ pub use answer::{Answer, Found, answer_of};
 pub use build::{MISFIT, Terms};
 pub use output::{put_answer, put_refusal};
 pub use printer::write_answer;
-pub use sentences::{clause_of, environment_of, goal_of};
+pub use sentences::{clause_of, environment_of, goal_of, norm_clause_of};
 pub use status::{Status, Stop};
 pub use variables::LineVariables;

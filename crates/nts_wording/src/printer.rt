@@ -1,13 +1,12 @@
 //! The text of answers.
-ghost use Rattle.std.specs.Prelude.{◌≡◌, ◌∷◌, [], ◌++◌, false, reverse, IfErr, OnOk, codes};
+ghost use Rattle.std.specs.Prelude.{◌≡◌, ◌∷◌, [], ◌++◌, Some, false, reverse, IfErr, OnOk, codes};
 ghost use Rattle.std.specs.Io.KnownBytes.{Appends};
 ghost use Rattle.nts_wording.specs.Growing.{Begins};
 ghost use Rattle.nts_wording.specs.Statuses.{is_refusal};
 ghost use Rattle.nts_model.specs.Terms.Trees.{node, children, shape, Meets, in_order, is, arguments};
 ghost use Rattle.nts_model.specs.declared.labels.Label.TheVariants as labels;
-ghost use Rattle.nts_model.specs.declared.labels.TyHead.TheVariants as heads;
 ghost use Rattle.nts_store.specs.Growth.{IsIn, tree_at};
-ghost use Rattle.nts_wording.specs.Printing.{leaf_name, type_name, is_region_leaf, IsLeafText, IsUnnamedType, IsUnnamedRegion, IsText, same_term};
+ghost use Rattle.nts_wording.specs.Printing.{leaf_name, head_name, is_region_leaf, IsLeafText, IsUnnamedType, IsUnnamedRegion, IsText, same_term};
 ghost use Rattle.nts_wording.specs.Pieces.{lexicon_of, names_in, seen_by, Writes, WritesText, PutsText, Completes, Opens};
 ghost use Rattle.nts_wording.specs.declared.printer.Piece.TheVariants as piece_kinds;
 ghost use Rattle.std.specs.Map.{lookup};
@@ -337,31 +336,39 @@ impl Printer<'_> {
             (lexicon_of self.old) old (piece_kinds.Term term ∷ reverse pieces.old.items) text new
             (reverse pieces.new.items))) }
     {
+        let names = self.names;
         match head {
-            TyHead::Ctor(number) => self.constructed(number, term, pieces),
+            TyHead::Ctor(number) => {
+                self.declared(type_name(&names.types, number), term, head, pieces)
+            }
+            TyHead::Alias(number) => {
+                self.declared(type_name(&names.aliases, number), term, head, pieces)
+            }
             TyHead::Int(int) => self.write(int_name(int)),
             TyHead::Uint(uint) => self.write(uint_name(uint)),
             _ => self.unnamed_type(term),
         }
     }
 
-    /// The name of a declared type, and the bracket behind it if it has arguments.
-    fn constructed(
+    /// The name of a declared type or alias, and the bracket behind it if it has arguments.
+    fn declared(
         &mut self,
-        number: usize,
+        name: &[u8],
         term: NodeId,
+        head: TyHead,
         pieces: &mut Vec<Piece>,
     ) -> Result<(), AllocError>
         requires within { IsIn self.old.nodes.now term }
-        requires label { tree_at self.old.nodes.now term ≡ node (labels.Ty (heads.Ctor number))
-            (children (tree_at self.old.nodes.now term)) }
+        requires named { head_name (lexicon_of self.old) head ≡ Some name.now }
+        requires label { tree_at self.old.nodes.now term ≡ node (labels.Ty head) (children
+            (tree_at self.old.nodes.now term)) }
         requires formed { Meets (in_order (is arguments ∷ [])) (children
             (tree_at self.old.nodes.now term)) }
         ensures { OnOk result (WritesText self.old self.new (λ old text new. Completes
             (lexicon_of self.old) old (piece_kinds.Term term ∷ reverse pieces.old.items) text new
             (reverse pieces.new.items))) }
     {
-        let name = type_name(self.names, number);
+        let _ = head;
         self.write(name)?;
         let list = self.nodes.child(term, 0);
         self.open(list, pieces)

@@ -1,16 +1,20 @@
 //! What a whole line says: the goal that it asks, or the rule that it adds.
-ghost use Rattle.std.specs.Prelude.{All, IfOk, IsTrue, List};
+ghost use Rattle.std.specs.Prelude.{◌≡◌, All, IfOk, IsTrue, List};
 ghost use Rattle.nts_model.specs.Terms.Trees.{Tree};
 ghost use Rattle.nts_store.specs.Growth.{Extends, tree_at};
 ghost use Rattle.nts_terms.specs.Handles.{HoldsEnv, HoldsGoal, HoldsPredicate};
 ghost use Rattle.nts_terms.specs.Rest.{Grows};
+ghost use Rattle.nts_terms.specs.Kinds.{tree_of_clause};
+ghost use Rattle.nts_terms.specs.declared.kinds.ClauseKind.TheVariants as clause_kind;
+ghost use Rattle.nts_delegate.specs.declared.clauses.Clause.{Clause};
 ghost use Rattle.nts_wording.specs.Fitting.{HeadFits, IsDeclaredPredicate};
-ghost use Rattle.nts_wording.specs.Meaning.{AreConditions, IsGivenEnvironment, IsEnvironmentFor, IsGoalFor, IsRuleFor};
+ghost use Rattle.nts_wording.specs.Meaning.{AreConditions, IsGivenEnvironment, IsEnvironmentFor, IsGoalFor, IsStatedRule, IsRuleFor, IsNormRuleFor};
 
 use crate::build::{MISFIT, Terms, bound_clauses, clause_fits, positions, predicate_of};
 use crate::status::Stop;
 use crate::variables::LineVariables;
-use nts_delegate::Clause;
+use nts_delegate::{Clause, NormClause};
+use nts_model::Sort;
 use nts_terms::{ClauseKind, Cx, Goal, ParamEnv, Predicate};
 use nts_text::Resolved;
 
@@ -84,12 +88,23 @@ pub fn environment_of(cx: &mut Cx, nodes: &[Resolved]) -> Result<ParamEnv, Stop>
     Ok(env)
 }
 
-/// The rule that a line says: its head holds where its body does.
+/// What a line says of a trait or an alias, where its body holds.
+#[derive(Drop)]
+struct Rule {
+    /// The sorts of its variables.
+    fresh: Vec<Sort>,
+    head: ClauseKind,
+    body: Vec<Predicate>,
+}
+
+/// The rule that a line says.
 #[tactic(auto, using(crate::proofs::Stores::growing))]
-pub fn clause_of(cx: &mut Cx, head: &[Resolved], body: &[Resolved]) -> Result<Clause, Stop>
-    ensures rule { IfOk result (IsRuleFor cx.new.nodes head.now body.now) }
-    ensures fits { IfOk result (λ c. HeadFits cx.new.declarations cx.new.nodes
-        c.trait_id.number c) }
+fn stated_rule(cx: &mut Cx, head: &[Resolved], body: &[Resolved]) -> Result<Rule, Stop>
+    ensures rule { IfOk result (λ r. (us : List Tree) → Extends cx.new.nodes us → IsStatedRule us
+        head.now body.now r.fresh.items (tree_of_clause us r.head) r.body.items) }
+    ensures fits { IfOk result (λ r. (c : Clause) → r.head ≡ clause_kind.Trait
+        (record { def_id = c.trait_id; args = c.head }) → HeadFits cx.new.declarations
+        cx.new.nodes c.trait_id.number c) }
     ensures grows { Grows cx.old cx.new }
 {
     let mut variables = LineVariables::new(cx.alloc);
@@ -110,15 +125,50 @@ pub fn clause_of(cx: &mut Cx, head: &[Resolved], body: &[Resolved]) -> Result<Cl
     if !clause_fits(cx, head.clause) {
         return Err(MISFIT);
     }
-    let ClauseKind::Trait(trait_ref) = head.clause else {
+    let body = conditions(cx, body, terms)?;
+    Ok(Rule {
+        fresh: variables.sorts,
+        head: head.clause,
+        body,
+    })
+}
+
+/// The rule of a trait that a line says: its head holds where its body does.
+#[tactic(auto, using(crate::proofs::Stores::growing))]
+pub fn clause_of(cx: &mut Cx, head: &[Resolved], body: &[Resolved]) -> Result<Clause, Stop>
+    ensures rule { IfOk result (IsRuleFor cx.new.nodes head.now body.now) }
+    ensures fits { IfOk result (λ c. HeadFits cx.new.declarations cx.new.nodes
+        c.trait_id.number c) }
+    ensures grows { Grows cx.old cx.new }
+{
+    let rule = stated_rule(cx, head, body)?;
+    let ClauseKind::Trait(trait_ref) = rule.head else {
         return Err(MISFIT);
     };
-    let body = conditions(cx, body, terms)?;
     Ok(Clause {
-        fresh: variables.sorts,
+        fresh: rule.fresh,
         trait_id: trait_ref.def_id,
         head: trait_ref.args,
-        body,
+        body: rule.body,
+    })
+}
+
+/// What a line says that an alias normalizes to, where its body holds.
+#[tactic(auto, using(crate::proofs::Stores::growing))]
+pub fn norm_clause_of(cx: &mut Cx, head: &[Resolved], body: &[Resolved]) -> Result<NormClause, Stop>
+    ensures rule { IfOk result (IsNormRuleFor cx.new.nodes head.now body.now) }
+    ensures grows { Grows cx.old cx.new }
+{
+    let rule = stated_rule(cx, head, body)?;
+    let ClauseKind::Projection { alias, term } = rule.head else {
+        return Err(MISFIT);
+    };
+    Ok(NormClause {
+        fresh: rule.fresh,
+        alias: alias.def_id,
+        head: alias.args,
+        result: term,
+        body: rule.body,
     })
 }
 

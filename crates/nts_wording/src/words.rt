@@ -11,7 +11,7 @@ use indexmap::{IndexMap, IndexSet};
 use nts_model::{Constant, FreeRegion, IntTy, Leaf, Relation, UintTy, VariableKind};
 use nts_store::NodeId;
 use nts_terms::GenericArg;
-use nts_text::{NameTable, Scope};
+use nts_text::{Scope, Signature};
 
 /// The name of a leaf, if it has one.
 pub fn leaf_name<'a>(
@@ -67,11 +67,11 @@ pub fn is_region_leaf(leaf: Leaf) -> bool
     )
 }
 
-/// The name of a declared type.
-pub fn type_name(names: &NameTable, number: usize) -> &[u8]
-    ensures { result.now ≡ type_name names.now.types.items number }
+/// The name of a declared type or alias.
+pub fn type_name(declared: &[Signature], number: usize) -> &[u8]
+    ensures { result.now ≡ type_name declared.now number }
 {
-    match names.types.get(number) {
+    match declared.get(number) {
         Some(signature) => &signature.name,
         None => b"",
     }
