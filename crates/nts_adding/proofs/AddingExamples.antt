@@ -1,14 +1,12 @@
 -- What stands for goals that are added, by example.
-use Rattle.std.proofs.Common.{◌≡◌, ⊎_elim, ℕ, suc, ◌+◌, List, [], ◌∷◌, length, inl, refl, sym, ap, ◌∙◌, arith}
+use Rattle.std.proofs.Common.{◌≡◌, ℕ, suc, List, [], ◌∷◌, length, inl, refl, sym, ◌∙◌, arith}
 use Rattle.nts_model.specs.declared.labels.Sort.{Sort}
-use Rattle.nts_model.specs.declared.labels.Sort.TheVariants as sort
-use Rattle.nts_model.specs.declared.labels.VariableKind.{VariableKind}
-use Rattle.nts_model.specs.Terms.Trees.{Tree, empty, more, node, IsClosed, variable_tree}
+use Rattle.nts_model.specs.Terms.Trees.{Tree, empty, more, IsClosed, variable_tree}
 use Rattle.nts_model.specs.Derivations.Related.{IsAlias}
 use Rattle.nts_model.specs.Derivations.Rules.{chosen, kept_empty, kept_more, kept_node}
 use Rattle.nts_unify.specs.Entries.{Entries}
 use Rattle.nts_table.specs.Fresh.{variable_kind, fresh_row}
-use Rattle.nts_adding.specs.Putting.{HasPut, equal_pair, right_sides, AreVariables}
+use Rattle.nts_adding.specs.Putting.{HasPut, equal_pair, AreVariables}
 
 -- an alias has its variable in its place
 pub put_there : (a v : Tree) → IsAlias a → IsClosed v → HasPut (equal_pair a v ∷ []) a v

@@ -7,3 +7,4 @@ pub mod NewVariables
 pub mod Rigidly
 pub mod Relating
 mod RigidExamples
+pub mod EqualToNew

@@ -60,7 +60,7 @@ all_push [] p h k = (k, tt)
 all_push (q ∷ ps) p h k = (h.0, all_push ps p h.1 k)
 
 -- a new variable is of its sort
-variable_sort : (s : Sort) (n : ℕ) → kind_of (variable_tree (variable_kind s) n) ≡ Some (of_sort s)
+pub variable_sort : (s : Sort) (n : ℕ) → kind_of (variable_tree (variable_kind s) n) ≡ Some (of_sort s)
 variable_sort sort.Ty n = refl
 variable_sort sort.Region n = refl
 variable_sort sort.Const n = refl
@@ -70,7 +70,7 @@ put_for v g t f found new =
     record { equal = refl; alias = found; closed = rw new.tree (tt, tt); kind = ap kind_of new.tree ∙ variable_sort new.sort (length f.variables) ∙ sym new.is }
 
 -- one more variable
-put_one : (e f g : Entries) (ps : List Pair) (t v : Tree) → AreVariables e f ps → IsAlias t → IsFreshLike (kind_of t) v f g → AreVariables e g (ps ++ equal_pair t v ∷ [])
+pub put_one : (e f g : Entries) (ps : List Pair) (t v : Tree) → AreVariables e f ps → IsAlias t → IsFreshLike (kind_of t) v f g → AreVariables e g (ps ++ equal_pair t v ∷ [])
 put_one e f g ps t v h found new =
     let s = new.sort in
     let long : length f.variables ≡ length e.variables + length h.sorts = ap (λ (z : Entries). length z.variables) h.entries ∙ length-with_fresh e h.sorts in

@@ -3,3 +3,4 @@ pub mod Walking
 pub mod Replacing
 pub mod Adding
 pub mod Rigid
+pub mod Equal

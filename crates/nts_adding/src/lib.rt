@@ -2,9 +2,12 @@
 //! relates the two.
 #![tactic(auto)]
 
+mod equal;
 mod goals;
 mod putting;
 mod rigid;
 
+pub use equal::equal_to_new;
 pub use goals::{goals_to_add, replace_aliases};
+pub use putting::is_closed_alias;
 pub use rigid::relate_rigid_alias;

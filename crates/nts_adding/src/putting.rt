@@ -32,7 +32,7 @@ pub(crate) struct AliasFolder {
 }
 
 /// Whether the term is an alias from which no bound variable escapes.
-fn is_loose(cx: &Cx, t: GenericArg) -> bool
+pub fn is_closed_alias(cx: &Cx, t: GenericArg) -> bool
     requires { HoldsArg cx.now.nodes t }
     ensures yes { result ≡ true → IsAlias (tree_at cx.now.nodes t.node) }
     ensures no { result ≡ false → IsAlias (tree_at cx.now.nodes t.node) → ⊥ }
@@ -79,7 +79,7 @@ impl AliasFolder {
         if !cx.nodes.flags(t.node).has_alias {
             return Ok(Some(t));
         }
-        if !is_loose(cx, t) {
+        if !is_closed_alias(cx, t) {
             return Ok(None);
         }
         let variable = self.table.fresh_var_for_kind_with_span(cx, t, Span(0))?;

@@ -3,6 +3,7 @@ pub mod Begun
 pub mod Ended
 pub mod Handed
 pub mod Relates
+pub mod Normalized
 mod AnsweredExamples
 pub mod Spared
 mod UnconstrainedExamples

@@ -3,3 +3,4 @@ pub mod Contexts
 pub mod Related
 pub mod Promises
 pub mod Unconstrained
+pub mod Normalizing

@@ -7,6 +7,7 @@ mod context;
 mod evaluating;
 mod goals;
 mod modes;
+mod normalizing;
 mod relating;
 mod rigid;
 mod state;

@@ -2,9 +2,7 @@
 use Rattle.std.proofs.Common.{◌≡◌, ℕ, ◌+◌, ◌<◌, List, [], ◌∷◌, ◌++◌, length, Option, None, Some, length-append, refl, sym, ap, subst, ◌∙◌, append_assoc, arith}
 use Rattle.nts_wording.specs.declared.answer.Answer.{Answer}
 use Rattle.nts_wording.specs.Answers.{IsAnswerPut}
-use Rattle.std.specs.Io.Buffered.{reader_inner, reader_buffer, reader_capacity, reader_remaining}
-use Rattle.std.specs.declared.io.buffered.BufReader.{BufReader}
-use Rattle.std.proofs.KnownBytes.{prepend_known-nil, Appends-kept}
+use Rattle.std.proofs.KnownBytes.{Appends-kept}
 use Rattle.std.specs.Prelude.{Bool, true, false, ◌↔◌, IfSome, IfErr, OnOk, IsErrAnd, IsTrue, Result, Ok, Err}
 use Rattle.std.specs.Io.KnownBytes.{Appends, Keeps}
 use Rattle.std.specs.Io.BufRead.{drop_through, DropsThrough}

@@ -1,5 +1,5 @@
 -- Why a goal is answered as it is.
-use Rattle.std.specs.Prelude.{◌≡◌, List, [], All, Option}
+use Rattle.std.specs.Prelude.{List, All, Option}
 use Rattle.nts_model.specs.Derivations.Handlers.{Handler, meaning}
 use Rattle.nts_model.specs.Derivations.Proving.{HasRankedProofUnder}
 use Rattle.nts_model.specs.Terms.Trees.{Tree}
@@ -8,11 +8,8 @@ use Rattle.nts_terms.specs.Signatures.{variances_in}
 use Rattle.nts_terms.specs.declared.handles.GenericArg.{GenericArg}
 use Rattle.nts_terms.specs.declared.handles.Goal.{Goal}
 use Rattle.nts_terms.specs.declared.handles.ParamEnv.{ParamEnv}
-use Rattle.nts_terms.specs.declared.modes.TypingMode.{TypingMode}
-use Rattle.nts_terms.specs.declared.modes.TypingMode.TheVariants as typing
 use Rattle.nts_store.specs.Growth.{tree_at, Extends}
-use Rattle.nts_table.specs.Tables.{Table, IsTable}
-use Rattle.nts_terms.specs.Handles.{HoldsGoal}
+use Rattle.nts_table.specs.Tables.{Table}
 use Rattle.nts_unify.specs.Reading.{content_of}
 use Rattle.nts_delegate.specs.Assumptions.{assuming}
 use Rattle.nts_delegate.specs.Both.{either}
@@ -20,10 +17,9 @@ use Rattle.nts_delegate.specs.ClauseHandlers.{handler_of}
 use Rattle.nts_terms.specs.Modes.{mode_of}
 use Rattle.nts_delegate.specs.declared.clauses.Clauses.{Clauses}
 use Rattle.nts_text.specs.declared.parser.Mode.{Mode}
-use Rattle.nts_text.specs.declared.parser.Mode.TheVariants as modes
-use Rattle.nts_wording.specs.Found.{IsFoundIn, IsKnownValue}
+use Rattle.nts_wording.specs.Found.{IsFoundIn}
 use Rattle.nts_text.specs.declared.resolver.Resolved.{Resolved}
-use Rattle.nts_wording.specs.Meaning.{HasOwnPlaces, HasPlace, AreVariablesFrom, IsGoalOf, IsGoalFor}
+use Rattle.nts_wording.specs.Meaning.{HasOwnPlaces, HasPlace, AreVariablesFrom, IsGoalOf}
 use Rattle.nts_wording.specs.declared.answer.Found.{Found}
 use Rattle.nts_declaring.specs.Posing.{IsTypingMode}
 use Rattle.nts_wording.specs.declared.answer.Answer.{Answer}

@@ -10,8 +10,8 @@ use Rattle.nts_adding.proofs.putting.AliasFolder.put.Goals as goal
 pub returns-then-not-flags-clause-puts : goal.returns-then-not-flags-clause-puts
 returns-then-not-flags-clause-puts c = plain (sym (ap (λ (f : TypeFlags). f.has_alias) c.flags.ensures) ∙ not_so c.flags.result.has_alias c.if-not-flags.true)
 
-pub returns-then-not-is_loose-clause-puts : goal.returns-then-not-is_loose-clause-puts
-returns-then-not-is_loose-clause-puts c = goes_on (c.is_loose.ensures.no c.if-not-is_loose.true)
+pub returns-then-not-is_closed_alias-clause-puts : goal.returns-then-not-is_closed_alias-clause-puts
+returns-then-not-is_closed_alias-clause-puts c = goes_on (c.is_closed_alias.ensures.no c.if-not-is_closed_alias.true)
 
 pub returns-in_err-variable-clause-ready : goal.returns-in_err-variable-clause-ready
 returns-in_err-variable-clause-ready c =
@@ -36,4 +36,4 @@ pub returns-clause-puts : goal.returns-clause-puts
 returns-clause-puts c =
     let f = c.fresh_var_for_kind_with_span.ensures in
     put_step c.args.self.now (record { table = c.fresh_var_for_kind_with_span.new.self; puts = c.push.new.self }) c.args.t.node c.in_ok-variable.variable.node c.requires.ready f.grows.extends c.requires.holds.within
-    (c.is_loose.ensures.yes c.if-not-is_loose.false) c.in_ok-variable.ensures.fresh c.in_ok-push.ensures.items
+    (c.is_closed_alias.ensures.yes c.if-not-is_closed_alias.false) c.in_ok-variable.ensures.fresh c.in_ok-push.ensures.items

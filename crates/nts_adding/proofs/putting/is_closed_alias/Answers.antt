@@ -3,7 +3,7 @@ use Rattle.nts_model.specs.Terms.Trees.{children, IsClosed}
 use Rattle.nts_model.specs.Derivations.Related.{IsAlias}
 use Rattle.nts_store.specs.Growth.{tree_at}
 use Rattle.nts_adding.proofs.Loose.{alias_tree, not_so}
-use Rattle.nts_adding.proofs.putting.is_loose.Goals as goal
+use Rattle.nts_adding.proofs.putting.is_closed_alias.Goals as goal
 
 pub returns-then-is_alias-clause-yes : goal.returns-then-is_alias-clause-yes
 returns-then-is_alias-clause-yes c = λ q.

@@ -1,0 +1,52 @@
+-- Terms that are normalized in a context.
+use Rattle.std.specs.Prelude.{◌≡◌, ◌++◌, List, None, Result, Ok}
+use Rattle.nts_model.specs.Terms.Trees.{Tree}
+use Rattle.nts_model.specs.Tables.Resolving.{deeply_resolved}
+use Rattle.nts_store.specs.declared.nodes.NodeId.{NodeId}
+use Rattle.nts_store.specs.declared.fault.EvalError.{EvalError}
+use Rattle.nts_terms.specs.declared.cx.Cx.{Cx}
+use Rattle.nts_terms.specs.declared.handles.Goal.{Goal}
+use Rattle.nts_terms.specs.declared.handles.ParamEnv.{ParamEnv}
+use Rattle.nts_certainty.specs.declared.sources.GoalSource.{GoalSource}
+use Rattle.nts_certainty.specs.declared.sources.GoalSource.TheVariants as source
+use Rattle.nts_search.specs.declared.kinds.CurrentGoalKind.TheVariants as kind
+use Rattle.nts_adding.specs.Adding.{AddsEach}
+use Rattle.nts_adding.specs.Equal.{IsEqualToNew}
+use Rattle.nts_unify.specs.Entries.{Entries}
+use Rattle.nts_evaluation.specs.nts_meaning.specs.Meant.{Rules, Always, ruling_since}
+use Rattle.nts_contexts.specs.declared.context.EvalCtxt.{EvalCtxt}
+use Rattle.nts_contexts.specs.declared.state.EvalState.{EvalState}
+use Rattle.nts_contexts.specs.Contexts.{KeepsContext, content_in, tree_in}
+use Rattle.nts_contexts.specs.Promises.{EvaluatesAdded, RefusesOneAdded}
+
+-- the goal that an alias is equal to a new variable is added behind the goals that were there, as relating adds goals
+pub record AddsEqualToNew (a b : Cx) (e f : Entries) (m n : EvalState) (env : ParamEnv) (x v : NodeId) : Type 0 where
+  pub store : List Tree
+  pub entries : Entries
+  pub goals : List Goal
+  pub equal : IsEqualToNew a.nodes store e entries env x v goals
+  pub added : List (GoalSource × Goal)
+  pub adds : AddsEach store b.nodes entries f kind.Misc source.TypeRelating goals added
+  pub behind : n.nested_goals.items ≡ m.nested_goals.items ++ added
+
+-- the context once that goal is added
+pub record HasBegun {H : Type 0} (ready : List Tree → H → Type 0) (a b : EvalCtxt H) (env : ParamEnv) (x v : NodeId) : Type 0 where
+  pub keeps : KeepsContext ready a b
+  pub adds : AddsEqualToNew a.cx.now b.cx.now a.table.now.entries b.table.now.entries a.state.now b.state.now env x v
+  pub sound : b.state.now.fault ≡ None
+
+-- an alias is normalized: the goal that it is equal to a new variable is added, the goals are evaluated, and what the variable
+-- is then is answered
+pub record Normalizes {H : Type 0} (ready : List Tree → H → Type 0) (R : Rules) (a b : EvalCtxt H) (env : ParamEnv) (x r : NodeId) : Type 0 where
+  pub between : EvalCtxt H
+  pub variable : NodeId
+  pub begun : HasBegun ready a between env x variable
+  pub evaluates : EvaluatesAdded R between b (let answered : Result NodeId EvalError = Ok r in answered)
+  pub is : tree_in b r ≡ deeply_resolved (content_in b) (tree_in b variable)
+
+-- .. or a goal is refused
+pub record RefusesNormal {H : Type 0} (ready : List Tree → H → Type 0) (R : Rules) (a : EvalCtxt H) (env : ParamEnv) (x : NodeId) : Type 0 where
+  pub between : EvalCtxt H
+  pub variable : NodeId
+  pub begun : HasBegun ready a between env x variable
+  pub refused : Always R between.cx.now (λ s. RefusesOneAdded (ruling_since R.handler s) between)
