@@ -4,8 +4,11 @@ use Rattle.nts_model.specs.declared.labels.Sort.{Sort}
 use Rattle.nts_model.specs.Terms.Trees.{Tree, empty, more, IsClosed, variable_tree}
 use Rattle.nts_model.specs.Derivations.Related.{IsAlias}
 use Rattle.nts_model.specs.Derivations.Rules.{chosen, kept_empty, kept_more, kept_node}
+use Rattle.nts_store.specs.declared.nodes.NodeId.{NodeId}
+use Rattle.nts_terms.specs.declared.handles.ParamEnv.{ParamEnv}
 use Rattle.nts_unify.specs.Entries.{Entries}
 use Rattle.nts_table.specs.Fresh.{variable_kind, fresh_row}
+use Rattle.nts_adding.specs.Equal.{IsEqualToNew}
 use Rattle.nts_adding.specs.Putting.{HasPut, equal_pair, AreVariables}
 
 -- an alias has its variable in its place
@@ -33,3 +36,7 @@ shared_no e f a b v h = by_sorts h.sorts h.row
         let first : v ≡ variable_tree (variable_kind s) (length e.variables) = cc q in
         let second : v ≡ variable_tree (variable_kind r) (suc (length e.variables)) = cc q in
         numbers s r (length e.variables) (sym first ∙ second)
+
+-- that an alias is equal to a variable is one goal, and not none
+pub equal_without_goal : (ts us : List Tree) (e f : Entries) (env : ParamEnv) (x v : NodeId) → IsEqualToNew ts us e f env x v [] → ⊥
+equal_without_goal ts us e f env x v h = h.equal

@@ -10,6 +10,10 @@ mod free;
 #[cfg(test)]
 mod free_tests;
 #[cfg(test)]
+mod normal;
+#[cfg(test)]
+mod normal_tests;
+#[cfg(test)]
 mod related;
 #[cfg(test)]
 mod rigid;

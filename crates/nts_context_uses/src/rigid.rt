@@ -82,7 +82,7 @@ fn alias_of(fixture: &mut Fixture, names: &Names, related: &Related) -> Result<A
 }
 
 /// A const over a type, whose own type is `u8`.
-fn declared_const(fixture: &mut Fixture) -> Result<AliasDefId, EvalError>
+pub(crate) fn declared_const(fixture: &mut Fixture) -> Result<AliasDefId, EvalError>
     requires { IsTable fixture.old.cx.nodes fixture.old.table }
     ensures { IsTable fixture.new.cx.nodes fixture.new.table }
 {

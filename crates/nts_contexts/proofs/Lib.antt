@@ -4,6 +4,7 @@ pub mod Ended
 pub mod Handed
 pub mod Relates
 pub mod Normalized
+mod NormalExamples
 mod AnsweredExamples
 pub mod Spared
 mod UnconstrainedExamples

@@ -1,6 +1,7 @@
 -- Terms that are normalized in a context.
 use Rattle.std.specs.Prelude.{◌≡◌, ◌++◌, List, None, Result, Ok}
-use Rattle.nts_model.specs.Terms.Trees.{Tree}
+use Rattle.nts_model.specs.Terms.Trees.{Tree, kind_of}
+use Rattle.nts_model.specs.Derivations.Handlers.{Handler}
 use Rattle.nts_model.specs.Tables.Resolving.{deeply_resolved}
 use Rattle.nts_store.specs.declared.nodes.NodeId.{NodeId}
 use Rattle.nts_store.specs.declared.fault.EvalError.{EvalError}
@@ -13,11 +14,19 @@ use Rattle.nts_search.specs.declared.kinds.CurrentGoalKind.TheVariants as kind
 use Rattle.nts_adding.specs.Adding.{AddsEach}
 use Rattle.nts_adding.specs.Equal.{IsEqualToNew}
 use Rattle.nts_unify.specs.Entries.{Entries}
-use Rattle.nts_evaluation.specs.nts_meaning.specs.Meant.{Rules, Always, ruling_since}
+use Rattle.nts_evaluation.specs.nts_meaning.specs.Meant.{Rules, Always, rules_of, ruling_since}
 use Rattle.nts_contexts.specs.declared.context.EvalCtxt.{EvalCtxt}
 use Rattle.nts_contexts.specs.declared.state.EvalState.{EvalState}
 use Rattle.nts_contexts.specs.Contexts.{KeepsContext, content_in, tree_in}
 use Rattle.nts_contexts.specs.Promises.{EvaluatesAdded, RefusesOneAdded}
+
+-- two trees are both types, both consts, or of another kind both
+abbrev pub AreOfOneKind : Tree → Tree → Type 0
+AreOfOneKind s t = kind_of s ≡ kind_of t
+
+-- the rules of a context's handler
+abbrev pub rules_in : {H : Type 0} → (List Tree → H → Type 0) → (List Tree → H → Handler) → EvalCtxt H → Rules
+rules_in ready handler c = rules_of ready handler c.handler.now
 
 -- the goal that an alias is equal to a new variable is added behind the goals that were there, as relating adds goals
 pub record AddsEqualToNew (a b : Cx) (e f : Entries) (m n : EvalState) (env : ParamEnv) (x v : NodeId) : Type 0 where
@@ -44,7 +53,7 @@ pub record Normalizes {H : Type 0} (ready : List Tree → H → Type 0) (R : Rul
   pub evaluates : EvaluatesAdded R between b (let answered : Result NodeId EvalError = Ok r in answered)
   pub is : tree_in b r ≡ deeply_resolved (content_in b) (tree_in b variable)
 
--- .. or a goal is refused
+-- an alias is asked to be equal to a new variable, and a goal of the context is refused
 pub record RefusesNormal {H : Type 0} (ready : List Tree → H → Type 0) (R : Rules) (a : EvalCtxt H) (env : ParamEnv) (x : NodeId) : Type 0 where
   pub between : EvalCtxt H
   pub variable : NodeId

@@ -9,10 +9,9 @@ ghost use Rattle.nts_terms.specs.Rest.{Grows};
 ghost use Rattle.nts_unify.specs.Reading.{content_of};
 ghost use Rattle.nts_table.specs.Tables.{IsTable, IsSide};
 ghost use Rattle.nts_evaluation.specs.nts_meaning.specs.Evaluation.{Runs};
-ghost use Rattle.nts_evaluation.specs.nts_meaning.specs.Meant.{rules_of};
 ghost use Rattle.nts_evaluation.specs.nts_trying.specs.Stepping.{ArePosed};
 ghost use Rattle.nts_contexts.specs.Related.{IsEnvOf, KeepsState};
-ghost use Rattle.nts_contexts.specs.Normalizing.{AddsEqualToNew, Normalizes, RefusesNormal};
+ghost use Rattle.nts_contexts.specs.Normalizing.{AddsEqualToNew, AreOfOneKind, Normalizes, RefusesNormal, rules_in};
 ghost use Rattle.nts_contexts.specs.Faults.{fault_after, tainted_after};
 ghost use Rattle.nts_contexts.specs.Contexts.{IsContextReady, KeepsContext, tree_in};
 
@@ -92,14 +91,14 @@ impl<H: GoalHandler> EvalCtxt<'_, H> {
             self.old.state.now.fault ≡ None → result ≡ Ok term }
         ensures untouched { (IsAlias (tree_in self.old term.node) → ⊥) → self.new ≡ self.old }
         ensures normal { IsAlias (tree_in self.old term.node) → IfOk result (λ r.
-            Normalizes H.ready (rules_of H.ready H.handler self.old.handler.now) self.old self.new
+            Normalizes H.ready (rules_in H.ready H.handler self.old) self.old self.new
             env term.node r.node) }
         ensures side { IfOk result (λ r.
             IsSide any_term self.new.cx.now.nodes self.new.table.now r.node) }
-        ensures kind { IfOk result (λ r. kind_of (tree_in self.new r.node)
-            ≡ kind_of (tree_in self.old term.node)) }
+        ensures kind { IfOk result (λ r.
+            AreOfOneKind (tree_in self.new r.node) (tree_in self.old term.node)) }
         ensures no { result ≡ Err EvalError.NoSolution → RefusesNormal H.ready
-            (rules_of H.ready H.handler self.old.handler.now) self.old env term.node }
+            (rules_in H.ready H.handler self.old) self.old env term.node }
         ensures taint { self.new.state.now.is_tainted
             ≡ tainted_after self.old.state.now.is_tainted result }
         ensures fault { self.new.state.now.fault ≡ fault_after self.old.state.now.fault result }
@@ -117,11 +116,7 @@ impl<H: GoalHandler> EvalCtxt<'_, H> {
     }
 
     /// `structurally_normalize_term` of a type.
-    pub fn structurally_normalize_ty(
-        &mut self,
-        env: ParamEnv,
-        ty: Ty,
-    ) -> Result<Ty, EvalError>
+    pub fn structurally_normalize_ty(&mut self, env: ParamEnv, ty: Ty) -> Result<Ty, EvalError>
         requires ready { IsContextReady H.ready self.old }
         requires env { IsEnvOf self.old.cx.now self.old.table.now env }
         requires ty { IsSide a_type self.old.cx.now.nodes self.old.table.now ty.node }
@@ -130,12 +125,12 @@ impl<H: GoalHandler> EvalCtxt<'_, H> {
             self.old.state.now.fault ≡ None → result ≡ Ok ty }
         ensures untouched { (IsAlias (tree_in self.old ty.node) → ⊥) → self.new ≡ self.old }
         ensures normal { IsAlias (tree_in self.old ty.node) → IfOk result (λ r.
-            Normalizes H.ready (rules_of H.ready H.handler self.old.handler.now) self.old self.new
+            Normalizes H.ready (rules_in H.ready H.handler self.old) self.old self.new
             env ty.node r.node) }
         ensures side { IfOk result (λ r.
             IsSide a_type self.new.cx.now.nodes self.new.table.now r.node) }
         ensures no { result ≡ Err EvalError.NoSolution → RefusesNormal H.ready
-            (rules_of H.ready H.handler self.old.handler.now) self.old env ty.node }
+            (rules_in H.ready H.handler self.old) self.old env ty.node }
         ensures taint { self.new.state.now.is_tainted
             ≡ tainted_after self.old.state.now.is_tainted result }
         ensures fault { self.new.state.now.fault ≡ fault_after self.old.state.now.fault result }
@@ -159,12 +154,12 @@ impl<H: GoalHandler> EvalCtxt<'_, H> {
             self.old.state.now.fault ≡ None → result ≡ Ok value }
         ensures untouched { (IsAlias (tree_in self.old value.node) → ⊥) → self.new ≡ self.old }
         ensures normal { IsAlias (tree_in self.old value.node) → IfOk result (λ r.
-            Normalizes H.ready (rules_of H.ready H.handler self.old.handler.now) self.old self.new
+            Normalizes H.ready (rules_in H.ready H.handler self.old) self.old self.new
             env value.node r.node) }
         ensures side { IfOk result (λ r.
             IsSide a_const self.new.cx.now.nodes self.new.table.now r.node) }
         ensures no { result ≡ Err EvalError.NoSolution → RefusesNormal H.ready
-            (rules_of H.ready H.handler self.old.handler.now) self.old env value.node }
+            (rules_in H.ready H.handler self.old) self.old env value.node }
         ensures taint { self.new.state.now.is_tainted
             ≡ tainted_after self.old.state.now.is_tainted result }
         ensures fault { self.new.state.now.fault ≡ fault_after self.old.state.now.fault result }

@@ -59,6 +59,17 @@ fn see_clause(rt: &impl Abort, command: &Command, wanted: &[Resolved], parts: &[
     }
 }
 
+/// Sees that a command states what an alias normalizes to, by these nodes, and under these conditions.
+fn see_norm(rt: &impl Abort, command: &Command, wanted: &[Resolved], parts: &[&[Resolved]]) {
+    match command {
+        Command::Norm { head, body } => {
+            assert!(rt; head.as_slice() == wanted);
+            see_nodes(rt, body, parts);
+        }
+        _ => panic!(rt; "no clause of an alias"),
+    }
+}
+
 fn see_nodes(rt: &impl Abort, nodes: &[Resolved], parts: &[&[Resolved]]) {
     let mut seen = 0usize;
     for part in parts {
@@ -161,6 +172,34 @@ fn reads_conditions_that_outlive(rt: HostRuntime) {
     see_clause(&rt, &command, &head, &[&first, &second, &third]);
 }
 
+/// What an alias normalizes to stands behind its arguments. Elsewhere an alias is a type.
+#[test]
+fn reads_what_aliases_normalize_to(rt: HostRuntime) {
+    let lines: [&[u8]; 5] = [
+        b"alias Target",
+        b"trait S(type)",
+        b"type V(type)",
+        b"alias Item(type)",
+        b"norm Item(V(?x)) = Item(?x) <- S(Target)",
+    ];
+    let of = Resolved::Normalizes {
+        number: 1,
+        arguments: 1,
+    };
+    let item = Resolved::Alias {
+        number: 1,
+        arguments: 1,
+    };
+    let target = Resolved::Alias {
+        number: 0,
+        arguments: 0,
+    };
+    let variable = Resolved::TypeVariable(0);
+    let head = [of, ctor(0, 1), variable, item, variable];
+    let command = last_command(&rt, rt.alloc(), &lines);
+    see_norm(&rt, &command, &head, &[&[trait_of(0, 1), target]]);
+}
+
 /// Adds so many bytes, or words.
 fn append(rt: &impl Abort, line: &mut Vec<u8>, count: usize, word: &[u8]) {
     for _ in 0..count {
@@ -218,6 +257,7 @@ fn shows_refusals(rt: HostRuntime) {
         (Refusal::UnknownName, "unknown name"),
         (Refusal::NameDeclaredTwice, "name declared twice"),
         (Refusal::WrongArguments, "wrong arguments"),
+        (Refusal::AliasIsRigid, "alias is rigid"),
         (Refusal::ParameterInAClause, "parameter in a clause"),
         (
             Refusal::VariableInAnEnvironment,
@@ -277,6 +317,27 @@ fn numbers_traits(rt: HostRuntime) {
     see_trait(&rt, &first, 0, false);
     let second = last_command(&rt, rt.alloc(), &lines);
     see_trait(&rt, &second, 1, true);
+}
+
+/// Sees that a command declares the alias of this number, rigid or not.
+fn see_alias(rt: &impl Abort, command: &Command, wanted: usize, is: bool) {
+    match command {
+        Command::Alias { number, is_rigid } => {
+            assert!(rt; *number == wanted && *is_rigid == is);
+        }
+        _ => panic!(rt; "no alias"),
+    }
+}
+
+#[test]
+fn numbers_aliases(rt: HostRuntime) {
+    let lines: [&[u8]; 3] = [b"alias Item(type)", b"alias Target", b"alias T rigid"];
+    let first = last_command(&rt, rt.alloc(), &lines[..1]);
+    see_alias(&rt, &first, 0, false);
+    let second = last_command(&rt, rt.alloc(), &lines[..2]);
+    see_alias(&rt, &second, 1, false);
+    let third = last_command(&rt, rt.alloc(), &lines);
+    see_alias(&rt, &third, 2, true);
 }
 
 fn see_signature(rt: &impl Abort, seen: &Signature, name: &[u8], sorts: &[Sort]) {
