@@ -37,7 +37,7 @@ rules_apart ts h n k a (inl (inr x)) e = (let z : other_goal ≡ normalization =
 rules_apart ts h n k a (inr x) e = trait_kind (k.is_coinductive x.of_trait) (sym (ap (goal_kind (meaning k (λ n. []))) x.conclusion) ∙ e)
 
 pub clauses_have_no_aliases : (ts : List Tree) (h : Clauses) → SaysNothingOfAliases h → HasNoAliases (handler_of ts h)
-clauses_have_no_aliases ts h n = record { none = λ mode a i e. rules_apart ts h n (handler_of ts h) a i e }
+clauses_have_no_aliases ts h n = record { none = λ a i e. rules_apart ts h n (handler_of ts h) a i e }
 
 -- an alias that is rigid is normalized
 abbrev rigid_use : AliasHead → Application
@@ -57,7 +57,7 @@ rigid_is_normalized ts h x r n =
       no_constraints = refl;
       no_hidden = refl;
     } in
-    n.none coherence (rigid_use x) (inl (inl (inr stands))) refl
+    n.none (rigid_use x) (inl (inl (inr stands))) refl
 
 -- .. and a list of clauses reports no leak, so it is right about leaks whatever outlives what
 pub clauses_respect_truths : (ts : List Tree) (h : Clauses) (truth : Truth) → RespectsLeaks (handler_of ts h) truth
@@ -66,7 +66,7 @@ clauses_respect_truths ts h truth = tight_respects (handler_of ts h) (λ c u l. 
 pub assembly_has_no_aliases : (ts : List Tree) (h : Clauses) → SaysNothingOfAliases h → HasNoAliases (either assuming (handler_of ts h))
 assembly_has_no_aliases ts h n =
     record {
-      none = λ mode a i e. elim i [
+      none = λ a i e. elim i [
         | inl x ↦ trait_kind (coinductive_of h x.of_trait) (sym (ap (goal_kind (meaning (either assuming (handler_of ts h)) (λ n. []))) x.conclusion) ∙ e)
         | inr x ↦ rules_apart ts h n (either assuming (handler_of ts h)) a x e
       ];

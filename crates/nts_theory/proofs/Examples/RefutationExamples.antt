@@ -59,18 +59,18 @@ fact_only = fact_under []
 
 -- a handler without rules normalizes no alias
 no_rule_normalizes : HasNoAliases without_rules
-no_rule_normalizes = record { none = λ mode a h k. h }
+no_rule_normalizes = record { none = λ a h k. h }
 
 -- a handler whose only rule is a trait's fact normalizes no alias
 fact_normalizes_nothing : (xs : List Constraint) → HasNoAliases (fact_under xs)
-fact_normalizes_nothing xs = record { none = λ mode a h k. (let z : other_goal ≡ normalization = sym (ap (λ x. goal_kind (meaning (fact_under xs) (λ i. [])) x.conclusion) h) ∙ k in cc z) }
+fact_normalizes_nothing xs = record { none = λ a h k. (let z : other_goal ≡ normalization = sym (ap (λ x. goal_kind (meaning (fact_under xs) (λ i. [])) x.conclusion) h) ∙ k in cc z) }
 
 -- a handler with a rule that concludes what an alias normalizes to is none without aliases
 abbrev normalizing : Application
 normalizing = record fact_clause { conclusion = normalization_goal (alias_of.Ty 0) empty list_type }
 
 alias_is_normalized : HasNoAliases (with_rule normalizing (λ i. false)) → ⊥
-alias_is_normalized h = h.none coherence normalizing refl refl
+alias_is_normalized h = h.none normalizing refl refl
 
 -- everything outlives everything, and nothing anything
 abbrev pub all_true : Truth

@@ -52,7 +52,7 @@ normal_opened f p s e = cc e
 module _ (h : Handler) (m : Meaning) (same : (a : Application) → m.applies coherence a → h.applies coherence a) (kind : (c : Tree) → goal_kind m c ≡ goal_kind (meaning h (λ i. [])) c) (none : HasNoAliases h)
     (G : Tree → Type 0) (H : Constraint → Type 0) (D : Hidden → Type 0) (P : Premise → Type 0) where
   plain_apart : (e s : Tree) → goal_kind m (unbound s) ≡ normalization → IsPlainRule m coherence G H D P e s → ⊥
-  plain_apart e s n (inl (i, a)) = none.none coherence a.use_of (same a.use_of a.applies) (ap (goal_kind (meaning h (λ i. []))) a.conclusion ∙ sym (kind (unbound s)) ∙ n)
+  plain_apart e s n (inl (i, a)) = none.none a.use_of (same a.use_of a.applies) (ap (goal_kind (meaning h (λ i. []))) a.conclusion ∙ sym (kind (unbound s)) ∙ n)
   plain_apart e s n (inr b) = not_built_in m G H _ e s (normal_handlers m.is_coinductive s n) b
 
   pub rule_apart : (e c : Tree) → goal_kind m c ≡ normalization → IsRule m coherence G H D P e c → ⊥

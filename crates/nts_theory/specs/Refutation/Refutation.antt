@@ -23,9 +23,9 @@ use Rattle.nts_model.specs.Tables.Passing.{AllLabels}
 use Rattle.nts_theory.specs.Affirming.{IsDenied, SaysOfTwo, is_well_formed}
 use Rattle.nts_variance_model.specs.Variances.SettledProofs.{HasSettledProof}
 
--- no rule of the handler says what an alias normalizes to. Where no alias is declared there is none
+-- in coherence no rule of the handler says what an alias normalizes to. Where no alias is declared there is none
 pub record HasNoAliases (h : Handler) : Type 0 where
-  pub none : (mode : Mode) (a : Application) → h.applies mode a → goal_kind (meaning h (λ i. [])) a.conclusion ≡ normalization → ⊥
+  pub none : (a : Application) → h.applies coherence a → goal_kind (meaning h (λ i. [])) a.conclusion ≡ normalization → ⊥
 
 -- a renaming that keeps variables, and the regions that stay
 pub record IsCarrying (ρ : Renaming) : Type 0 where
