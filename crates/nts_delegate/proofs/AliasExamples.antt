@@ -1,6 +1,6 @@
 -- What clauses of aliases offer: a clause for its own alias, the alias itself where it is rigid, and nothing for another; what a
 -- projection is asked as; and of which lists of clauses nothing is said of aliases.
-use Rattle.std.proofs.Common.{◌≡◌, ℕ, ◌==◌, Bool, true, false, if◌then◌else◌, List, [], ◌∷◌, ◌++◌, refl, ap, sym, ◌∙◌, arith}
+use Rattle.std.proofs.Common.{◌≡◌, ℕ, ◌==◌, Bool, true, false, if◌then◌else◌, List, [], ◌∷◌, refl, ap, sym, ◌∙◌, arith}
 use Rattle.nts_model.specs.declared.labels.AliasHead.{AliasHead}
 use Rattle.nts_model.specs.declared.labels.AliasHead.TheVariants as alias_of
 use Rattle.nts_model.specs.declared.labels.AliasRelationDirection.TheVariants as direction
@@ -19,10 +19,7 @@ use Rattle.nts_model.specs.Derivations.Rules.{Mode, alike, normalization_goal, r
 use Rattle.nts_model.specs.Derivations.Sequents.{impl_where_bound, misc}
 use Rattle.nts_model.specs.Terms.Trees.{Tree, empty, more, node}
 use Rattle.nts_delegate.specs.Adding.{AddsNormClause, KeepsClauses, MakesRigid}
-use Rattle.nts_delegate.specs.ClauseHandlers.{ClauseTree, ClausesOfTraits, ClausesOfAliases, handler_with, normalizing, projecting, projection_goal, trait_goal, offers_by, clauses_in_store, alias_offers, alias_clauses_in_store, rigid_in, handler_of}
-use Rattle.nts_delegate.specs.Assumptions.{assumed_offers, assuming}
-use Rattle.nts_delegate.specs.Both.{either}
-use Rattle.nts_delegate.specs.Offers.{trait_of}
+use Rattle.nts_delegate.specs.ClauseHandlers.{ClauseTree, ClausesOfTraits, ClausesOfAliases, handler_with, normalizing, projecting, projection_goal, trait_goal}
 use Rattle.nts_delegate.specs.Clauses.{HoldsNormClause, SaysNothingOfAliases, said_of}
 use Rattle.nts_delegate.specs.declared.alias_table.NormClause.{NormClause}
 use Rattle.nts_delegate.specs.declared.clauses.Clauses.{Clauses}
@@ -132,11 +129,6 @@ kept_says_nothing old new k n a = k.aliases a ∙ n a
 
 a_rigid_alias_is_no_keeping : (old new : Clauses) (a : AliasDefId) → SaysNothingOfAliases old → MakesRigid old new a → KeepsClauses old new → ⊥
 a_rigid_alias_is_no_keeping old new a n m k = a_rigid_alias_says_something new (alias_head a) (a_rigid_alias_is_made old new a m) (kept_says_nothing old new k n)
-
--- an assembly offers what the environment says, then what is offered for aliases, and then the clauses of the goal's trait
-an_assembly_offers_in_order : (ts : List Tree) (h : Clauses) (mode : Mode) (e g : Tree) → (either assuming (handler_of ts h)).offers mode e g
-    ≡ assumed_offers e (trait_of g) ++ (alias_offers (alias_clauses_in_store ts h) (rigid_in h) e g ++ offers_by (clauses_in_store ts h) e (trait_of g))
-an_assembly_offers_in_order ts h mode e g = refl
 
 -- a goal of a host effect is offered nothing
 a_host_effect_has_none : (traits : ClausesOfTraits) (is_coinductive : ℕ → Bool) (mode : Mode) (e t : Tree) (i : ℕ) → (handler_with clauses is_rigid traits is_coinductive).offers mode e (unbound (node (label.Clause (clause.HostEffect i)) (arguments t))) ≡ []

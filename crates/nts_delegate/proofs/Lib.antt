@@ -2,7 +2,6 @@ mod AliasExamples
 pub mod AliasFound
 pub mod AliasSingle
 pub mod AliasTables
-mod AssumedExamples
 pub mod Found
 pub mod Indexing
 pub mod Merging
@@ -10,6 +9,5 @@ pub mod Offering
 pub mod Over
 pub mod Ready
 pub mod Relevance
-pub mod RowOffers
 pub mod Testing
 pub mod Traits

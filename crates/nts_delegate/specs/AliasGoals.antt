@@ -46,13 +46,13 @@ pub record IsNoProjecting (g : Tree) : Type 0 where
   pub none_under : (f : Leaf → Tree) → projection_of (replace f g) ≡ None
 
 -- a list of arguments and a term
-record ArePartsOf (h : AliasHead) (ts : Tree) : Type 0 where
-  parts : Tree
-  term : Tree
-  formed : IsFormedAsked (record { head = h; parts = parts; term = term })
-  is : ts ≡ pair (node (label.List list.Args) parts) term
+pub record ArePartsOf (h : AliasHead) (ts : Tree) : Type 0 where
+  pub parts : Tree
+  pub term : Tree
+  pub formed : IsFormedAsked (record { head = h; parts = parts; term = term })
+  pub is : ts ≡ pair (node (label.List list.Args) parts) term
 
-two_parts : (h : AliasHead) (ts : Tree) → HavePlaces (trees.is trees.arguments ∷ a_result h ∷ []) ts → IsFormed ts → ArePartsOf h ts
+pub two_parts : (h : AliasHead) (ts : Tree) → HavePlaces (trees.is trees.arguments ∷ a_result h ∷ []) ts → IsFormed ts → ArePartsOf h ts
 two_parts h empty p f = absurd p
 two_parts h (more a empty) p f = absurd p.1
 two_parts h (more a (more v e)) p f =

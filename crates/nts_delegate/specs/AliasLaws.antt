@@ -26,7 +26,7 @@ AreOwnOfAliases clauses = (a : AliasHead) → AreOwnClauses (clauses a)
 abbrev pub asked_under : (Leaf → Tree) → AliasAsked → AliasAsked
 asked_under f w = record { head = w.head; parts = replace f w.parts; term = replace f w.term }
 
-row_moved : (f : Leaf → Tree) (w : AliasAsked) → IsRow w.parts → replace f (asked_row w) ≡ asked_row (asked_under f w)
+pub row_moved : (f : Leaf → Tree) (w : AliasAsked) → IsRow w.parts → replace f (asked_row w) ≡ asked_row (asked_under f w)
 row_moved f w r = push_replace f w.parts w.term r
 
 pub none_valued : (vs : List Tree) → AreValuesOf [] vs → vs ≡ []

@@ -3,17 +3,12 @@ pub mod AliasGoals
 pub mod AliasLaws
 pub mod AliasOffers
 pub mod AliasRows
-pub mod Assumed
-pub mod AssumedOffers
-pub mod Assuming
-pub mod Assumptions
 pub mod Both
 pub mod Candidates
 pub mod ClauseHandlers
 pub mod Clauses
 pub mod ClausesKept
 pub mod ClausesLawful
-pub mod EnvironmentRows
 pub mod HandlerLaws
 pub mod Judging
 pub mod Keeping
@@ -21,8 +16,6 @@ pub mod Offers
 pub mod OwnClauses
 pub mod OwnTerms
 pub mod Places
-pub mod Positioned
-pub mod PositionedTerms
 pub mod ProjectionLaws
 pub mod Relevant
 pub mod SameHandlers

@@ -398,7 +398,7 @@ fn head_of_clause(cx: &Cx, clause: &Clause) -> Option<TyHead>
 }
 
 /// The trait and the arguments that a trait's goal is about.
-pub(crate) fn trait_of_statement(kind: PredicateKind) -> Option<TraitRef>
+pub fn trait_of_statement(kind: PredicateKind) -> Option<TraitRef>
     ensures is { (ts : List Tree) → trait_read (tree_of_statement ts kind) ≡ read_trait ts result }
     ensures holds { (ts : List Tree) → StatementFits ts kind → HoldsTrait ts result }
 {

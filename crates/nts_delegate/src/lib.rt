@@ -3,22 +3,20 @@
 
 mod alias_offers;
 mod alias_table;
-mod assembly;
-mod assumptions;
 mod both;
 mod clause_fits;
 mod clauses;
 mod delegate;
 mod head_index;
+mod lent;
 mod norm_clauses;
 mod offer;
 
 pub use alias_table::NormClause;
-pub use assembly::Assembly;
-pub use assumptions::Assumptions;
 pub use both::Both;
-pub use clauses::{Clause, Clauses};
+pub use clauses::{Clause, Clauses, trait_of_statement};
 pub use delegate::{FetchEligibleAssocItemResponse, GoalHandler};
 pub use nts_candidates::{
     CandidateData, CandidateGoal, Equation, EquationKind, Reason, RegionConstraint,
 };
+pub use offer::pairs_of;

@@ -42,7 +42,7 @@ pub(crate) fn offer_of(
 }
 
 /// Each argument with the one of the head at its position.
-pub(crate) fn pairs_of(
+pub fn pairs_of(
     alloc: Global,
     cx: &Cx,
     args: GenericArgs,

@@ -11,8 +11,7 @@ use Rattle.nts_terms.specs.declared.handles.ParamEnv.{ParamEnv}
 use Rattle.nts_store.specs.Growth.{tree_at, Extends}
 use Rattle.nts_table.specs.Tables.{Table}
 use Rattle.nts_unify.specs.Reading.{content_of}
-use Rattle.nts_delegate.specs.Assumptions.{assuming}
-use Rattle.nts_delegate.specs.Both.{either}
+use Rattle.nts_assembly.specs.Assembling.{assembled}
 use Rattle.nts_delegate.specs.ClauseHandlers.{handler_of}
 use Rattle.nts_terms.specs.Modes.{mode_of}
 use Rattle.nts_delegate.specs.declared.clauses.Clauses.{Clauses}
@@ -27,7 +26,7 @@ use Rattle.nts_wording.specs.declared.answer.Answer.TheVariants as answers
 
 -- the rules of a run: those of the environment, and the clauses
 abbrev pub rules_with : List Tree → Clauses → Handler
-rules_with ts h = either assuming (handler_of ts h)
+rules_with ts h = assembled (handler_of ts h)
 
 -- a goal has a ranked proof by its environment, the clauses and the variances that are declared, in the mode of a table and under its values
 pub record IsProvedGoal (a : Cx) (us : List Tree) (h : Clauses) (t : Table) (g : Goal) : Type 0 where

@@ -11,7 +11,8 @@ ghost use Rattle.nts_terms.specs.Rest.{Grows};
 
 use nts_certainty::{Certainty, MaybeCause};
 use nts_declaring::pose;
-use nts_delegate::{Assembly, Clauses};
+use nts_assembly::Assembly;
+use nts_delegate::Clauses;
 use nts_evaluation::{evaluate_root_goal, goal_is_admitted};
 use nts_store::EvalError;
 use nts_table::InferCtxt;

@@ -26,8 +26,10 @@ use Rattle.nts_terms.proofs.Sorted.{HaveSorts-length}
 use Rattle.nts_table.specs.Tables.{Table}
 use Rattle.nts_table.specs.nts_unify.specs.Reading.{content_of}
 use Rattle.nts_candidates.specs.declared.reasons.Reason.{Reason}
-use Rattle.nts_delegate.specs.Assumptions.{assumed_offers}
-use Rattle.nts_delegate.specs.ClauseHandlers.{offer_by, takes_all, offers_by, clause_tree, clauses_in_store, alias_offers, alias_clauses_in_store, rigid_in}
+use Rattle.nts_assembly.specs.Assumptions.{assumed_offers}
+use Rattle.nts_assembly.specs.Projections.{assumed_results, outside}
+use Rattle.nts_terms.specs.Modes.{mode_of}
+use Rattle.nts_delegate.specs.ClauseHandlers.{normalization_of, offer_by, takes_all, offers_by, clause_tree, clauses_in_store, alias_offers, alias_clauses_in_store, rigid_in}
 use Rattle.nts_delegate.specs.Clauses.{clauses_of}
 use Rattle.nts_delegate.specs.Offers.{trait_of, trait_read}
 use Rattle.nts_delegate.specs.declared.clauses.Clause.{Clause}
@@ -129,7 +131,8 @@ each_reason cx h mode t g fit declared (of_candidates b u o opens asked each) =
     let p = trait_of (tree_at b o.predicate.node) in
     let of_aliases = alias_offers (alias_clauses_in_store cx.nodes h) (rigid_in h) e (tree_at b o.predicate.node) in
     let count : HasCount cx.declarations p = subst (λ x. HasCount cx.declarations (trait_of x)) (sym opens.predicate) (goal_count cx.declarations (content_of cx.nodes t.entries) (tree_at cx.nodes g.predicate.node) declared) in
-    of_candidates b u o opens asked (explained_by (ap (λ xs. assumed_offers e p ++ (of_aliases ++ xs)) (each_offered cx h e p fit count)) each)
+    let of_results = outside (mode_of mode) (assumed_results e (normalization_of (tree_at b o.predicate.node))) in
+    of_candidates b u o opens asked (explained_by (ap (λ xs. assumed_offers e p ++ (of_results ++ (of_aliases ++ xs))) (each_offered cx h e p fit count)) each)
 each_reason cx h mode t g fit declared (is_unasked b u o opens unasked) = is_unasked b u o opens unasked
 each_reason cx h mode t g fit declared (is_unopened k) = is_unopened k
 
@@ -152,8 +155,9 @@ explained_length : {c : Content} {xs : List Candidate} {rs : List Reason} → Ex
 explained_length none = refl
 explained_length (next x r each e) = length-append _ (r ∷ []) ∙ ap (λ n. n + 1) (explained_length each) ∙ sym (length-append _ (x ∷ []))
 
-enough : {X Y : Type 0} (rs : List X) (xs zs ys : List Y) (k : ℕ) → length rs ≡ length (xs ++ (zs ++ ys)) → length ys ≡ k → k ≤ length rs
-enough rs xs zs ys k e f = omega (arith, e, f, length-append xs (zs ++ ys), length-append zs ys)
+enough : {X Y : Type 0} (rs : List X) (xs ws zs ys : List Y) (k : ℕ) → length rs ≡ length (xs ++ (ws ++ (zs ++ ys))) → length ys ≡ k → k ≤ length rs
+enough rs xs ws zs ys k e f =
+    omega (arith, e, f, length-append xs (ws ++ (zs ++ ys)), length-append ws (zs ++ ys), length-append zs ys)
 
 -- a goal of a trait has no reason, or one for each clause of the trait at least
 pub clause_reasons : (ts : List Tree) (h : Clauses) (mode : TypingMode) (t : Table) (g : Goal) (n k : ℕ) (x : Tree) {rs : List Reason} → trait_of (tree_at ts g.predicate.node) ≡ Some (n, x) → length (clauses_of h n) ≡ k
@@ -166,6 +170,6 @@ clause_reasons ts h mode t g n k x about count (of_candidates b u o opens asked 
     let offers = offers_of_each (clauses_in_store ts h) e in
     let many : length (offers (trait_of p)) ≡ k =
     ap (λ z. length (offers z)) here ∙ length-map (map (clause_tree ts) (clauses_of h n)) (offer_by e (children y.0)) ∙ length-map (clauses_of h n) (clause_tree ts) ∙ count in
-    inr (enough _ (assumed_offers e (trait_of p)) (alias_offers (alias_clauses_in_store ts h) (rigid_in h) e p) (offers (trait_of p)) k (explained_length each) many)
+    inr (enough _ (assumed_offers e (trait_of p)) (outside (mode_of mode) (assumed_results e (normalization_of p))) (alias_offers (alias_clauses_in_store ts h) (rigid_in h) e p) (offers (trait_of p)) k (explained_length each) many)
 clause_reasons ts h mode t g n k x about count (is_unasked b u o opens unasked) = inl refl
 clause_reasons ts h mode t g n k x about count (is_unopened c) = inl refl

@@ -14,7 +14,8 @@ ghost use Rattle.nts_program.specs.nts_declaring.specs.Heads.{HeadsFit};
 ghost use Rattle.nts_reasons.specs.Obeying.{trait_of, lines_for, IsNewExplainer, HasLines, DoesCommand, IsObeyed, Notes};
 ghost use Rattle.nts_reasons.specs.Running.{is_yes, HasMoreTerms, HasReasons, AreReasonsOf, IsReasonedPut, IsTold};
 
-use nts_delegate::{Assembly, Clauses, Reason};
+use nts_assembly::Assembly;
+use nts_delegate::{Clauses, Reason};
 use nts_explaining::explain;
 use nts_program::nts_declaring::{ImplLines, Program, pose, write_reasons};
 use nts_program::nts_evaluation::goal_is_admitted;

@@ -100,6 +100,23 @@ region_is_no_alias = refl
 value_is_no_chain : are_predicates wanted.Norm (of_alias ++ token 6 Equals ∷ token 8 Name ∷ []) ≡ false
 value_is_no_chain = refl
 
+-- what is assumed may be an alias with its value, behind a trait's predicate or a binder, and one that outlives a region
+alias_is_assumed : are_predicates wanted.Assumed (token 0 Name ∷ token 1 Open ∷ token 2 Name ∷ token 4 Close ∷ token 5 Comma ∷ of_alias) ≡ true
+alias_is_assumed = refl
+
+type_is_assumed : are_predicates wanted.Assumed of_type ≡ true
+type_is_assumed = refl
+
+bound_is_assumed : are_predicates wanted.Assumed (token 0 For ∷ token 4 RegionParam ∷ token 6 Greater ∷ with_arguments) ≡ true
+bound_is_assumed = refl
+
+-- .. but no alias without a value, and no value of a region
+alias_alone_is_none : are_predicates wanted.Assumed (token 0 Name ∷ []) ≡ false
+alias_alone_is_none = refl
+
+region_is_not_assumed : are_predicates wanted.Assumed (token 0 Name ∷ token 2 Equals ∷ token 4 RegionParam ∷ []) ≡ false
+region_is_not_assumed = refl
+
 -- the value is the alias's last argument
 nodes_of_alias : written_nodes of_alias ≡ node_of (token 0 Name) 1 roles.Normalizes ∷ node_of (token 4 Name) 0 roles.Argument ∷ []
 nodes_of_alias = refl

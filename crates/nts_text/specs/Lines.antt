@@ -57,10 +57,10 @@ IsClause w ts head body =
     × (are_predicates w before ≡ true) × (head ≡ written_nodes before)
     × (are_predicates wanted.Many after ≡ true) × (body ≡ written_nodes after))
 
--- there are no tokens, or they are predicates
+-- there are no tokens, or they are predicates that may be assumed
 abbrev pub IsEnvironment : List Token → List Node → Type 0
 IsEnvironment ts ns =
-    ((ts ≡ []) × (ns ≡ [])) ⊎ ((are_predicates wanted.Many ts ≡ true) × (ns ≡ written_nodes ts))
+    ((ts ≡ []) × (ns ≡ [])) ⊎ ((are_predicates wanted.Assumed ts ≡ true) × (ns ≡ written_nodes ts))
 
 -- what the tokens behind a keyword say
 abbrev pub Says : List ℕ → List Token → Keyword → Line → Type 0

@@ -73,11 +73,18 @@ is_type k = is_word k && not (is_region k)
 -- where a colon may yet come, or `=`
 abbrev pub may_have_colon : Side → Bool
 may_have_colon side.Left = true
+may_have_colon side.Any = true
 may_have_colon s = false
 
 abbrev pub may_have_equals : Side → Bool
 may_have_equals side.Alias = true
+may_have_equals side.Any = true
 may_have_equals s = false
+
+-- .. and where `=` has to come
+abbrev pub needs_equals : Side → Bool
+needs_equals side.Alias = true
+needs_equals s = false
 
 -- behind a colon, or behind `=`
 abbrev pub is_right : Side → Bool
@@ -98,7 +105,7 @@ ends_item many depth k = (is_comma k && (many || nat_lt 0 depth)) || (is_close k
 -- is so with its bracket, one that says what outlives a region with the region behind its colon, and one of an
 -- alias with the type behind its `=`
 abbrev pub is_complete : Side → ℕ → TokenKind → Bool
-is_complete s depth Close = nat_lt 0 depth || not (may_have_equals s)
+is_complete s depth Close = nat_lt 0 depth || not (needs_equals s)
 is_complete s depth Name = nat_lt 0 depth || is_value s
 is_complete s depth k = is_marked k && (nat_lt 0 depth || is_right s)
 
@@ -150,12 +157,14 @@ binding_behind binding _ = binding
 -- there may be many predicates
 abbrev pub is_many : Wanted → Bool
 is_many wanted.Many = true
+is_many wanted.Assumed = true
 is_many w = false
 
--- on which side a predicate begins: the head of a clause is a trait's, or an alias's with its value
+-- on which side a predicate begins: the head of a clause is a trait's, or an alias's with its value, and what is assumed may be either
 abbrev pub first_side : Wanted → Side
 first_side wanted.Base = side.Trait
 first_side wanted.Norm = side.Alias
+first_side wanted.Assumed = side.Any
 first_side w = side.Left
 
 -- on which side it is behind a token; a comma outside of brackets begins a predicate

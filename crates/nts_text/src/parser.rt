@@ -508,7 +508,7 @@ fn goal_line(alloc: Global, line: &[u8], tokens: &[Token]) -> Result<Option<Line
     }
 }
 
-/// An environment: nothing, or predicates.
+/// An environment: nothing, or predicates that may be assumed.
 fn env_line(alloc: Global, line: &[u8], tokens: &[Token]) -> Result<Option<Line>, AllocError>
     requires { All (IsInside line.now) tokens.now }
     ensures says { IfOk result (λ o. IfSome o (Says line.now tokens.now Keyword.Env)) }
@@ -518,7 +518,7 @@ fn env_line(alloc: Global, line: &[u8], tokens: &[Token]) -> Result<Option<Line>
     if tokens.is_empty() {
         return Ok(Some(Line::Env(Vec::new(alloc))));
     }
-    match predicates_of(alloc, tokens, Wanted::Many)? {
+    match predicates_of(alloc, tokens, Wanted::Assumed)? {
         Some(nodes) => Ok(Some(Line::Env(nodes))),
         None => Ok(None),
     }

@@ -1,7 +1,7 @@
 //! Predicates, as the grammar reads them.
 
 ghost use Rattle.std.specs.Prelude.{◌≡◌, ◌<◌, ◌≤◌, ◌+◌, ◌^◌, true, not, ◌==◌, ◌&&◌, ◌++◌, if◌then◌else◌, is_some, is_none, length, map, filter, reverse, All, Contains, IfOk, IfSome, OnOk};
-ghost use Rattle.nts_text.specs.Predicates.{is_bound_token, is_marked, is_name, is_equals, is_region, is_sign, is_type, is_word, ends_item, is_complete, may_have_colon, may_have_equals, is_right, is_value, may_sign, may_follow, may_follow_bound, may_stand, binding_before, binding_behind, first_side, side_behind, is_many, before_first_of, are_predicates, kind_before, sign_before, taken_sign, trees_before, outlives_role, behind_sign, written_nodes, is_forest};
+ghost use Rattle.nts_text.specs.Predicates.{is_bound_token, is_marked, is_name, is_equals, is_region, is_sign, is_type, is_word, ends_item, is_complete, may_have_colon, may_have_equals, needs_equals, is_right, is_value, may_sign, may_follow, may_follow_bound, may_stand, binding_before, binding_behind, first_side, side_behind, is_many, before_first_of, are_predicates, kind_before, sign_before, taken_sign, trees_before, outlives_role, behind_sign, written_nodes, is_forest};
 
 use crate::lexer::{Token, TokenKind};
 use std::alloc::{AllocError, Global};
@@ -47,6 +47,8 @@ pub enum Wanted {
     One,
     /// Many, parted by commas.
     Many,
+    /// Many that may be assumed: those, and aliases with their values.
+    Assumed,
 }
 
 /// What a predicate may yet be where its tokens so far are read, or on which side of its sign they stand.
@@ -56,6 +58,8 @@ pub enum Side {
     Trait,
     /// One of a trait, or on the left of a colon.
     Left,
+    /// One of a trait, or on the left of a colon or of an `=`.
+    Any,
     /// On the left of an `=`.
     Alias,
     /// Behind a colon.
@@ -128,11 +132,17 @@ fn ends_item(many: bool, depth: usize, kind: TokenKind) -> bool
 fn may_have_colon(side: Side) -> bool
     ensures { result ≡ may_have_colon side }
 {
-    side == Side::Left
+    matches!(side, Side::Left | Side::Any)
 }
 
 fn may_have_equals(side: Side) -> bool
     ensures { result ≡ may_have_equals side }
+{
+    matches!(side, Side::Alias | Side::Any)
+}
+
+fn needs_equals(side: Side) -> bool
+    ensures { result ≡ needs_equals side }
 {
     side == Side::Alias
 }
@@ -154,7 +164,7 @@ fn is_complete(side: Side, depth: usize, kind: TokenKind) -> bool
     ensures { result ≡ is_complete side depth kind }
 {
     match kind {
-        TokenKind::Close => depth > 0 || !may_have_equals(side),
+        TokenKind::Close => depth > 0 || !needs_equals(side),
         TokenKind::Name => depth > 0 || is_value(side),
         _ => is_marked(kind) && (depth > 0 || is_right(side)),
     }
@@ -235,6 +245,7 @@ fn first_side(wanted: Wanted) -> Side
         Wanted::Base => Side::Trait,
         Wanted::Norm => Side::Alias,
         Wanted::One | Wanted::Many => Side::Left,
+        Wanted::Assumed => Side::Any,
     }
 }
 
@@ -275,7 +286,7 @@ fn binding_before(kind: TokenKind, behind: bool) -> bool
 fn is_many(wanted: Wanted) -> bool
     ensures { result ≡ is_many wanted }
 {
-    wanted == Wanted::Many
+    matches!(wanted, Wanted::Many | Wanted::Assumed)
 }
 
 /// Behind what the first predicate stands, as it were: a predicate is to come behind a comma, and one
@@ -285,7 +296,7 @@ fn before_first_of(wanted: Wanted) -> TokenKind
 {
     match wanted {
         Wanted::Base | Wanted::Norm => TokenKind::Greater,
-        Wanted::One | Wanted::Many => TokenKind::Comma,
+        Wanted::One | Wanted::Many | Wanted::Assumed => TokenKind::Comma,
     }
 }
 

@@ -1,5 +1,4 @@
-use Rattle.std.proofs.Common.{◌≡◌, inl, inr, Err, subst}
-use Rattle.nts_store.specs.declared.fault.EvalError.TheVariants as error
+use Rattle.std.proofs.Common.{inr}
 use Rattle.nts_table.specs.nts_unify.specs.Lawful.{content_of-extended}
 use Rattle.nts_table.specs.TableLaws.{IsTable-extended}
 use Rattle.nts_delegate.proofs.both.BothGoalHandler.leak_check.Goals as goal

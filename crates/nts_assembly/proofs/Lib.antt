@@ -1,0 +1,4 @@
+mod AssumedExamples
+pub mod ClauseRules
+pub mod ResultOffers
+pub mod RowOffers

@@ -1,0 +1,12 @@
+pub mod Assembling
+pub mod Assumed
+pub mod AssumedOffers
+pub mod Assuming
+pub mod Assumptions
+pub mod EnvironmentRows
+pub mod Equating
+pub mod EquatingLawful
+pub mod Positioned
+pub mod PositionedTerms
+pub mod ProjectionRows
+pub mod Projections
