@@ -133,7 +133,12 @@ module _ (h : Handler) (law : IsLawfulHandler h) (mode : Mode) (n : ℕ) (k : Bo
 
 -- a goal that says something of a region is one of the store that does, and of no other kind
 pub outlives_in : {ts : List Tree} {o : Goal} (y : SaysOutlivesHere (tree_at ts o.param_env.node) (tree_at ts o.predicate.node)) → OutlivesIn ts o y.constraint
-outlives_in y = record { says = y.says; environment = record { closed = y.closed; statements = y.statements }; no_alias = y.no_alias }
+outlives_in {ts} {o} y =
+    record {
+      says = y.says;
+      environment = record { closed = y.closed; statements = y.statements };
+      no_alias = (or_false (any_label is_alias (tree_at ts o.predicate.node)) false (or_false (any_label is_alias (tree_at ts o.param_env.node)) (any_label is_alias (tree_at ts o.predicate.node) || false) y.no_alias).1).0;
+    }
 
 pub region_not_asked : {ts : List Tree} {o : Goal} → IsAskedGoal ts o → SaysOutlivesHere (tree_at ts o.param_env.node) (tree_at ts o.predicate.node) → ⊥
 region_not_asked asked y = trait_outlives_nothing _ _ (let z = asked.trait_goal in z.statement) y.says

@@ -1,13 +1,13 @@
 -- Goals that something outlives a region: which statements are such, and that one holds where its constraint is held.
-use Rattle.std.proofs.Common.{◌≡◌, inl, inr, ◌||◌, Bool, true, false, List, [], ◌∷◌, Some, refl, sym, ap, ◌∙◌, subst}
+use Rattle.std.proofs.Common.{◌≡◌, inl, inr, Bool, true, List, [], ◌∷◌, Some, refl, sym, ap, ◌∙◌, subst}
 use Rattle.nts_model.specs.declared.labels.Sort.TheVariants as sort
 use Rattle.nts_model.specs.declared.labels.Relation.TheVariants as relation
-use Rattle.nts_model.specs.Terms.Trees.{Tree, empty, more, node, kind_of, of_sort, any_label, is_alias, IsClosed, IsFormed}
+use Rattle.nts_model.specs.Terms.Trees.{Tree, empty, more, node, kind_of, of_sort, IsClosed, IsFormed}
 use Rattle.nts_model.specs.Terms.Regions.{IsRegion}
 use Rattle.nts_model.specs.Tables.Contents.{Content}
 use Rattle.nts_model.specs.Tables.Recording.{left_kind}
 use Rattle.nts_model.specs.Tables.Resolving.{Knows, deeply_resolved, IsSound}
-use Rattle.nts_model.specs.Derivations.Related.{Constraint, pair, unbound}
+use Rattle.nts_model.specs.Derivations.Related.{Constraint, unbound}
 use Rattle.nts_model.specs.Derivations.Rules.{Meaning, Mode, region_lives, type_lives}
 use Rattle.nts_model.specs.Derivations.Handlers.{constraint_by}
 use Rattle.nts_model.specs.Derivations.Proofs.{Assumed}
@@ -33,9 +33,6 @@ use Rattle.nts_trying.proofs.Unasked.{listed_of, row_of_none}
 use Rattle.nts_model.specs.Terms.Trees.{children, row_length, IsRow}
 use Rattle.nts_model.specs.Derivations.Related.{no_sorts}
 use Rattle.nts_model.specs.Derivations.Rules.{statement_of}
-use Rattle.nts_store.specs.declared.type_flags.TypeFlags.{TypeFlags}
-use Rattle.nts_store.specs.TypeFlags.{flags_of}
-use Rattle.nts_delegate.proofs.Testing.{or_false}
 use Rattle.nts_store.specs.Formed.{AreFormed}
 use Rattle.nts_store.specs.Growth.{tree_at}
 use Rattle.nts_terms.specs.declared.handles.Binder.{Binder}
@@ -144,14 +141,6 @@ module _ (ts : List Tree) (g : Goal) (b : Binder PredicateKind) (is : tree_at ts
       let whole : tree_at ts g.predicate.node ≡ unbound (tree_of_statement ts b.value) = is ∙ ap (λ z. node (label.List list.Binder) (more z (more (tree_of_statement ts b.value) empty))) binder in
       let f : IsFormed (unbound (tree_of_statement ts b.value)) = subst IsFormed whole (formed g.predicate.node holds.predicate.within) in
       record { statement = tree_of_statement ts b.value; binds_nothing = whole; says = w; formed = f.1.1.0; closed = statement_closed x (tree_of_statement ts b.value) w left right }
-
--- no alias stands in a goal, by its facts
-pub no_alias_here : (ts : List Tree) (g : Goal) (env goal : TypeFlags) → env ≡ flags_of (tree_at ts g.param_env.node) → goal ≡ flags_of (tree_at ts g.predicate.node) → env.has_alias ≡ false → goal.has_alias ≡ false
-    → any_label is_alias (pair (tree_at ts g.param_env.node) (tree_at ts g.predicate.node)) ≡ false
-no_alias_here ts g env goal e p x y =
-    let t = any_label is_alias (tree_at ts g.param_env.node) in
-    let u = any_label is_alias (tree_at ts g.predicate.node) in
-    or_false t (u || false) (sym (ap (λ f. f.has_alias) e) ∙ x) (or_false u false (sym (ap (λ f. f.has_alias) p) ∙ y) refl)
 
 -- the sides have no labels but the goal's
 sides_pass : (P : Label → Bool) (x : Constraint) (s : Tree) → SaysOutlives x s → TreePasses P s → AreSidesOf (TreePasses P) x

@@ -3,7 +3,7 @@ use Rattle.std.specs.Prelude.{◌≡◌, false, List, Option, Some, None}
 use Rattle.nts_model.specs.Terms.Trees.{Tree, any_label, is_alias, IsClosed}
 use Rattle.nts_model.specs.Tables.Holding.{HoldsConstraint}
 use Rattle.nts_model.specs.Derivations.Proving.{recorded_as}
-use Rattle.nts_model.specs.Derivations.Related.{Constraint, pair}
+use Rattle.nts_model.specs.Derivations.Related.{Constraint}
 use Rattle.nts_model.specs.Derivations.Sequents.{HasClosedStatements}
 use Rattle.nts_theory.specs.Outliving.{IsOutlives}
 use Rattle.nts_store.specs.Growth.{tree_at, IsIn}
@@ -27,11 +27,11 @@ pub record IsClosedEnv (e : Tree) : Type 0 where
   pub closed : IsClosed e
   pub statements : HasClosedStatements e
 
--- a goal that something outlives a region: it binds nothing, its environment is closed, and neither has an alias
+-- a goal that something outlives a region: it binds nothing and has no alias, and its environment is closed
 pub record OutlivesIn (ts : List Tree) (g : Goal) (x : Constraint) : Type 0 where
   pub says : IsOutlives (tree_at ts g.predicate.node) x
   pub environment : IsClosedEnv (tree_at ts g.param_env.node)
-  pub no_alias : any_label is_alias (pair (tree_at ts g.param_env.node) (tree_at ts g.predicate.node)) ≡ false
+  pub no_alias : any_label is_alias (tree_at ts g.predicate.node) ≡ false
 
 -- .. that these terms of the store are the sides of
 pub record IsOutlivesGoal (ts : List Tree) (g : Goal) (o : Outlives) : Type 0 where

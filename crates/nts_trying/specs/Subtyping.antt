@@ -3,11 +3,10 @@ use Rattle.std.specs.Global.{Vec}
 use Rattle.std.specs.Prelude.{◌≡◌, ◌⊎◌, ℕ, Bool, true, false, List, map, Option, Some, None}
 use Rattle.nts_model.specs.declared.labels.Variance.TheVariants as variance
 use Rattle.nts_model.specs.declared.labels.VariableKind.TheVariants as variable
-use Rattle.nts_model.specs.Terms.Trees.{Tree, any_label, is_alias, variable_tree}
+use Rattle.nts_model.specs.Terms.Trees.{Tree, variable_tree}
 use Rattle.nts_model.specs.Tables.Contents.{Content}
 use Rattle.nts_model.specs.Tables.Resolving.{deeply_resolved}
 use Rattle.nts_model.specs.Lists.{Among}
-use Rattle.nts_model.specs.Derivations.Related.{pair}
 use Rattle.nts_model.specs.Derivations.Rules.{Meaning, Mode, coherence, other_goal}
 use Rattle.nts_model.specs.Derivations.Proofs.{Assumed}
 use Rattle.nts_model.specs.Derivations.Proving.{IsTermOf}
@@ -44,11 +43,10 @@ pub record AreTypesIn (ts : List Tree) (p : TypePair) : Type 0 where
   pub sub : HoldsTy ts p.sub
   pub sup : HoldsTy ts p.sup
 
--- a goal that says so of two types: it binds nothing, its environment is closed, and neither has an alias
+-- a goal that says so of two types: it binds nothing, and its environment is closed
 pub record SubtypeIn (ts : List Tree) (g : Goal) (a b : Tree) : Type 0 where
   pub says : IsSubtyping (tree_at ts g.predicate.node) a b
   pub environment : IsClosedEnv (tree_at ts g.param_env.node)
-  pub no_alias : any_label is_alias (pair (tree_at ts g.param_env.node) (tree_at ts g.predicate.node)) ≡ false
 
 -- .. that these are
 pub record IsSubtypeGoal (ts : List Tree) (g : Goal) (p : TypePair) : Type 0 where

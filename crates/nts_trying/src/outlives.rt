@@ -72,8 +72,8 @@ pub(crate) fn is_closed_env(cx: &Cx, env: ParamEnv) -> bool
     statements_are_closed(cx, env)
 }
 
-/// What a goal says that outlives what, where it binds nothing, and neither it nor its environment has an alias or a bound variable
-/// that is without its binder.
+/// What a goal says that outlives what, where it binds nothing and has no alias, and neither it nor its environment has a bound
+/// variable that is without its binder.
 #[inline(never)]
 pub fn outlives_in(cx: &Cx, goal: Goal) -> Option<Outlives>
     requires { HoldsGoal cx.now.nodes goal }
@@ -84,9 +84,8 @@ pub fn outlives_in(cx: &Cx, goal: Goal) -> Option<Outlives>
     if predicate.vars.len(cx) != 0 {
         return None;
     }
-    let env = cx.nodes.flags(goal.param_env.node);
     let says = cx.nodes.flags(goal.predicate.node);
-    if env.has_alias || says.has_alias {
+    if says.has_alias {
         return None;
     }
     if cx.nodes.flags(outlives.left).escaping.is_some() {

@@ -48,8 +48,8 @@ fn types_of(statement: PredicateKind) -> Option<TypePair>
     }
 }
 
-/// The types of which a goal says so, where it binds nothing, and neither it nor its environment has an alias or a bound variable
-/// that is without its binder.
+/// The types of which a goal says so, where it binds nothing, and neither it nor its environment has a bound variable that is
+/// without its binder.
 #[inline(never)]
 pub fn types_in(cx: &Cx, goal: Goal) -> Option<TypePair>
     requires { HoldsGoal cx.now.nodes goal }
@@ -58,11 +58,6 @@ pub fn types_in(cx: &Cx, goal: Goal) -> Option<TypePair>
     let predicate = goal.predicate.kind(cx);
     let types = types_of(predicate.value)?;
     if predicate.vars.len(cx) != 0 {
-        return None;
-    }
-    let env = cx.nodes.flags(goal.param_env.node);
-    let says = cx.nodes.flags(goal.predicate.node);
-    if env.has_alias || says.has_alias {
         return None;
     }
     if !goal.predicate.has_closed_statement(cx) {

@@ -1,9 +1,9 @@
-use Rattle.std.proofs.Common.{rules, ◌≡◌, ◌∙◌, true, false, is_some, sym}
+use Rattle.std.proofs.Common.{rules, ◌≡◌, ◌∙◌, true, false, is_some, sym, ap}
 use Rattle.nts_model.specs.Terms.Trees.{children, row_length}
 use Rattle.nts_store.specs.Growth.{tree_at}
 use Rattle.nts_store.proofs.Escaping.{closed_by_facts}
 use Rattle.nts_trying.proofs.Unasked.{closed_none}
-use Rattle.nts_trying.proofs.Outliving.{closed_here, outlives_here, no_alias_here}
+use Rattle.nts_trying.proofs.Outliving.{closed_here, outlives_here}
 use Rattle.nts_trying.proofs.outlives.outlives_in.Goals as goal
 
 pub flags-requires : goal.flags-requires
@@ -31,7 +31,6 @@ returns c =
     let sides = c.in_ok-outlives.ensures.sides ts c.kind-predicate.ensures.fits.1 in
     let left_free : is_some c.flags.result.escaping ≡ false = first_of (cc, search rules) in
     let right_free : is_some c.flags-2.result.escaping ≡ false = first_of (cc, search rules) in
-    let env_plain : c.flags-env.result.has_alias ≡ false = first_of (cc, search rules) in
     let goal_plain : c.flags-says.result.has_alias ≡ false = first_of (cc, search rules) in
     let none : row_length (children (tree_at ts c.kind-predicate.result.vars.node)) ≡ 0 = first_of (cc, search rules) in
     record {
@@ -40,6 +39,6 @@ returns c =
       is = record {
         says = outlives_here ts c.args.goal c.kind-predicate.result c.kind-predicate.ensures.tree c.terms_are_formed.ensures c.requires c.kind-predicate.ensures.fits c.len.ensures.row none _ says (closed_by_facts _ c.flags.result c.flags.ensures left_free) (closed_by_facts _ c.flags-2.result c.flags-2.ensures right_free);
         environment = c.is_closed_env.ensures.0 (first_of (cc, search rules));
-        no_alias = no_alias_here ts c.args.goal c.flags-env.result c.flags-says.result c.flags-env.ensures c.flags-says.ensures env_plain goal_plain;
+        no_alias = sym (ap (λ f. f.has_alias) c.flags-says.ensures) ∙ goal_plain;
       };
     }
