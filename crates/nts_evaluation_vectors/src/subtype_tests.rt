@@ -125,7 +125,7 @@ fn what_is_left_of_two_types_is_refused(rt: HostRuntime) {
     plays(&rt, rt.alloc(), TypingMode::PostAnalysis, PAIRS, PARTS);
 }
 
-/// What is left of two types is in doubt where it is of two variables. A type with an alias isn't related yet.
+/// What is left of two types is in doubt where it is of two variables, and so is an alias against a type.
 #[test]
 fn what_is_left_of_two_types_is_in_doubt(rt: HostRuntime) {
     const ASKED: &[Asked] = &[
@@ -139,6 +139,27 @@ fn what_is_left_of_two_types_is_in_doubt(rt: HostRuntime) {
     ];
     const PARTS: &[Part] = &[Part(By::Clauses, &[], ASKED)];
     plays(&rt, rt.alloc(), TypingMode::PostAnalysis, PAIRS, PARTS);
+}
+
+/// In types with aliases what stands beside these may be apart. Of an alias nothing is known yet, nor whether it is a subtype of itself.
+#[test]
+fn types_with_aliases_are_related(rt: HostRuntime) {
+    const GIVEN: &[Given] = &[
+        Let("byte", BYTE),
+        Let("word", WORD),
+        Let("alias", Make::AliasOf("byte")),
+        Let("one", Make::Pair("alias", "byte")),
+        Let("other", Make::Pair("alias", "word")),
+    ];
+    const ASKED: &[Asked] = &[
+        Goal(Subtype("alias", "alias"), Is(DOUBT, HasChanged::No)),
+        Goal(Subtype("one", "one"), Is(DOUBT, HasChanged::No)),
+        Goal(Subtype("one", "other"), Refused),
+        Goal(Coerce("other", "one"), Refused),
+        Constraints(0),
+    ];
+    const PARTS: &[Part] = &[Part(By::Clauses, &[], ASKED)];
+    plays(&rt, rt.alloc(), TypingMode::PostAnalysis, GIVEN, PARTS);
 }
 
 /// Goals that are left are nested below the one that left them. Where no depth is left for them, what relating found out is taken
