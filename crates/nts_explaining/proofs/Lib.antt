@@ -1,3 +1,4 @@
+mod Explained
 mod FirstEquations
 mod Numbered
 mod Tried

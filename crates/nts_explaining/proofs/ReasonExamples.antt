@@ -1,5 +1,6 @@
 -- What reasons say of candidates: what meets the definitions, and what does not.
-use Rattle.std.proofs.Common.{◌≡◌, inl, refl, ap, arith, ℕ, List, [], ◌∷◌, length, length-append}
+use Rattle.std.proofs.Common.{◌≡◌, ◌∙◌, true, false, inl, refl, sym, ap, arith, ℕ, List, [], ◌∷◌, length, length-append}
+use Rattle.nts_model.specs.Terms.Trees.{Tree, any_label, is_alias}
 use Rattle.nts_model.specs.Tables.Contents.{Content}
 use Rattle.nts_model.specs.Derivations.Rules.{Equation}
 use Rattle.nts_model.specs.Derivations.Handlers.{Candidate, certain}
@@ -13,7 +14,10 @@ use Rattle.nts_delegate.specs.Relevant.{IsIrrelevant}
 use Rattle.nts_evaluation.specs.nts_trying.proofs.LeftOut.{unmet}
 use Rattle.nts_candidates.specs.declared.reasons.Reason.{Reason}
 use Rattle.nts_candidates.specs.declared.reasons.Reason.TheVariants as reason
-use Rattle.nts_explaining.specs.Explaining.{Explains, ExplainsEach}
+use Rattle.nts_store.specs.Growth.{tree_at}
+use Rattle.nts_evaluation.specs.nts_meaning.specs.Evaluation.{IsAskedGoal}
+use Rattle.nts_explaining.specs.Explaining.{Explains, ExplainsEach, IsExplained}
+use Rattle.nts_explaining.proofs.Explained.{asked_explained}
 use Rattle.nts_explaining.specs.Explaining.ExplainsEach.{none, more}
 
 abbrev asking : Candidate → List Equation → Candidate
@@ -40,3 +44,10 @@ none_explained c = none
 each_has_one : (c : Content) (xs : List Candidate) (rs : List Reason) → ExplainsEach c xs rs → length xs ≡ length rs
 each_has_one c xs rs none = refl
 each_has_one c xs rs (more {xs = ys} {rs = ss} x r e h) = (let same = each_has_one c ys ss e in omega (arith, same, length-append ys (x ∷ []), length-append ss (r ∷ [])))
+
+-- reasons are told of what the handler's candidates answer, and of no goal in which an alias stands
+asked_is_explained : (ts : List Tree) (g : Goal) → IsAskedGoal ts g → IsExplained ts g
+asked_is_explained ts g h = asked_explained ts g g refl h
+
+alias_is_not_explained : (ts : List Tree) (g : Goal) → any_label is_alias (tree_at ts g.predicate.node) ≡ true → IsExplained ts g → ⊥
+alias_is_not_explained ts g e h = (let z : true ≡ false = sym e ∙ h.no_alias in cc z)

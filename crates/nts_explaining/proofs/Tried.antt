@@ -23,14 +23,13 @@ use Rattle.nts_evaluation.specs.nts_response.specs.Forms.{premise_at}
 use Rattle.nts_evaluation.specs.nts_meaning.proofs.Evaluating.{candidate_at, HoldsGoal-extended}
 use Rattle.nts_evaluation.specs.nts_meaning.proofs.Running.{candidate-kept}
 use Rattle.nts_evaluation.specs.nts_trying.specs.Adding.{AreAdded}
-use Rattle.nts_evaluation.specs.nts_meaning.specs.Evaluation.{IsAskedGoal}
 use Rattle.nts_evaluation.specs.nts_trying.specs.Opening.{IsOpenedTo, CannotOpen}
 use Rattle.nts_explaining.specs.declared.conditions.Outcome.{Outcome}
 use Rattle.nts_explaining.specs.declared.conditions.Outcome.TheVariants as outcome
 use Rattle.nts_explaining.specs.Asking.{IsWithin, IsReasonOf}
 use Rattle.nts_candidates.specs.declared.reasons.Reason.{Reason}
 use Rattle.nts_candidates.specs.declared.reasons.Reason.TheVariants as reason
-use Rattle.nts_explaining.specs.Explaining.{Explains, ExplainsEach, GivesReasons}
+use Rattle.nts_explaining.specs.Explaining.{Explains, ExplainsEach, IsExplained, GivesReasons}
 use Rattle.nts_candidates.specs.HeldReasons.{HoldsReason}
 use Rattle.nts_explaining.specs.Explaining.ExplainsEach.{more}
 use Rattle.nts_explaining.specs.Explaining.GivesReasons.{of_candidates, is_unasked, is_unopened}
@@ -85,7 +84,7 @@ pub all_later : {a b : List Tree} (rs : List Reason) → Extends a b → All (Ho
 all_later rs e h = λ k d l. holds_later (get_or rs k d) e (h k d l)
 
 -- where no candidate answers a goal there is no reason
-pub unasked_reasons : {h : Handler} {mode : TypingMode} {a : List Tree} {t : Table} {g : Goal} (rs : List Reason) → rs ≡ [] → (b : List Tree) (u : Table) (o : Goal) → IsOpenedTo a b t u g o → (IsAskedGoal b o → ⊥) → GivesReasons h mode a t g rs
+pub unasked_reasons : {h : Handler} {mode : TypingMode} {a : List Tree} {t : Table} {g : Goal} (rs : List Reason) → rs ≡ [] → (b : List Tree) (u : Table) (o : Goal) → IsOpenedTo a b t u g o → (IsExplained b o → ⊥) → GivesReasons h mode a t g rs
 unasked_reasons {h} {mode} {a} {t} {g} rs e b u o opened unasked = subst (GivesReasons h mode a t g) (sym e) (is_unasked b u o opened unasked)
 
 pub unopened_reasons : {h : Handler} {mode : TypingMode} {a : List Tree} {t : Table} {g : Goal} (rs : List Reason) → rs ≡ [] → CannotOpen (tree_at a g.predicate.node) → GivesReasons h mode a t g rs

@@ -3,9 +3,9 @@ ghost use Rattle.std.specs.Prelude.{◌≡◌, ◌<◌, true, length, All, Ok, I
 ghost use Rattle.nts_model.specs.Refutation.Choosing.{IsCandidateMet};
 ghost use Rattle.nts_unify.specs.Reading.{content_of};
 ghost use Rattle.nts_table.specs.Tables.{IsTable};
-ghost use Rattle.nts_delegate.specs.Candidates.{IsCandidate, AreCandidates};
+ghost use Rattle.nts_delegate.specs.Candidates.{IsAskedIn, IsCandidate, AreCandidates};
 ghost use Rattle.nts_candidates.specs.Offered.{candidate_of, candidates_of};
-ghost use Rattle.nts_evaluation.specs.nts_meaning.specs.Evaluation.{IsAdmitted, IsPosed, IsAskedGoal, Goes, Runs};
+ghost use Rattle.nts_evaluation.specs.nts_meaning.specs.Evaluation.{IsAdmitted, IsPosed, Goes, Runs};
 ghost use Rattle.nts_evaluation.specs.nts_trying.specs.Stepping.{ArePosed};
 ghost use Rattle.nts_terms.specs.Rest.{Grows};
 ghost use Rattle.nts_explaining.specs.Explaining.{Explains, ExplainsEach, GivesReasons};
@@ -15,19 +15,18 @@ ghost use Rattle.nts_candidates.specs.declared.reasons.Reason.TheVariants.{Condi
 
 use crate::conditions::{Outcome, ask_conditions};
 use crate::equations::unmet_equation;
+use crate::explained::is_explained;
 use nts_certainty::{Certainty, GoalSource};
 use nts_delegate::{CandidateData, GoalHandler, Reason};
 use nts_evaluation::nts_meaning::resolve_goal;
-use nts_evaluation::nts_trying::{
-    GoalRow, Trial, enter_forall, equate, goal_kind, goal_row, record_constraints,
-};
+use nts_evaluation::nts_trying::{Trial, enter_forall, equate, goal_kind, record_constraints};
 use nts_store::EvalError;
 use nts_table::InferCtxt;
 use nts_terms::{Cx, Goal};
 
 /// What each candidate that the handler offers for a goal comes to, in their order: why the goal is not answered yes, one level
 /// deep. A goal that binds variables is opened first. There is no reason where no candidate answers such a goal, nor yet for a
-/// goal about an alias. The table is as before, also after an error, which is want of memory, or `Full` where a universe above the
+/// goal in which an alias stands. The table is as before, also after an error, which is want of memory, or `Full` where a universe above the
 /// greatest is asked for.
 pub fn explain<H: GoalHandler>(
     table: &mut InferCtxt,
@@ -66,18 +65,12 @@ fn explain_here<H: GoalHandler>(
         table.old.mode cx.old.nodes table.old goal rs.items) }
     ensures holds { IfOk result (λ rs. All (HoldsReason cx.new.nodes) rs.items) }
 {
-    let opened = enter_forall(table, cx, goal)?;
-    cx.terms_are_formed();
-    let opened = match goal_row(cx, opened) {
-        GoalRow::Unopened => return Ok(Vec::new(cx.alloc)),
-        GoalRow::Outlives(_, _) => return Ok(Vec::new(cx.alloc)),
-        GoalRow::Own(_, _) => return Ok(Vec::new(cx.alloc)),
-        GoalRow::Subtype(_, _) => return Ok(Vec::new(cx.alloc)),
-        GoalRow::Alias(_) => return Ok(Vec::new(cx.alloc)),
-        GoalRow::Equated(_, _) => return Ok(Vec::new(cx.alloc)),
-        GoalRow::Unanswered(_) => return Ok(Vec::new(cx.alloc)),
-        GoalRow::Candidates(opened) => opened,
+    let Some(opened) = enter_forall(table, cx, goal)? else {
+        return Ok(Vec::new(cx.alloc));
     };
+    if !is_explained(table, cx, opened) {
+        return Ok(Vec::new(cx.alloc));
+    }
     let candidates = handler.candidates(cx, table.typing_mode(), opened)?;
     reasons_of(table, cx, handler, opened, &candidates)
 }
@@ -91,7 +84,7 @@ fn reasons_of<H: GoalHandler>(
     candidates: &[CandidateData],
 ) -> Result<Vec<Reason>, EvalError>
     requires posed { IsPosed cx.old.nodes table.old goal }
-    requires asked { IsAskedGoal cx.old.nodes goal }
+    requires asked { IsAskedIn cx.old.nodes goal }
     requires ready { H.ready cx.old.nodes handler.now }
     requires candidates { AreCandidates cx.old.nodes goal candidates.now }
     ensures same { table.new ≡ table.old }
@@ -117,7 +110,7 @@ fn reason_of<H: GoalHandler>(
     candidate: &CandidateData,
 ) -> Result<Reason, EvalError>
     requires posed { IsPosed cx.old.nodes table.old goal }
-    requires asked { IsAskedGoal cx.old.nodes goal }
+    requires asked { IsAskedIn cx.old.nodes goal }
     requires ready { H.ready cx.old.nodes handler.now }
     requires candidate { IsCandidate cx.old.nodes goal candidate.now }
     ensures same { table.new ≡ table.old }
@@ -146,7 +139,7 @@ fn try_candidate<H: GoalHandler>(
     candidate: &CandidateData,
 ) -> Result<Option<Reason>, EvalError>
     requires posed { IsPosed cx.old.nodes table.old goal }
-    requires asked { IsAskedGoal cx.old.nodes goal }
+    requires asked { IsAskedIn cx.old.nodes goal }
     requires ready { H.ready cx.old.nodes handler.now }
     requires candidate { IsCandidate cx.old.nodes goal candidate.now }
     ensures runs { Runs cx.old cx.new table.old table.new }

@@ -5,6 +5,7 @@
 mod candidates;
 mod conditions;
 mod equations;
+mod explained;
 
 pub use candidates::explain;
 pub use nts_delegate::Reason;

@@ -7,7 +7,7 @@ use Rattle.nts_store.proofs.Growing.{Extends-refl}
 use Rattle.nts_terms.proofs.Moved.{KeepsRest-refl}
 use Rattle.nts_candidates.specs.Offered.{candidates_of}
 use Rattle.nts_evaluation.specs.nts_trying.proofs.Adding.{grown_more}
-use Rattle.nts_evaluation.specs.nts_meaning.proofs.TraitsAsked.{IsAskedGoal-extended}
+use Rattle.nts_evaluation.specs.nts_meaning.proofs.TraitsAsked.{IsAskedIn-extended}
 use Rattle.nts_evaluation.specs.nts_meaning.proofs.Evaluating.{goes-back, IsPosed-later, IsCandidate-extended, candidate_at}
 use Rattle.nts_explaining.specs.Explaining.{ExplainsEach}
 use Rattle.nts_candidates.specs.HeldReasons.{HoldsReason}
@@ -30,7 +30,7 @@ reason_of-requires-clause-posed g c =
     IsPosed-later (goes-back c.requires.posed.table i.grows.extends i.same) c.requires.posed
 
 pub reason_of-requires-clause-asked : goal.reason_of-requires-clause-asked
-reason_of-requires-clause-asked g c = IsAskedGoal-extended c.loop-candidate.invariant.grows.extends c.requires.asked
+reason_of-requires-clause-asked g c = IsAskedIn-extended c.loop-candidate.invariant.grows.extends c.requires.asked
 
 pub reason_of-requires-clause-ready : goal.reason_of-requires-clause-ready
 reason_of-requires-clause-ready g c = g.met.H.GoalHandler.ready_kept _ _ _ c.requires.ready c.loop-candidate.invariant.grows.extends
