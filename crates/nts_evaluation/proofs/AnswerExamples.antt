@@ -42,7 +42,7 @@ type_variable s = record { kind = kind.Ty; universe = 0; state = s; sub_link = N
 
 -- coherence without rules, and another mode
 coherence_without_rules : IsCoherenceOf without_rules modes.Coherence
-coherence_without_rules = record { in_coherence = refl; no_aliases = record { none = λ mode a i k. i } }
+coherence_without_rules = record { in_coherence = refl; no_aliases = record { none = λ a i k. i } }
 
 other_modes_are_not : IsCoherenceOf without_rules modes.PostAnalysis → ⊥
 other_modes_are_not h = (let e = h.in_coherence in cc e)

@@ -35,8 +35,9 @@ pub(crate) fn is_explained(table: &InferCtxt, cx: &Cx, goal: Goal) -> bool
 /// Whether a goal says that a trait holds, of arguments without aliases.
 fn says_of_trait(cx: &Cx, goal: Goal) -> bool
     requires { HoldsGoal cx.now.nodes goal }
-    ensures { IsTrue result ↔ (IsTraitStatement (statement_of (tree_at cx.now.nodes goal.predicate.node))
-        × (any_label is_alias (tree_at cx.now.nodes goal.predicate.node) ≡ false)) }
+    ensures { IsTrue result ↔
+        (IsTraitStatement (statement_of (tree_at cx.now.nodes goal.predicate.node)) ×
+        (any_label is_alias (tree_at cx.now.nodes goal.predicate.node) ≡ false)) }
 {
     let says = goal.predicate.kind(cx);
     let flags = cx.nodes.flags(goal.predicate.node);

@@ -9,9 +9,9 @@ ghost use Rattle.nts_program.specs.Proving.{IsProvedGoal, IsJustifiedAnswer};
 ghost use Rattle.nts_wording.specs.Found.{IsKnownValue};
 ghost use Rattle.nts_terms.specs.Rest.{Grows};
 
+use nts_assembly::Assembly;
 use nts_certainty::{Certainty, MaybeCause};
 use nts_declaring::pose;
-use nts_assembly::Assembly;
 use nts_delegate::Clauses;
 use nts_evaluation::{evaluate_root_goal, goal_is_admitted};
 use nts_store::EvalError;
