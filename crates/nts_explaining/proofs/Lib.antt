@@ -1,5 +1,5 @@
-mod Explained
 mod FirstEquations
 mod Numbered
-mod Tried
 mod ReasonExamples
+mod ToldGoals
+mod Tried

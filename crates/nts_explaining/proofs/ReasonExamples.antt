@@ -17,7 +17,7 @@ use Rattle.nts_candidates.specs.declared.reasons.Reason.TheVariants as reason
 use Rattle.nts_store.specs.Growth.{tree_at}
 use Rattle.nts_evaluation.specs.nts_meaning.specs.Evaluation.{IsAskedGoal}
 use Rattle.nts_explaining.specs.Explaining.{Explains, ExplainsEach, IsExplained}
-use Rattle.nts_explaining.proofs.Explained.{asked_explained}
+use Rattle.nts_explaining.proofs.ToldGoals.{asked_explained}
 use Rattle.nts_explaining.specs.Explaining.ExplainsEach.{none, more}
 
 abbrev asking : Candidate → List Equation → Candidate

@@ -12,38 +12,38 @@ use Rattle.nts_explaining.proofs.Tried.{unasked_reasons, unopened_reasons}
 use Rattle.nts_explaining.proofs.candidates.explain_here.Goals as goal
 
 pub returns-in_default-clause-reasons : goal.returns-in_default-clause-reasons
-returns-in_default-clause-reasons g c = (let o = c.in_ok-enter_forall.ensures in unopened_reasons _ (search rules) (o.unopened (search rules)))
+returns-in_default-clause-reasons g c = (let o = c.in_ok-opened.ensures in unopened_reasons _ (search rules) (o.unopened (search rules)))
 
-pub returns-then-is_explained-clause-reasons : goal.returns-then-is_explained-clause-reasons
-returns-then-is_explained-clause-reasons g c =
-    let o = c.in-Some.ensures in
-    unasked_reasons _ (search rules) c.enter_forall.new.cx.nodes c.enter_forall.new.table _ o.opened (λ h. absurd (let z : true ≡ false = sym (c.is_explained.ensures.1 h) ∙ c.if-not-is_explained.true in cc))
+pub returns-then-not-is_explained-clause-reasons : goal.returns-then-not-is_explained-clause-reasons
+returns-then-not-is_explained-clause-reasons g c =
+    let o = c.in_ok-opened.ensures in
+    unasked_reasons _ (search rules) c.enter_forall.new.cx.nodes c.enter_forall.new.table _ (rw c.in-Some.is at o.opened) (λ h. absurd (let z : true ≡ false = sym (c.is_explained.ensures.1 h) ∙ c.if-not-is_explained.true in cc))
 
 pub returns-in_err-candidates-clause-goes : goal.returns-in_err-candidates-clause-goes
-returns-in_err-candidates-clause-goes g c = (let o = c.in-Some.ensures in Goes-trans o.goes (Goes-extends o.goes.table c.candidates.ensures.grows.extends))
+returns-in_err-candidates-clause-goes g c = (let o = c.in_ok-opened.ensures in Goes-trans o.goes (Goes-extends o.goes.table c.candidates.ensures.grows.extends))
 
 pub reasons_of-requires-clause-posed : goal.reasons_of-requires-clause-posed
 reasons_of-requires-clause-posed g c =
-    let o = c.in-Some.ensures in
-    IsPosed-later (Goes-extends o.goes.table c.candidates.ensures.grows.extends) o.posed
+    let o = c.in_ok-opened.ensures in
+    IsPosed-later (Goes-extends o.goes.table c.candidates.ensures.grows.extends) (rw c.in-Some.is at o.posed)
 
 pub reasons_of-requires-clause-ready : goal.reasons_of-requires-clause-ready
 reasons_of-requires-clause-ready g c =
-    g.met.H.GoalHandler.ready_kept _ _ _ c.requires.ready (Extends-trans c.in-Some.ensures.grows.extends c.candidates.ensures.grows.extends)
+    g.met.H.GoalHandler.ready_kept _ _ _ c.requires.ready (Extends-trans c.in_ok-opened.ensures.grows.extends c.candidates.ensures.grows.extends)
 
 pub returns-clause-goes : goal.returns-clause-goes
 returns-clause-goes g c =
-    let o = c.in-Some.ensures in
+    let o = c.in_ok-opened.ensures in
     let r = c.reasons_of.ensures in
     Goes-trans o.goes (goes-back o.goes.table (Extends-trans c.candidates.ensures.grows.extends r.grows.extends) r.same)
 
 -- a reason for each candidate that is offered for the goal, opened
 pub returns-clause-reasons : goal.returns-clause-reasons
 returns-clause-reasons g c =
-    let o = c.in-Some.ensures in
+    let o = c.in_ok-opened.ensures in
     let e = c.in_ok-candidates.ensures in
-    let opened = o.opened in
-    let posed = o.posed in
+    let opened = rw c.in-Some.is at o.opened in
+    let posed = rw c.in-Some.is at o.posed in
     let asked = c.in-Some.opened in
     let b = c.enter_forall.new.cx.nodes in
     let d = c.candidates.new.cx.nodes in

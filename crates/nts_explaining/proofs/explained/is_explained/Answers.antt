@@ -1,5 +1,5 @@
 use Rattle.std.proofs.Common.{◌≡◌, true, false, refl, sym}
-use Rattle.nts_explaining.proofs.Explained.{asked_explained, alias_explained, outlives_unexplained, own_unexplained, subtype_unexplained, equated_unexplained, unanswered_unexplained}
+use Rattle.nts_explaining.proofs.ToldGoals.{asked_explained, alias_explained, outlives_unexplained, own_unexplained, subtype_unexplained, equated_unexplained, unanswered_unexplained}
 use Rattle.nts_explaining.proofs.explained.is_explained.Goals as goal
 
 pub returns-in-Candidates : goal.returns-in-Candidates
@@ -26,5 +26,5 @@ returns-in-Equated c = (λ e. absurd (let z : true ≡ false = sym e in cc), λ 
 pub returns-in-Unanswered : goal.returns-in-Unanswered
 returns-in-Unanswered c = (
   λ e. absurd (let z : true ≡ false = sym e in cc),
-  λ h. absurd (let none = c.in-Unanswered.ensures.1 in unanswered_unexplained c.args.cx.now.nodes c.args.goal _ c.in-Unanswered.ensures.0 none.not_asked c.in-Unanswered.ensures.2.1 h),
+  λ h. absurd (let none = c.in-Unanswered.ensures.1 in unanswered_unexplained c.args.cx.now.nodes c.args.goal _ c.in-Unanswered.ensures.0 none.not_asked c.in-Unanswered.ensures.3 h),
 )

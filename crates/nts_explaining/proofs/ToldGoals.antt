@@ -1,5 +1,5 @@
 -- Of which goals reasons are told, by what answers them.
-use Rattle.std.proofs.Common.{◌≡◌, ◌⊎◌, inl, inr, ⊎_elim, ◌||◌, Bool, true, false, List, Some, refl, ap, subst, sym, cc}
+use Rattle.std.proofs.Common.{◌≡◌, inr, ⊎_elim, ◌||◌, Bool, true, false, List, Some, refl, ap, subst, sym}
 use Rattle.nts_model.specs.declared.labels.Variance.TheVariants as variance
 use Rattle.nts_model.specs.Terms.Trees.{Tree, any_label, is_alias}
 use Rattle.nts_model.specs.Derivations.Related.{alias_goal}
