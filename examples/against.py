@@ -6,6 +6,11 @@ assumptions of a program, so far as the proof names no other types. A goal that 
 where the answer is `yes` with values, each proof that it finds must be of an instance of them. It finds no proofs that need other
 types, so it never says that an answer of `yes` is wrong: it counts those that it can confirm.
 
+About half of the programs have aliases, in conditions, assumptions and goals. For the search an alias of a type is a variable, with
+the condition that the alias is that: its `norm` lines and what is assumed of it are impls of a trait of two types. An alias is said
+to be another one only if that was declared before, and no alias stands in the conditions of a `norm` line: outside of coherence an
+alias that comes back to one of its form is refused, whatever else it may be (docs/TEXT.md).
+
     examples/against.py [--programs N] [--seed N] [--show]
 
 The proved program is run where it is built (the gate leaves it).
@@ -35,6 +40,7 @@ UNIVERSE = (
 )
 KNOWN = set(UNIVERSE)
 VARIABLES = ["?X", "?Y", "?Z"]
+ALIAS = "Al"
 
 
 def text_of(term):
@@ -48,6 +54,35 @@ def goal_text(goal):
     trait, *arguments = goal
     binder = "for<Z> " if any(names(argument, BOUND) for argument in arguments) else ""
     return f"{binder}{trait}({', '.join(map(text_of, arguments))})"
+
+
+def is_alias(name):
+    return name.startswith(ALIAS)
+
+
+def item_text(item):
+    """What an environment says: a goal, or what an alias is."""
+    if is_alias(item[0]):
+        *of, value = item
+        return f"{text_of(tuple(of))} = {text_of(value)}"
+    return goal_text(item)
+
+
+def without_aliases(goal):
+    """The goal with variables in place of its aliases, and before it the conditions that these are what the aliases are."""
+    conditions = []
+
+    def put(term):
+        if isinstance(term, str):
+            return term
+        term = (term[0], *map(put, term[1:]))
+        if not is_alias(term[0]):
+            return term
+        conditions.append((*term, f"?{term[0]}_{len(conditions)}"))
+        return conditions[-1][-1]
+
+    goal = (goal[0], *map(put, goal[1:]))
+    return [*conditions, goal]
 
 
 def names(term, leaf):
@@ -93,10 +128,13 @@ class Program:
         self.names = [f"T{number}_{i}" for i in range(rng.randint(2, 4))]
         self.arity = {name: rng.choice([1, 1, 2]) for name in self.names}
         self.coinductive = {name for name in self.names if rng.random() < 0.25}
+        self.aliases = [f"{ALIAS}{number}_{i}" for i in range(rng.choice([0, 0, 1, 2]))]
         self.impls = [self.impl() for _ in range(rng.randint(2, 7))]
+        self.norms = [self.norm(i) for i in range(len(self.aliases)) for _ in range(rng.randint(1, 3))]
         self.env = [self.closed() for _ in range(rng.choice([0, 0, 1, 2]))]
+        self.env += [self.assumed(name) for name in self.aliases if rng.random() < 0.3]
         self.mode = rng.choice(["coherence", "analysis", "postanalysis"])
-        self.goals = [self.goal() for _ in range(6)]
+        self.goals = [self.with_alias(self.goal(), 0.3) for _ in range(6)]
 
     def term(self, names, depth):
         if names and self.rng.random() < 0.5:
@@ -116,16 +154,44 @@ class Program:
             goal = (*goal[:at], self.rng.choice([BOUND, BOUND, ("W", BOUND)]), *goal[at + 1:])
         return goal
 
-    def impl(self):
-        head = self.predicate(VARIABLES[:2], 2)
+    def with_alias(self, goal, of):
+        """Now and then a goal that binds nothing with an alias of an argument in its place, or in a type in its place."""
+        if self.aliases and self.rng.random() < of and not any(names(argument, BOUND) for argument in goal[1:]):
+            at = self.rng.randrange(1, len(goal))
+            alias = (self.rng.choice(self.aliases), goal[at])
+            goal = (*goal[:at], self.rng.choice([alias, alias, ("W", alias)]), *goal[at + 1:])
+        return goal
+
+    def conditions(self, head):
         bound = variables_in(head[1:])
         others = VARIABLES[2:] if self.rng.random() < 0.3 else []
-        body = [self.bound(self.predicate(bound + others, 1), 0.15) for _ in range(self.rng.choice([0, 0, 1, 1, 2]))]
+        return [self.bound(self.predicate(bound + others, 1), 0.15) for _ in range(self.rng.choice([0, 0, 1, 1, 2]))]
+
+    def impl(self):
+        """At most one alias stands in the conditions, and then no variable that the head has not."""
+        head = self.predicate(VARIABLES[:2], 2)
+        body = self.conditions(head)
+        if body and VARIABLES[2] not in variables_in([term for goal in body for term in goal[1:]]):
+            body[-1] = self.with_alias(body[-1], 0.4)
         return head, body
+
+    def norm(self, at):
+        """What an alias of a type is: a type, or now and then an alias before it of one."""
+        head = (self.aliases[at], self.term(VARIABLES[:1], 1))
+        value = self.term(VARIABLES[:2] if self.rng.random() < 0.3 else variables_in(head[1:]), 1)
+        if at > 0 and self.rng.random() < 0.3:
+            value = (self.rng.choice(self.aliases[:at]), value)
+        head = (*head, value)
+        return head, self.conditions(head)
+
+    def assumed(self, name):
+        """What an alias of a closed type is assumed to be."""
+        return (name, self.rng.choice(SMALL + [("!Q",)]), self.rng.choice(SMALL + [("!Q",)]))
 
     def closed(self):
         trait = self.rng.choice(self.names)
-        return self.bound((trait, *(self.rng.choice(SMALL + [("!Q",)]) for _ in range(self.arity[trait]))), 0.2)
+        goal = (trait, *(self.rng.choice(SMALL + [("!Q",)]) for _ in range(self.arity[trait])))
+        return self.with_alias(self.bound(goal, 0.2), 0.1)
 
     def goal(self):
         trait = self.rng.choice(self.names)
@@ -139,20 +205,29 @@ class Program:
         for name in self.names:
             sorts = ", ".join(["type"] * self.arity[name])
             yield f"trait {name}({sorts})" + (" coinductive" if name in self.coinductive else "")
-        for head, body in self.impls:
+        for name in self.aliases:
+            yield f"alias {name}(type)"
+        for head, body in [*self.impls, *self.norms]:
             conditions = " <- " + ", ".join(map(goal_text, body)) if body else ""
-            yield f"impl {goal_text(head)}{conditions}"
+            yield f"{'norm' if is_alias(head[0]) else 'impl'} {item_text(head)}{conditions}"
         yield f"mode {self.mode}"
-        yield " ".join(["env", ", ".join(map(goal_text, self.env))]).rstrip()
+        yield " ".join(["env", ", ".join(map(item_text, self.env))]).rstrip()
         for goal in self.goals:
             yield f"goal {goal_text(goal)}"
 
     def steps(self):
         """Each goal of the universe with a list of goals from which it follows."""
+        rules = [*self.impls, *self.norms]
         for goal in self.env:
+            *conditions, goal = without_aliases(goal)
+            if conditions:
+                rules.append((goal, conditions))
+                continue
             for value in UNIVERSE:
                 yield (goal[0], *(in_place(term, value) for term in goal[1:])), ()
-        for head, body in self.impls:
+        for head, body in rules:
+            *conditions, head = without_aliases(head)
+            body = [*conditions, *(part for goal in body for part in without_aliases(goal))]
             told_of = variables_in([*head[1:], *(term for goal in body for term in goal[1:])])
             for values in itertools.product(UNIVERSE, repeat=len(told_of)):
                 told = dict(zip(told_of, values))
@@ -195,6 +270,31 @@ def is_proof(goal, proved):
     """Whether what is proved is the goal with values, none of which names what the goal binds."""
     values = {}
     return matches(goal, proved, values) and not any(names(value, UNKNOWN[0]) for value in values.values())
+
+
+def solutions(goals, proved, values):
+    """The values with which all these goals are proved."""
+    if not goals:
+        yield values
+        return
+    for it in proved:
+        more = dict(values)
+        if matches(goals[0], it, more):
+            yield from solutions(goals[1:], proved, more)
+
+
+def proofs_of(goal, proved):
+    """The instances of the goal that have a proof. Those of a goal with aliases are written with what the aliases are."""
+    *conditions, plain = without_aliases(goal)
+    if not conditions:
+        return [it for it in proved if is_proof(opened(goal, ()), it)]
+    found = solutions([plain, *conditions], proved, {})
+    return [filled_goal(goal, values) for values in found if not any(names(value, UNKNOWN[0]) for value in values.values())]
+
+
+def filled_goal(goal, values):
+    """The goal with values for its variables, and its aliases as they are written."""
+    return (goal[0], *(filled(argument, values) for argument in goal[1:]))
 
 
 def read_term(text):
@@ -274,7 +374,7 @@ def main():
     for (program, goal), (answer, told) in zip(asked, answers):
         if program not in of_program:
             of_program = {program: program.proved()}
-        proofs = [it for it in of_program[program] if is_proof(opened(goal, ()), it)]
+        proofs = proofs_of(goal, of_program[program])
         counts[answer] = counts.get(answer, 0) + 1
         confirmed += answer == "yes" and bool(proofs)
         fault = fault_of(goal, answer, told, proofs)

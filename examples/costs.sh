@@ -22,14 +22,20 @@ facts() { printf 'trait T(type)\n'; for ((i = 0; i < $1; i++)); do printf 'type 
 wide() { printf 'trait C(type)\nimpl C(u8)\ntrait W(type)\nimpl W(?T) <- C(?T)'; times $(($1 - 1)) ', C(?T)'; printf '\ngoal W(u8)\n'; }
 # n traits, each of which holds by the one before.
 chain() { printf 'trait C0(type)\nimpl C0(?T)\n'; for ((i = 1; i <= $1; i++)); do printf 'trait C%d(type)\nimpl C%d(?T) <- C%d(?T)\n' "$i" "$i" $((i - 1)); done; printf 'depth 65535\ngoal C%d(u8)\n' "$1"; }
+# An alias that is another one, and so on, n times.
+aliased() { printf 'trait T(type)\nimpl T(u8)\nalias A0\nnorm A0 = u8\n'; for ((i = 1; i <= $1; i++)); do printf 'alias A%d\nnorm A%d = A%d\n' "$i" "$i" $((i - 1)); done; printf 'depth 65535\ngoal T(A%d)\n' "$1"; }
+# A type with n aliases side by side.
+beside() { printf 'trait Same(type, type)\nimpl Same(?T, ?T)\nalias A\nnorm A = u8\ntype L(type'; times $(($1 - 1)) ', type'; printf ')\ngoal Same(L(A'; times $(($1 - 1)) ', A'; printf '), L(u8'; times $(($1 - 1)) ', u8'; printf '))\n'; }
 count() {
     "$1" "$2" > "$work/program"
     valgrind --tool=callgrind --callgrind-out-file=/dev/null "$program" < "$work/program" 2> "$work/log" | tail -n 1 > "$work/last"
     [ "$(cat "$work/last")" = yes ] || { echo "costs: $1 of $2 is not answered yes" >&2; return 1; }
     sed -n 's/.*Collected *: *//p' "$work/log"
 }
-for workload in nested goals facts wide chain; do
+for workload in nested goals facts wide chain aliased beside; do
     n=2000
+    # Each alias nests two goals, and the machine's stack is not to run out.
+    [ $workload = aliased ] && n=500
     once=$(count $workload $n) && twice=$(count $workload $((2 * n))) || exit 1
     part=$(((twice - once) / n))
     printf '%-7s %6d instructions a part, and twice the parts cost %d.%02d times as much\n' "$workload" "$part" $((twice / once)) $((twice * 100 / once % 100))
