@@ -1,0 +1,16 @@
+//| trait Iterator(type)
+//| trait Same(type, type)
+//| trait Bytes(type)
+//| alias Item(type)
+//| impl Same(?T, ?T)
+//| impl Bytes(?I) <- Iterator(?I), Same(Item(?I), u8)
+//| env Iterator(!I), Item(!I) = u16
+//| goal Bytes(!I)
+trait Iter {
+    type Item;
+}
+fn holds<T: Iter<Item = u8>>() {}
+fn generic<I: Iter<Item = u16>>() {
+    holds::<I>();
+}
+fn main() {}
