@@ -1,7 +1,7 @@
 //! Goals that are asked, and what is answered.
 ghost use Rattle.std.specs.Prelude.{IfOk, OnOk, IfSome, IsTrue, All};
 ghost use Rattle.nts_table.specs.Tables.{IsTable};
-ghost use Rattle.nts_terms.specs.Handles.{HoldsArg, HoldsGoal, HoldsPredicate};
+ghost use Rattle.nts_terms.specs.Handles.{HoldsArg, HoldsEnv, HoldsGoal, HoldsPredicate};
 ghost use Rattle.nts_terms.specs.Rest.{Grows};
 
 use crate::aliases::{Aliased, alias_statement};
@@ -16,7 +16,7 @@ use nts_may_hold::{root_goal_may_hold_opaque_types_jank, root_goal_may_hold_with
 use nts_model::Sort;
 use nts_store::EvalError;
 use nts_table::{InferCtxt, eager_resolve_vars};
-use nts_terms::{Cx, GenericArg, GenericArgKind, Goal, Predicate, Span, TyKind};
+use nts_terms::{Cx, GenericArg, GenericArgKind, Goal, ParamEnv, Predicate, Span, TyKind};
 use std::process::Abort;
 
 /// A goal.
@@ -38,6 +38,10 @@ pub enum Wanted {
     Says(Own),
     /// A statement about an alias, in an empty environment.
     Alias(Aliased),
+    /// That a trait holds, where just that is assumed that the alias of the number 0 of the first type is the second one.
+    WhereIs(Name, Name, Of),
+    /// That the third term outlives the fourth one, where just that is assumed of the alias of the first type and the second one.
+    OutlivesWhereIs(Name, Name, Name, Name),
 }
 
 /// What a goal is answered.
@@ -181,10 +185,7 @@ fn goal_of(cx: &mut Cx, names: &Names, wanted: Wanted) -> Result<Goal, EvalError
     ensures grows { Grows cx.old cx.new }
 {
     let predicate = predicate_wanted(cx, names, wanted)?;
-    let param_env = match wanted {
-        Wanted::Assumed(_) => cx.mk_env(&[predicate])?,
-        _ => cx.mk_env(&[])?,
-    };
+    let param_env = env_wanted(cx, names, wanted, predicate)?;
     if !cx.holds(predicate) {
         return Err(EvalError::NoSolution);
     }
@@ -194,14 +195,39 @@ fn goal_of(cx: &mut Cx, names: &Names, wanted: Wanted) -> Result<Goal, EvalError
     })
 }
 
+/// What is assumed.
+fn env_wanted(
+    cx: &mut Cx,
+    names: &Names,
+    wanted: Wanted,
+    predicate: Predicate,
+) -> Result<ParamEnv, EvalError>
+    requires { HoldsPredicate cx.old.nodes predicate }
+    ensures holds { IfOk result (HoldsEnv cx.new.nodes) }
+    ensures grows { Grows cx.old cx.new }
+{
+    match wanted {
+        Wanted::Assumed(_) => Ok(cx.mk_env(&[predicate])?),
+        Wanted::WhereIs(of, term, _) | Wanted::OutlivesWhereIs(of, term, _, _) => {
+            let assumed = alias_statement(cx, names, Aliased::Projects(of, term))?;
+            Ok(cx.mk_env(&[assumed])?)
+        }
+        _ => Ok(cx.mk_env(&[])?),
+    }
+}
+
 fn predicate_wanted(cx: &mut Cx, names: &Names, wanted: Wanted) -> Result<Predicate, EvalError>
     ensures holds { IfOk result (HoldsPredicate cx.new.nodes) }
     ensures grows { Grows cx.old cx.new }
 {
     match wanted {
-        Wanted::Plain(of) | Wanted::Assumed(of) => predicate_of(cx, names, &[], of),
+        Wanted::Plain(of) | Wanted::Assumed(of) | Wanted::WhereIs(_, _, of) => {
+            predicate_of(cx, names, &[], of)
+        }
         Wanted::EachRegion(of) => predicate_of(cx, names, &[Sort::Region], of),
-        Wanted::Outlives(left, right) => outlives_of(cx, names, left, right),
+        Wanted::Outlives(left, right) | Wanted::OutlivesWhereIs(_, _, left, right) => {
+            outlives_of(cx, names, left, right)
+        }
         Wanted::Subtype(a, b) => types_of(cx, names, false, a, b),
         Wanted::Coerce(a, b) => types_of(cx, names, true, a, b),
         Wanted::Says(own) => own_of(cx, names, own),

@@ -8,6 +8,8 @@ mod aliases;
 #[cfg(test)]
 mod asking;
 #[cfg(test)]
+mod assumed_tests;
+#[cfg(test)]
 mod evaluation_tests;
 #[cfg(test)]
 mod fast_tests;
