@@ -1,5 +1,5 @@
 //! What offers the rules of traits.
-pub use nts_assembly::{Assembly, Assumptions};
+pub use nts_assembly::{Assembly, AssumedProjections, Assumptions};
 pub use nts_delegate::{
     Both, CandidateData, CandidateGoal, Clause, Clauses, Equation, EquationKind,
     FetchEligibleAssocItemResponse, GoalHandler, RegionConstraint,
