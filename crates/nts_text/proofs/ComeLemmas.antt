@@ -11,8 +11,8 @@ use Rattle.nts_text.specs.declared.lexer.Token.{Token}
 use Rattle.nts_text.specs.declared.lexer.TokenKind.{TokenKind}
 use Rattle.nts_text.specs.declared.lexer.TokenKind.TheVariants.{Name, Open, Close, Comma, Minus, Equals}
 use Rattle.nts_text.specs.declared.parser.Param.{Param}
-use Rattle.nts_text.specs.declared.parser.Place.{Place}
-use Rattle.nts_text.specs.declared.parser.Place.TheVariants as places
+use Rattle.nts_text.specs.declared.params.Place.{Place}
+use Rattle.nts_text.specs.declared.params.Place.TheVariants as places
 
 -- what stands behind a parameter
 abbrev pub signs_behind : List Param → List Sign

@@ -7,8 +7,8 @@ use Rattle.nts_text.specs.Declarations.{Sign, bytes_of, sign_of, sign_with, word
 use Rattle.nts_text.specs.declared.lexer.Token.{Token}
 use Rattle.nts_text.specs.declared.lexer.TokenKind.TheVariants.{Name, Open, Close, Comma, Minus, Equals}
 use Rattle.nts_text.specs.declared.parser.Param.{Param}
-use Rattle.nts_text.specs.declared.parser.Place.{Place}
-use Rattle.nts_text.specs.declared.parser.Place.TheVariants as places
+use Rattle.nts_text.specs.declared.params.Place.{Place}
+use Rattle.nts_text.specs.declared.params.Place.TheVariants as places
 
 -- what stands before a parameter that is to come
 abbrev pub signs_before : List Param → List Sign

@@ -9,6 +9,7 @@ mod commands;
 mod known;
 mod lexer;
 mod names;
+mod params;
 mod parser;
 mod predicates;
 mod reader;

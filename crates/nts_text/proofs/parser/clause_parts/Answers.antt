@@ -3,12 +3,10 @@ use Rattle.std.proofs.lemmas.Grind.{common_steps}
 use Rattle.nts_text.specs.Predicates.{are_predicates, written_nodes}
 use Rattle.nts_text.specs.declared.predicates.Wanted.TheVariants as wanted
 use Rattle.nts_text.proofs.ArrowLemmas.{parts_at, no_fact, no_rule}
-use Rattle.nts_text.proofs.NodeLemmas.{inside_nodes, none_inside}
 use Rattle.nts_text.proofs.WordLemmas.{of_nodes}
 use Rattle.std.specs.Prelude.{Contains}
 use Rattle.std.proofs.lemmas.List.{get_or_default}
 use Rattle.std.proofs.lemmas.List.Elements.{All-take, All-drop}
-use Rattle.nts_text.specs.Tokens.{IsInside}
 use Rattle.nts_text.proofs.parser.clause_parts.Goals as goal
 
 -- the tokens before the arrow and those behind it are tokens of all

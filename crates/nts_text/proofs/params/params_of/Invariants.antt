@@ -2,7 +2,7 @@ use Rattle.std.proofs.Common.{map, take, drop}
 use Rattle.nts_text.specs.Declarations.{sign_of}
 use Rattle.nts_text.proofs.ComeLemmas.{IsReadOnly}
 use Rattle.nts_text.proofs.ParamLemmas.{IsReadTo}
-use Rattle.nts_text.proofs.parser.params_of.Given as goal
+use Rattle.nts_text.proofs.params.params_of.Given as goal
 
 abbrev pub invariant-loop-token : goal.invariant-loop-token
 invariant-loop-token l = record {

@@ -3,9 +3,9 @@ use Rattle.std.proofs.lemmas.Grind.{common_steps}
 use Rattle.nts_text.specs.Declarations.{sign_of}
 use Rattle.nts_text.proofs.ComeLemmas.{only_first, only_open, only_minus, only_equals, only_comma, only_close, only_plain, only_marked, only_all, at_next, no_token, none_left, stuck_bracket, stuck_param, stuck_sort, stuck_behind, stuck_end, stuck_marked, stuck_plain, stuck_short}
 use Rattle.nts_text.proofs.ParamLemmas.{one_open, one_minus, one_equals, one_comma, one_close, one_plain, one_marked, signs_more}
-use Rattle.nts_text.proofs.parser.params_of.Goals.{in-Bracket-Open, in-Param-Minus, in-Param-Equals, in-Behind-Comma, in-Behind-Close, in-Param-Name+in-Some+in_ok-push-in-Param-Name, in-Sort-Name+in-Some-param_of+in_ok-push-in-Sort-Name}
-use Rattle.nts_text.proofs.parser.params_of.Goals.{in_default-via-in-Bracket+in_default, in_default-via-in-Param+in_default, in_default-via-in-Sort+in_default, in_default-via-in-Behind+in_default, in_default-via-in_default}
-use Rattle.nts_text.proofs.parser.params_of.Goals as goal
+use Rattle.nts_text.proofs.params.params_of.Goals.{in-Bracket-Open, in-Param-Minus, in-Param-Equals, in-Behind-Comma, in-Behind-Close, in-Param-Name+in-Some+in_ok-push-in-Param-Name, in-Sort-Name+in-Some-param_of+in_ok-push-in-Sort-Name}
+use Rattle.nts_text.proofs.params.params_of.Goals.{in_default-via-in-Bracket+in_default, in_default-via-in-Param+in_default, in_default-via-in-Sort+in_default, in_default-via-in-Behind+in_default, in_default-via-in_default}
+use Rattle.nts_text.proofs.params.params_of.Goals as goal
 
 -- one more token is read
 pub loop-token-preserved : goal.loop-token-preserved

@@ -5,7 +5,7 @@ use Rattle.nts_model.specs.declared.labels.Variance.TheVariants as variances
 use Rattle.nts_text.specs.declared.parser.Param.{Param}
 use Rattle.nts_text.specs.Declarations.{unmarked}
 use Rattle.nts_text.proofs.ComeLemmas.{all_unmarked}
-use Rattle.nts_text.proofs.parser.sorts_of.Goals as goal
+use Rattle.nts_text.proofs.params.sorts_of.Goals as goal
 
 -- a parameter with a mark is none of a trait
 pub returns-then-ne-clause-none : goal.returns-then-ne-clause-none
