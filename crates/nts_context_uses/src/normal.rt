@@ -1,4 +1,4 @@
-//! A term that is normalized in a context, by the one clause of its alias.
+//! A term that is normalized in a context, or is to be a subtype there, by the one clause of its alias.
 ghost use Rattle.std.specs.Prelude.{◌≡◌, [], IfOk, OnOk};
 ghost use Rattle.nts_model.specs.Terms.Trees.{any_term};
 ghost use Rattle.nts_delegate.specs.Clauses.{AreClausesReady};
@@ -24,6 +24,8 @@ pub enum Call {
     Term,
     Ty,
     Const,
+    /// The term is to be a subtype of what its clause gives. That is answered where it holds.
+    Sub,
 }
 
 /// An alias, and what its one clause gives: `u32` for the alias of `u8`, or the value 3 of type `u8` for a const over it.
@@ -57,12 +59,14 @@ fn outcome_of(
     let rules = rules_of(&fixture.cx, given, alias, value)?;
     fixture.seen(fixture.env)?;
     fixture.seen(term)?;
+    fixture.seen(value)?;
     let found = normalize_in_root(
         &mut fixture.table,
         &mut fixture.cx,
         &rules,
         fixture.env,
         term,
+        value,
         call,
     );
     Ok(match found {
@@ -143,16 +147,18 @@ fn rules_of(cx: &Cx, given: Given, alias: AliasTerm, value: Term) -> Result<Clau
     Ok(rules)
 }
 
-/// Normalizes a term by a call that takes it, if it is of the kind that the call takes.
+/// Normalizes a term by a call that takes it, if it is of the kind that the call takes; or relates it with the value.
 fn normalize(
     ecx: &mut EvalCtxt<'_, Clauses>,
     env: ParamEnv,
     term: Term,
+    value: Term,
     call: Call,
 ) -> Result<Term, EvalError>
     requires ready { IsContextReady AreClausesReady ecx.old }
     requires env { IsEnvOf ecx.old.cx.now ecx.old.table.now env }
     requires term { IsSide any_term ecx.old.cx.now.nodes ecx.old.table.now term.node }
+    requires value { IsSide any_term ecx.old.cx.now.nodes ecx.old.table.now value.node }
     ensures keeps { KeepsContext AreClausesReady ecx.old ecx.new }
 {
     let node = term.node;
@@ -173,7 +179,26 @@ fn normalize(
                     .into(),
             )
         }
+        Call::Sub => is_below(ecx, env, term, value),
     }
+}
+
+/// Asks whether a term is a subtype of another, which is then answered.
+fn is_below(
+    ecx: &mut EvalCtxt<'_, Clauses>,
+    env: ParamEnv,
+    term: Term,
+    value: Term,
+) -> Result<Term, EvalError>
+    requires ready { IsContextReady AreClausesReady ecx.old }
+    requires env { IsEnvOf ecx.old.cx.now ecx.old.table.now env }
+    requires term { IsSide any_term ecx.old.cx.now.nodes ecx.old.table.now term.node }
+    requires value { IsSide any_term ecx.old.cx.now.nodes ecx.old.table.now value.node }
+    ensures keeps { KeepsContext AreClausesReady ecx.old ecx.new }
+{
+    ecx.sub(env, term, value)?;
+    ecx.try_evaluate_added_goals()?;
+    Ok(value)
 }
 
 /// Normalizes a term in a context, and answers nothing where goals are left.
@@ -184,12 +209,14 @@ fn normalize_in_root(
     rules: &Clauses,
     env: ParamEnv,
     term: Term,
+    value: Term,
     call: Call,
 ) -> Result<Term, EvalError>
     requires table { IsTable cx.old.nodes table.old }
     requires ready { AreClausesReady cx.old.nodes rules.now }
     requires env { IsEnvOf cx.old table.old env }
     requires term { IsSide any_term cx.old.nodes table.old term.node }
+    requires value { IsSide any_term cx.old.nodes table.old value.node }
 {
     let depth = cx.recursion_limit();
     EvalCtxt::enter_root(
@@ -202,10 +229,11 @@ fn normalize_in_root(
             requires ready { IsContextReady AreClausesReady ecx.old }
             requires env { IsEnvOf ecx.old.cx.now ecx.old.table.now env }
             requires term { IsSide any_term ecx.old.cx.now.nodes ecx.old.table.now term.node }
+            requires value { IsSide any_term ecx.old.cx.now.nodes ecx.old.table.now value.node }
             ensures keeps { KeepsContext AreClausesReady ecx.old ecx.new }
             ensures goals { OnOk result (ecx.new.state.now.nested_goals.items ≡ []) }
         {
-            let found = normalize(ecx, env, term, call)?;
+            let found = normalize(ecx, env, term, value, call)?;
             if !ecx.state.nested_goals.is_empty() {
                 // a root context is left without goals
                 return Err(EvalError::Full);

@@ -20,3 +20,11 @@ fn an_alias_without_a_clause_is_nothing(rt: HostRuntime) {
     sees(&rt, rt.alloc(), Given::Nothing, Call::Term, none);
     sees(&rt, rt.alloc(), Given::Nothing, Call::Ty, none);
 }
+
+#[test]
+fn an_alias_is_a_subtype_of_what_its_clause_gives(rt: HostRuntime) {
+    let none = Err(EvalError::NoSolution);
+    sees(&rt, rt.alloc(), Given::Type, Call::Sub, Ok(true));
+    sees(&rt, rt.alloc(), Given::Value, Call::Sub, Ok(true));
+    sees(&rt, rt.alloc(), Given::Nothing, Call::Sub, none);
+}

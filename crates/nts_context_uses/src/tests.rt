@@ -31,15 +31,14 @@ fn is_left(found: Option<Left>, answered: usize, added: usize) -> bool {
     }
 }
 
-/// That an alias is equal to a type is left as a goal, which has no solution where no clause says what the alias is. That it is a
-/// subtype is in doubt.
+/// That an alias is equal to a type, or a subtype of it, is left as a goal, which has no solution where no clause says what the alias is.
 #[test]
 fn an_alias_leaves_a_goal(rt: HostRuntime) {
     let alloc = rt.alloc();
     let equal = goals_of_alias(alloc, Variance::Invariant);
     assert!(rt; matches!(equal, Err(EvalError::NoSolution)));
-    let lesser = goals_of_alias(alloc, Variance::Covariant).expect(&rt, "memory");
-    assert!(rt; is_left(lesser, 1, 1));
+    let lesser = goals_of_alias(alloc, Variance::Covariant);
+    assert!(rt; matches!(lesser, Err(EvalError::NoSolution)));
 }
 
 #[test]

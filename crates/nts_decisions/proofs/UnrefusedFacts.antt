@@ -17,7 +17,7 @@ use Rattle.nts_theory.specs.Affirming.{SaysAffirmed, IsDenied, HasOwnWay}
 use Rattle.nts_theory.specs.Outliving.{IsOutlives}
 use Rattle.nts_theory.specs.Subtyping.{IsSubtyping}
 use Rattle.nts_theory.specs.Aliasing.{NormalizesSides}
-use Rattle.nts_theory.proofs.Refutation.Aliasing.{sides_no_handlers}
+use Rattle.nts_theory.proofs.Refutation.Aliasing.{sides_no_handlers, way_no_handlers}
 use Rattle.nts_theory.proofs.Refutation.Apart.{apart_unmet}
 use Rattle.nts_theory.proofs.Refutation.PlainParts.{part_met}
 use Rattle.nts_decisions.proofs.OpenedStatements.{trait_outlives_nothing, trait_not_affirmed, trait_not_denied, trait_has_no_way, trait_says_no_subtype, trait_says_no_alias, statement_handlers}
@@ -28,7 +28,7 @@ use Rattle.nts_model.specs.Canonical.Inputs.{Input, PositionKind, type_variable,
 use Rattle.nts_model.specs.Canonical.Numbered.{numbered, no_leaf}
 use Rattle.nts_model.specs.Refutation.Opening.{binds, opened_in, entered_table}
 use Rattle.nts_model.specs.Answers.Responses.{Response, IsResponseTo, IsQueryTable, read_in, RefusesResponse}
-use Rattle.nts_theory.specs.Telling.{Verdict, Queries, IsInputFor, IsReady, StandsForAll, SaysOf, without_constraints, IsPlainResponse, Tells, tells_nothing, says_nothing, tells_one, tells_outlives, tells_affirmed, tells_own, tells_subtype, tells_alias, tells_normal, IsTraitStatement, IsAliasStatement, IsAliasReady, IsAliasGoal, IsTraitGoal, kind_for, Refutes, all_fail, is_denied, own_fails, is_no_subtype, subtype_refused, aliases_fail, normal_refused, Outcomes, no_outcome, then_fails, then_replies, Replies, replies, Fails, is_unmet, has_types_apart, is_unrelated, is_refused, is_leaky, Reaches, asks_nothing, then_asks, RefusesOne, Refused, by_query, by_response}
+use Rattle.nts_theory.specs.Telling.{Verdict, Queries, IsWay, IsInputFor, IsReady, StandsForAll, SaysOf, without_constraints, IsPlainResponse, Tells, tells_nothing, says_nothing, tells_one, tells_outlives, tells_affirmed, tells_own, tells_subtype, tells_alias, tells_normal, IsTraitStatement, IsAliasStatement, IsAliasReady, IsAliasGoal, IsTraitGoal, kind_for, Refutes, all_fail, is_denied, own_fails, is_no_subtype, subtype_refused, aliases_fail, normal_refused, Outcomes, no_outcome, then_fails, then_replies, Replies, replies, Fails, is_unmet, has_types_apart, is_unrelated, is_refused, is_leaky, Reaches, asks_nothing, then_asks, RefusesOne, Refused, by_query, by_response}
 use Rattle.nts_theory.specs.RelatingCandidates.{goals_with, HasPlainEquations}
 use Rattle.nts_theory.proofs.Refutation.Queried.{IsFirst, BeginsEach, IsQuery, first_query, IsTried, tried, tried_knows, found_table, says_long}
 use Rattle.nts_theory.proofs.Refutation.QueryLabels.{query_without}
@@ -257,13 +257,16 @@ module _ (Q : Queries) (h : Handler) (law : IsLawfulHandler h) (mode : Mode) (ti
   equates_nothing_here : {d : Content} {ps : List Premise} → NormalizesSides (entered_table q g') d e' (opened_in q g') ps → ⊥
   equates_nothing_here {d} {ps} x = sides_no_handlers (entered_table q g') d e' (opened_in q g') ps x (statement_handlers (statement_of (opened_in q g')) (subst (λ z. IsTraitStatement (statement_of z)) (sym same_goal) is_trait))
 
+  no_way_here : {d : Content} {ps : List Premise} → IsWay Q h mode (entered_table q g') d e' (opened_in q g') ps → ⊥
+  no_way_here {d} {ps} x = way_no_handlers (entered_table q g') d e' (opened_in q g') ps x (statement_handlers (statement_of (opened_in q g')) (subst (λ z. IsTraitStatement (statement_of z)) (sym same_goal) is_trait))
+
   query_never_refutes : Refutes Q h mode q e' g' (map leaf_tree u) → ⊥
   query_never_refutes (is_denied d) = trait_not_denied h.judges g' is_trait (subst (λ z. IsDenied h.judges (statement_of z)) same_goal d)
   query_never_refutes (own_fails y own fails) = trait_has_no_way h.judges e' g' y is_trait (subst (λ z. HasOwnWay h.judges e' z y) same_goal own.way)
   query_never_refutes (is_no_subtype outside n) = trait_says_no_subtype g' n.left n.right is_trait (subst (λ z. IsSubtyping z n.left n.right) same_goal n.is)
   query_never_refutes (subtype_refused ps met outside l refused) = trait_says_no_subtype g' l.left l.right is_trait (subst (λ z. IsSubtyping z l.left l.right) same_goal l.is)
   query_never_refutes (aliases_fail outside ready all) = no_alias_here ready
-  query_never_refutes (normal_refused ps met outside l refused) = equates_nothing_here l
+  query_never_refutes (normal_refused ps met outside l refused other) = equates_nothing_here l
   query_never_refutes (all_fail ready all) = (let o = contains_here [] ready all in o.among)
 
   formed_values : (ks : List PositionKind) (zs : List Tree) → AreInputValues ks zs → (t : Tree) → Among zs t → IsFormed t
@@ -310,7 +313,7 @@ module _ (Q : Queries) (h : Handler) (law : IsLawfulHandler h) (mode : Mode) (ti
   tells_contained v (tells_own y own reply) = absurd (trait_has_no_way h.judges e' g' y is_trait (subst (λ z. HasOwnWay h.judges e' z y) same_goal own.way))
   tells_contained v (tells_subtype ps met found outside l reach is says) = absurd (trait_says_no_subtype g' l.left l.right is_trait (subst (λ z. IsSubtyping z l.left l.right) same_goal l.is))
   tells_contained v (tells_alias vs outside ready all stands) = absurd (no_alias_here ready)
-  tells_contained v (tells_normal ps met found outside l reach is says) = absurd (equates_nothing_here l)
+  tells_contained v (tells_normal ps met found outside l reach is says) = absurd (no_way_here l)
   tells_contained v (tells_one vs ready all stands) = by_one stands
     where
       by_one : StandsForAll (map leaf_tree u) vs v → ContainsMerged v.response ts

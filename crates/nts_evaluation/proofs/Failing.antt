@@ -1,5 +1,5 @@
 -- A call that fails, and does not say that there is no solution, promises no more than how the search went on.
-use Rattle.std.proofs.Common.{ℕ, Bool, ◌≡◌, ◌≢◌, List, Result, Ok, Err, true, refl}
+use Rattle.std.proofs.Common.{ℕ, Bool, ◌≡◌, ◌≢◌, List, Option, Result, Ok, Err, true, refl}
 use Rattle.nts_model.specs.Terms.Trees.{Tree}
 use Rattle.nts_model.specs.Derivations.Proofs.{Assumed}
 use Rattle.std.specs.Global.{Box}
@@ -20,7 +20,7 @@ use Rattle.nts_search.specs.declared.stack.SearchGraph.{SearchGraph}
 use Rattle.nts_meaning.specs.Searching.{Searches}
 use Rattle.nts_model.specs.Derivations.Handlers.{Handler}
 use Rattle.nts_meaning.specs.Telling.{Ruling}
-use Rattle.nts_evaluation.specs.Promises.{IsAnswered, AnswersQuery, AnswersGoal, AnswersOwn, AnswersSubtype, AnswersAlias, AnswersEquated, AnswersBy}
+use Rattle.nts_evaluation.specs.Promises.{IsAnswered, AnswersQuery, AnswersGoal, AnswersOwn, AnswersSubtype, AnswersAlias, AnswersEquated, AnswersWay, AnswersBy}
 use Rattle.nts_meaning.specs.Meant.{Rules, ruling_since}
 use Rattle.nts_trying.specs.declared.subtypes.TypePair.{TypePair}
 use Rattle.nts_evaluation.proofs.Deciding.{decides_fault}
@@ -53,3 +53,6 @@ alias_failed r fails other grows searches = record { grows = grows; searches = s
 
 pub equated_failed : {R : Rules} {a b : Cx} {g h : SearchGraph} {t : Table} {goal : Goal} {values : List GenericArg} (r : Result (Box (Canonical Response)) EvalError) → is_err r ≡ true → r ≢ Err error.NoSolution → Grows a b → Searches a b g h → AnswersEquated R a b g h t goal values r
 equated_failed r fails other grows searches = record { grows = grows; searches = searches; found = IfOk-from_err r _ fails; told = λ s tells. IfOk-from_err r _ fails; refuted = λ s tells n. absurd (other n) }
+
+pub way_failed : {R : Rules} {way : Option TypePair} {a b : Cx} {g h : SearchGraph} {t u : Table} {goal : Goal} {values : List GenericArg} (r : Result (Box (Canonical Response)) EvalError) → is_err r ≡ true → r ≢ Err error.NoSolution → u ≡ t → Grows a b → Searches a b g h → AnswersWay R way a b g h t u goal values r
+way_failed r fails other same grows searches = record { same = same; grows = grows; searches = searches; found = IfOk-from_err r _ fails; told = λ s tells. IfOk-from_err r _ fails; refuted = λ s tells n. absurd (other n) }

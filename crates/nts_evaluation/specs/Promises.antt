@@ -1,6 +1,6 @@
 -- What the calls of an evaluation promise: one record for each family of calls.
 use Rattle.std.specs.Global.{Box}
-use Rattle.std.specs.Prelude.{◌≡◌, ◌⊎◌, ℕ, ◌<◌, ◌≤◌, List, Result, Err, ◌≢◌, [], ◌∷◌, ◌+◌, Bool, true, false, Ok, IfOk, IfSome, OnOk, OnErr, IsTrue}
+use Rattle.std.specs.Prelude.{◌≡◌, ◌⊎◌, ℕ, ◌<◌, ◌≤◌, List, Option, Result, Err, ◌≢◌, [], ◌∷◌, ◌+◌, Bool, true, false, Ok, IfOk, IfSome, OnOk, OnErr, IsTrue}
 use Rattle.nts_model.specs.Terms.Trees.{Tree}
 use Rattle.nts_model.specs.Tables.Contents.{Content}
 use Rattle.nts_model.specs.Derivations.Rules.{Meaning, Mode, statement_of}
@@ -49,7 +49,7 @@ use Rattle.nts_trying.specs.Found.{Found}
 use Rattle.nts_evaluation.specs.Deciding.{IsQueryDecided, IsOwnSettled, CanDecide, IsBelow, IsAsBefore, Decides, IsYes, IsYesUnchanged, IsOwnYes, IsRoundDecided, IsRootQuery, AreRootValues, CandidatesSettled, IsSettled, GoalsSettled, IsQueryAtFirst, IsFactHere, IsPlainCandidate, ArePlainCandidates, IsOverIfSilent, IsFactForm, IsRoundYes}
 use Rattle.nts_decisions.specs.Deciding.{IsGoalDecided}
 use Rattle.nts_trying.specs.Stopping.{StopsIn}
-use Rattle.nts_trying.specs.Aliasing.{IsAliasTold, IsAliasRefuted, IsNormalizedBy, NormalTold, NormalRefuted}
+use Rattle.nts_trying.specs.Aliasing.{IsAliasTold, IsAliasRefuted, IsNormalizedBy, NormalTold, NormalRefuted, RunsWay, WayTold, WayRefuted}
 use Rattle.nts_trying.specs.Subtyping.{AreVariablesIn, AreSubtypesBy, SubtypesTold, SubtypesRefuted, IsJoinedAnswer}
 use Rattle.nts_trying.specs.declared.subtypes.TypePair.{TypePair}
 use Rattle.nts_trying.specs.Stepping.{ArePosed, AreLeft, AreSettled, terms_of, bound_of}
@@ -208,13 +208,31 @@ pub record AnswersAlias (R : Rules) (a b : Cx) (g h : SearchGraph) (t : Table) (
   pub told : WhereTold R a g (λ m. IfAnswered r (IsAliasTold m t.mode a.nodes t goal values b.nodes))
   pub refuted : WhereTold R a g (λ m. r ≡ Err error.NoSolution → IsAliasRefuted m t.mode a.nodes t goal values)
 
--- a goal that an alias is equal to a term is answered
+-- a goal that an alias is equal to a term, or that the one is a subtype of the other, is answered
 pub record AnswersEquated (R : Rules) (a b : Cx) (g h : SearchGraph) (t : Table) (goal : Goal) (values : List GenericArg) (r : Result (Box (Canonical Response)) EvalError) : Type 0 where
   pub grows : Grows a b
   pub searches : Searches a b g h
   pub found : IfAnswered r (Found (λ c v. Always R a (λ s. IsNormalizedBy (meaning_since R.handler s) (mode_of t.mode) (assumed_in b.nodes h) (content_of c v.entries) (tree_at a.nodes goal.param_env.node) (tree_at a.nodes goal.predicate.node))) a.nodes b.nodes t goal values)
   pub told : WhereTold R a g (λ m. IfAnswered r (λ x. NormalTold m (mode_of t.mode) (content_of a.nodes t.entries) (tree_at a.nodes goal.param_env.node) (tree_at a.nodes goal.predicate.node) (trees_of a.nodes values) (verdict_at b.nodes x)))
   pub refuted : WhereTold R a g (λ m. r ≡ Err error.NoSolution → NormalRefuted m (mode_of t.mode) (content_of a.nodes t.entries) (tree_at a.nodes goal.param_env.node) (tree_at a.nodes goal.predicate.node))
+
+-- .. by a way
+pub record AnswersWay (R : Rules) (way : Option TypePair) (a b : Cx) (g h : SearchGraph) (t u : Table) (goal : Goal) (values : List GenericArg) (r : Result (Box (Canonical Response)) EvalError) : Type 0 where
+  pub same : u ≡ t
+  pub grows : Grows a b
+  pub searches : Searches a b g h
+  pub found : IfAnswered r (Found (λ c v. Always R a (λ s. IsNormalizedBy (meaning_since R.handler s) (mode_of t.mode) (assumed_in b.nodes h) (content_of c v.entries) (tree_at a.nodes goal.param_env.node) (tree_at a.nodes goal.predicate.node))) a.nodes b.nodes t goal values)
+  pub told : WhereTold R a g (λ m. IfAnswered r (λ x. WayTold m (mode_of t.mode) way (content_of a.nodes t.entries) (tree_at a.nodes goal.param_env.node) (tree_at a.nodes goal.predicate.node) (trees_of a.nodes values) (verdict_at b.nodes x)))
+  pub refuted : WhereTold R a g (λ m. r ≡ Err error.NoSolution → WayRefuted m (mode_of t.mode) way (content_of a.nodes t.entries) (tree_at a.nodes goal.param_env.node) (tree_at a.nodes goal.predicate.node))
+
+-- .. what is left of it by a way is asked, and what that did stays in the table
+pub record TriesWay (R : Rules) (way : Option TypePair) (a b : Cx) (g h : SearchGraph) (t u : Table) (goal : Goal) (r : Result Certainty EvalError) : Type 0 where
+  pub runs : Runs a b t u
+  pub searches : Searches a b g h
+  pub labels : OnOk r (BringsOnlyOf (asked_terms a.nodes goal) a t b u)
+  pub proved : Always R a (λ s. r ≡ Ok certainty.Yes → IsNormalizedBy (meaning_since R.handler s) (mode_of t.mode) (assumed_in b.nodes h) (content_of b.nodes u.entries) (tree_at a.nodes goal.param_env.node) (tree_at a.nodes goal.predicate.node))
+  pub told : WhereTold R a g (λ m. OnOk r (RunsWay m (mode_of t.mode) way (content_of a.nodes t.entries) (tree_at a.nodes goal.param_env.node) (tree_at a.nodes goal.predicate.node) (content_of b.nodes u.entries)))
+  pub refuted : WhereTold R a g (λ m. r ≡ Err error.NoSolution → WayRefuted m (mode_of t.mode) way (content_of a.nodes t.entries) (tree_at a.nodes goal.param_env.node) (tree_at a.nodes goal.predicate.node))
 
 -- .. by candidates: what is proved where the answer is certain; what is told and refuted of them; how they fare where the goal is
 -- decided; and what is so where one of them decides it, which has no goals

@@ -1,6 +1,6 @@
 //! The recursion over nested goals. Its functions stand on the stack once for each goal above, so what
 //! they call and is not of the recursion is kept out of their frames, by `inline(never)`, and what is large stands behind boxes.
-ghost use Rattle.std.specs.Prelude.{◌+◌, All};
+ghost use Rattle.std.specs.Prelude.{◌+◌, All, IfSome};
 ghost use Rattle.nts_canonical.specs.Building.{kinds_of, IsArgOf};
 ghost use Rattle.nts_delegate.specs.Candidates.{IsAskedIn, IsCandidate, AreCandidates};
 ghost use Rattle.nts_meaning.specs.Searching.{IsSearch, IsHeadAnswer};
@@ -9,13 +9,13 @@ ghost use Rattle.nts_meaning.specs.Answering.{IsQueryInput};
 ghost use Rattle.nts_meaning.specs.Evaluation.{IsPosed};
 ghost use Rattle.nts_trying.specs.Owning.{IsOwnGoal};
 ghost use Rattle.nts_trying.specs.Subtyping.{IsSubtypeGoal};
-ghost use Rattle.nts_trying.specs.Aliasing.{IsEquatedGoal};
+ghost use Rattle.nts_trying.specs.Aliasing.{IsEquatedGoal, LesserIn};
 ghost use Rattle.nts_table.specs.Tables.{IsTable};
 ghost use Rattle.nts_meaning.specs.Meant.{rules_of};
 ghost use Rattle.nts_candidates.specs.Offered.{candidate_of};
 ghost use Rattle.nts_terms.specs.Modes.{mode_of};
 ghost use Rattle.nts_theory.specs.RelatingCandidates.{IsCutIn, HasPlainEquations};
-ghost use Rattle.nts_evaluation.specs.Promises.{AnswersQuery, AsksGoal, AsksAdded, EndsRound, AnswersGoal, AnswersOwn, AnswersSubtype, AnswersAlias, AnswersEquated, TriesEach, TriesOne, RunsOne, StepsGoals, StepsOnce};
+ghost use Rattle.nts_evaluation.specs.Promises.{AnswersQuery, AsksGoal, AsksAdded, EndsRound, AnswersGoal, AnswersOwn, AnswersSubtype, AnswersAlias, AnswersEquated, AnswersWay, TriesWay, TriesEach, TriesOne, RunsOne, StepsGoals, StepsOnce};
 
 use nts_asking::{
     answer_cycle, apply_answer, boxed_query, end_round, first_round, keeps_constraints,
@@ -33,8 +33,8 @@ use nts_terms::{Cx, GenericArg, Goal, TypingMode};
 use nts_trying::{
     AvailableDepth, EquatedAlias, GoalRow, Judged, OwnGoal, Step, Trial, TypePair, answer_outlives,
     begin_relating, check_leaks, enter_forall, equate, fast_answer, goal_kind, goal_row, judge,
-    keep_response, merge_responses, needs_relating, normal_goals, record_constraints, relate_types,
-    relevant_candidates,
+    keep_response, merge_responses, needs_relating, record_constraints, relate_types,
+    relevant_candidates, way_goals,
 };
 
 /// Evaluates a goal in a query of its own: its leaves give place to positions, the search answers the query, and the response is
@@ -287,8 +287,8 @@ fn evaluate_subtype<H: GoalHandler>(
     let left = relate_types(table, cx, goal, types)?;
     cx.terms_are_formed();
     let Some(mut goals) = left else {
-        let doubt = boxed_response(table, cx, values, Certainty::AMBIGUOUS)?;
-        return Ok(doubt);
+        let joined = boxed_response(table, cx, values, Certainty::AMBIGUOUS)?;
+        return Ok(joined);
     };
     let mut last_steps = 0;
     let certainty = try_evaluate_goals(
@@ -340,8 +340,8 @@ fn evaluate_alias<H: GoalHandler>(
     evaluate_candidates(table, cx, handler, graph, goal, &candidates, values, depth)
 }
 
-/// Answers a goal that an alias is equal to a term: asks whether the alias normalizes to the term, or, of two aliases, whether both
-/// normalize to one; and answers what was found out. In coherence it is in doubt.
+/// Answers a goal that an alias is equal to a term, or that the one is a subtype of the other: of a subtype it is asked first whether
+/// what they normalize to is one; and where it is none, and else, whether the alias and the term are one. In coherence it is in doubt.
 #[cycle(evaluate)]
 #[inline(never)]
 fn evaluate_equated<H: GoalHandler>(
@@ -367,8 +367,87 @@ fn evaluate_equated<H: GoalHandler>(
         let doubt = boxed_response(table, cx, values, Certainty::AMBIGUOUS)?;
         return Ok(doubt);
     }
+    if let Some(types) = equated.types {
+        let way = Some(types);
+        let lesser = evaluate_way(table, cx, handler, graph, goal, equated, way, values, depth);
+        cx.terms_are_formed();
+        if !matches!(lesser, Err(EvalError::NoSolution)) {
+            return lesser;
+        }
+        return evaluate_way(
+            table, cx, handler, graph, goal, equated, None, values, depth,
+        );
+    }
+    evaluate_way(
+        table, cx, handler, graph, goal, equated, None, values, depth,
+    )
+}
+
+/// Answers such a goal by a way: asks the goals that are left of it then, and answers what was found out. The table is as before.
+#[cycle(evaluate)]
+#[inline(never)]
+fn evaluate_way<H: GoalHandler>(
+    table: &mut InferCtxt,
+    cx: &mut Cx,
+    handler: &H,
+    graph: &mut SearchGraph,
+    goal: Goal,
+    equated: EquatedAlias,
+    way: Option<TypePair>,
+    values: &[GenericArg],
+    depth: usize,
+) -> Result<Box<CanonicalResponse>, EvalError>
+    requires posed { IsPosed cx.old.nodes table.old goal }
+    requires equated { IsEquatedGoal cx.old.nodes goal equated }
+    requires way { IfSome way (LesserIn cx.old.nodes goal) }
+    requires outside { IsCutIn (mode_of table.old.mode) }
+    requires ready { H.ready cx.old.nodes handler.now }
+    requires values { All (IsArgOf cx.old.nodes table.old.entries) values.now }
+    requires search { IsSearch cx.old graph.old (depth) }
+    ensures { AnswersWay (rules_of H.ready H.handler handler.now) way cx.old cx.new graph.old
+        graph.new table.old table.new goal values.now result }
+{
     let snapshot = table.start_snapshot()?;
-    let mut goals = normal_goals(table, cx, goal, equated)?;
+    let certainty = match try_way(table, cx, handler, graph, goal, equated, way, depth) {
+        Ok(certainty) => certainty,
+        Err(error) => {
+            table.rollback_to(snapshot);
+            return Err(error);
+        }
+    };
+    cx.terms_are_formed();
+    if keeps_constraints(certainty) {
+        let response = boxed_response(table, cx, values, certainty);
+        table.rollback_to(snapshot);
+        return Ok(response?);
+    }
+    table.rollback_to(snapshot);
+    let response = boxed_response(table, cx, values, certainty)?;
+    Ok(response)
+}
+
+/// Asks in steps the goals that are left of such a goal by a way.
+#[cycle(evaluate)]
+fn try_way<H: GoalHandler>(
+    table: &mut InferCtxt,
+    cx: &mut Cx,
+    handler: &H,
+    graph: &mut SearchGraph,
+    goal: Goal,
+    equated: EquatedAlias,
+    way: Option<TypePair>,
+    depth: usize,
+) -> Result<Certainty, EvalError>
+    requires posed { IsPosed cx.old.nodes table.old goal }
+    requires equated { IsEquatedGoal cx.old.nodes goal equated }
+    requires way { IfSome way (LesserIn cx.old.nodes goal) }
+    requires outside { IsCutIn (mode_of table.old.mode) }
+    requires ready { H.ready cx.old.nodes handler.now }
+    requires search { IsSearch cx.old graph.old (depth) }
+    ensures { TriesWay (rules_of H.ready H.handler handler.now) way cx.old cx.new graph.old
+        graph.new table.old table.new goal result }
+{
+    let mut goals = way_goals(table, cx, goal, equated, way)?;
     let mut last_steps = 0;
     let certainty = try_evaluate_goals(
         table,
@@ -381,13 +460,7 @@ fn evaluate_equated<H: GoalHandler>(
         &mut last_steps,
     )?;
     cx.terms_are_formed();
-    if keeps_constraints(certainty) {
-        let response = boxed_response(table, cx, values, certainty)?;
-        return Ok(response);
-    }
-    table.rollback_to(snapshot);
-    let response = boxed_response(table, cx, values, certainty)?;
-    Ok(response)
+    Ok(certainty)
 }
 
 /// Asks each candidate to its end. Those that fail are dropped, and one response stands for those of the others; where none does,

@@ -2,15 +2,15 @@
 use crate::aliases::Aliased::{Equal, Normalizes, Projects};
 use crate::aliases::Norm;
 use crate::asking::Answer::{Is, NotAdmitted, Refused};
-use crate::asking::Asked::{self, Goal, Resolves};
+use crate::asking::Asked::{self, Constraints, Constructs, Goal, Resolves};
 use crate::asking::DOUBT;
-use crate::asking::Wanted::{Alias, Plain};
+use crate::asking::Wanted::{Alias, Plain, Subtype};
 use crate::steps::Given::{self, Let, Trait};
 use crate::steps::{By, Of, Part, Rule, plays};
 use nts_certainty::{Certainty, HasChanged};
 use nts_fixtures::{BYTE, Make, Type, WORD};
 use nts_model::{Sort, VariableKind};
-use nts_terms::TypingMode;
+use nts_terms::{RegionKind, TypingMode};
 
 const YES: Certainty = Certainty::Yes;
 
@@ -196,4 +196,114 @@ fn aliases_are_in_doubt_in_coherence(rt: HostRuntime) {
     ];
     const PARTS: &[Part] = &[Part(By::Aliases(NORMS), &[], ASKED)];
     plays(&rt, rt.alloc(), TypingMode::Coherence, GIVEN, PARTS);
+}
+
+const LIVES: &[Given] = &[
+    Let("static", Make::Region(RegionKind::ReStatic)),
+    Let("r", Make::Var(VariableKind::Region)),
+    Let("byte", BYTE),
+    Let("word", WORD),
+    Let("long", Make::Reference("static", "byte")),
+    Let("hard", Make::Reference("static", "word")),
+    Let("short", Make::Reference("r", "byte")),
+    Let("wide", Make::Reference("r", "word")),
+    Let("alias", Make::AliasOf("byte")),
+    Let("other", Make::AliasOf("word")),
+    Let("x", Make::Var(VariableKind::Ty)),
+    Let("of_x", Make::AliasOf("x")),
+    Let("one", Make::Pair("alias", "byte")),
+    Let("two", Make::Pair("short", "byte")),
+    Let("deep", Make::Reference("static", "alias")),
+    Let("lent", Make::Reference("r", "short")),
+    Let("takes", Make::Turner(Sort::Region, "short", "byte")),
+    Let("taken", Make::Turner(Sort::Region, "alias", "byte")),
+    Let("gives", Make::Turner(Sort::Region, "byte", "alias")),
+    Let("given", Make::Turner(Sort::Region, "byte", "wide")),
+];
+
+/// An alias is a subtype of what its type is a subtype of: what outlives what is recorded, as for the type.
+#[test]
+fn an_alias_is_a_subtype_by_its_type(rt: HostRuntime) {
+    const NORMS: &[Norm] = &[
+        Norm(&[], "byte", "long", None),
+        Norm(&[], "word", "long", None),
+    ];
+    const ASKED: &[Asked] = &[
+        Goal(Subtype("alias", "long"), Is(YES, HasChanged::No)),
+        Constraints(0),
+        Goal(Subtype("alias", "short"), Is(YES, HasChanged::No)),
+        Constraints(1),
+        Goal(Subtype("alias", "other"), Is(YES, HasChanged::No)),
+        Goal(Subtype("one", "two"), Is(YES, HasChanged::No)),
+        Constraints(2),
+        Goal(Subtype("short", "alias"), Is(YES, HasChanged::No)),
+        Constraints(3),
+        Goal(Subtype("alias", "wide"), Refused),
+        Goal(Subtype("byte", "alias"), Refused),
+        Goal(Subtype("alias", "x"), Is(YES, HasChanged::Yes)),
+        Constructs("x"),
+    ];
+    const PARTS: &[Part] = &[Part(By::Aliases(NORMS), &[], ASKED)];
+    plays(&rt, rt.alloc(), TypingMode::PostAnalysis, LIVES, PARTS);
+}
+
+/// A rigid alias is a subtype of itself alone, and a variable becomes it.
+#[test]
+fn a_rigid_alias_is_a_subtype_of_itself(rt: HostRuntime) {
+    const ASKED: &[Asked] = &[
+        Goal(Subtype("alias", "alias"), Is(YES, HasChanged::No)),
+        Goal(Subtype("alias", "other"), Refused),
+        Goal(Subtype("alias", "byte"), Refused),
+        Goal(Subtype("long", "alias"), Refused),
+        Goal(Subtype("of_x", "alias"), Is(YES, HasChanged::Yes)),
+        Resolves("x", "byte"),
+        Constraints(0),
+    ];
+    const BECOMES: &[Asked] = &[
+        Goal(Subtype("alias", "x"), Is(YES, HasChanged::Yes)),
+        Resolves("x", "alias"),
+    ];
+    const PARTS: &[Part] = &[Part(By::Rigid, &[], ASKED)];
+    const OTHERS: &[Part] = &[Part(By::Rigid, &[], BECOMES)];
+    plays(&rt, rt.alloc(), TypingMode::PostAnalysis, LIVES, PARTS);
+    plays(&rt, rt.alloc(), TypingMode::PostAnalysis, LIVES, OTHERS);
+}
+
+/// What a function takes varies the other way.
+#[test]
+fn an_alias_may_stand_deep_in_a_subtype(rt: HostRuntime) {
+    const NORMS: &[Norm] = &[Norm(&[], "byte", "long", None)];
+    const ASKED: &[Asked] = &[
+        Goal(Subtype("deep", "lent"), Is(YES, HasChanged::No)),
+        Constraints(2),
+        Goal(Subtype("takes", "taken"), Is(YES, HasChanged::No)),
+        Constraints(3),
+        Goal(Subtype("gives", "given"), Refused),
+        Goal(Subtype("lent", "deep"), Is(YES, HasChanged::No)),
+        Constraints(5),
+    ];
+    const PARTS: &[Part] = &[Part(By::Aliases(NORMS), &[], ASKED)];
+    plays(&rt, rt.alloc(), TypingMode::PostAnalysis, LIVES, PARTS);
+}
+
+/// Of an alias of a type that is not known yet nothing is known, and one that normalizes to nothing is no subtype.
+#[test]
+fn an_alias_of_a_variable_is_in_doubt_as_a_subtype(rt: HostRuntime) {
+    const NORMS: &[Norm] = &[
+        Norm(&[], "byte", "long", None),
+        Norm(&[], "word", "hard", None),
+    ];
+    const ONE: &[Norm] = &[Norm(&[], "byte", "long", None)];
+    const DOUBTED: &[Asked] = &[Goal(Subtype("of_x", "short"), Is(YES, HasChanged::Yes))];
+    const OPEN: &[Asked] = &[
+        Goal(Subtype("of_x", "x"), Is(DOUBT, HasChanged::No)),
+        Constraints(0),
+    ];
+    const NOTHING: &[Asked] = &[Goal(Subtype("other", "byte"), Refused)];
+    const FIRST: &[Part] = &[Part(By::Aliases(NORMS), &[], DOUBTED)];
+    const SECOND: &[Part] = &[Part(By::Aliases(NORMS), &[], OPEN)];
+    const THIRD: &[Part] = &[Part(By::Aliases(ONE), &[], NOTHING)];
+    plays(&rt, rt.alloc(), TypingMode::PostAnalysis, LIVES, FIRST);
+    plays(&rt, rt.alloc(), TypingMode::PostAnalysis, LIVES, SECOND);
+    plays(&rt, rt.alloc(), TypingMode::PostAnalysis, LIVES, THIRD);
 }

@@ -18,8 +18,8 @@ use nts_model::Sort;
 use nts_store::EvalError;
 use nts_table::InferCtxt;
 use nts_terms::{
-    Binder, ClauseKind, ConstId, Cx, DefId, GenericArgKind, Predicate, PredicateKind, TraitId,
-    TraitRef, Ty, TypingMode,
+    AliasDefId, AliasId, Binder, ClauseKind, ConstId, Cx, DefId, GenericArgKind, Predicate,
+    PredicateKind, TraitId, TraitRef, Ty, TypingMode,
 };
 use std::alloc::Global;
 use std::process::Abort;
@@ -55,6 +55,8 @@ pub enum By {
     Assembly,
     /// A list of clauses, and what the alias of the number 0 normalizes to.
     Aliases(&'static [Norm]),
+    /// A list of clauses, and the alias of the number 0 is rigid.
+    Rigid,
     /// A list of clauses, with a leak check.
     LeakChecked,
     /// The trait of the number 0 is so sure.
@@ -152,6 +154,11 @@ fn play(
         }
         By::Aliases(norms) => {
             normalize_all(rt, cx, names, &mut clauses, norms);
+            ask_all(rt, table, cx, names, kept, &clauses, asked)
+        }
+        By::Rigid => {
+            let made = clauses.set_rigid(AliasDefId::Ty(AliasId { number: 0 }));
+            assert!(rt; made.is_ok(), "memory");
             ask_all(rt, table, cx, names, kept, &clauses, asked)
         }
         By::LeakChecked => {

@@ -125,7 +125,7 @@ fn what_is_left_of_two_types_is_refused(rt: HostRuntime) {
     plays(&rt, rt.alloc(), TypingMode::PostAnalysis, PAIRS, PARTS);
 }
 
-/// What is left of two types is in doubt where it is of two variables, and so is an alias against a type.
+/// What is left of two types is in doubt where it is of two variables, and is refused of an alias of which nothing is said.
 #[test]
 fn what_is_left_of_two_types_is_in_doubt(rt: HostRuntime) {
     const ASKED: &[Asked] = &[
@@ -134,14 +134,14 @@ fn what_is_left_of_two_types_is_in_doubt(rt: HostRuntime) {
         SubRoot(1, 0),
         Resolves("x", "x"),
         Resolves("y", "y"),
-        Goal(Subtype("alias", "byte"), Is(DOUBT, HasChanged::No)),
+        Goal(Subtype("alias", "byte"), Refused),
         Constraints(0),
     ];
     const PARTS: &[Part] = &[Part(By::Clauses, &[], ASKED)];
     plays(&rt, rt.alloc(), TypingMode::PostAnalysis, PAIRS, PARTS);
 }
 
-/// In types with aliases what stands beside these may be apart. Of an alias nothing is known yet, nor whether it is a subtype of itself.
+/// In types with aliases what stands beside these may be apart. An alias of which nothing is said is no subtype, not even of itself.
 #[test]
 fn types_with_aliases_are_related(rt: HostRuntime) {
     const GIVEN: &[Given] = &[
@@ -152,8 +152,8 @@ fn types_with_aliases_are_related(rt: HostRuntime) {
         Let("other", Make::Pair("alias", "word")),
     ];
     const ASKED: &[Asked] = &[
-        Goal(Subtype("alias", "alias"), Is(DOUBT, HasChanged::No)),
-        Goal(Subtype("one", "one"), Is(DOUBT, HasChanged::No)),
+        Goal(Subtype("alias", "alias"), Refused),
+        Goal(Subtype("one", "one"), Refused),
         Goal(Subtype("one", "other"), Refused),
         Goal(Coerce("other", "one"), Refused),
         Constraints(0),

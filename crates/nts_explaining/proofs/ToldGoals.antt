@@ -1,9 +1,9 @@
 -- Of which goals reasons are told, by what answers them.
 use Rattle.std.proofs.Common.{◌≡◌, inr, ⊎_elim, ◌||◌, Bool, true, false, List, Some, refl, ap, subst, sym}
-use Rattle.nts_model.specs.declared.labels.Variance.TheVariants as variance
+use Rattle.nts_model.specs.declared.labels.AliasRelationDirection.{AliasRelationDirection}
 use Rattle.nts_model.specs.Terms.Trees.{Tree, any_label, is_alias}
-use Rattle.nts_model.specs.Derivations.Related.{alias_goal}
 use Rattle.nts_model.specs.Derivations.Rules.{statement_of}
+use Rattle.nts_theory.specs.Aliasing.{alias_relation}
 use Rattle.nts_theory.specs.Telling.{IsTraitStatement}
 use Rattle.nts_decisions.proofs.OpenedStatements.{trait_outlives_nothing, trait_says_no_subtype}
 use Rattle.nts_store.specs.Formed.{AreFormed}
@@ -58,15 +58,15 @@ subtype_unexplained ts g h p same x k =
     let i = x.is in
     trait_says_no_subtype (tree_at ts h.predicate.node) _ _ there.statement i.says
 
-relates_no_trait : (p a b : Tree) → p ≡ alias_goal variance.Invariant a b → IsTraitStatement (statement_of p) → ⊥
-relates_no_trait p a b e t = subst (λ z. IsTraitStatement (statement_of z)) e t
+relates_no_trait : (d : AliasRelationDirection) (p a b : Tree) → p ≡ alias_relation d a b → IsTraitStatement (statement_of p) → ⊥
+relates_no_trait d p a b e t = subst (λ z. IsTraitStatement (statement_of z)) e t
 
 pub equated_unexplained : (ts : List Tree) (g h : Goal) (r : EquatedAlias) → Some g ≡ Some h → IsEquatedGoal ts h r → IsExplained ts g → ⊥
 equated_unexplained ts g h r same x k =
     let there = subst (IsExplained ts) (sym (one_goal same)) k in
     let p = tree_at ts h.predicate.node in
     let i = x.is in
-    ⊎_elim (λ w. ⊎_elim (λ e. relates_no_trait p _ _ e there.statement) (λ e. relates_no_trait p _ _ e there.statement) w.says) (λ w. relates_no_trait p _ _ w.says there.statement) i.says
+    ⊎_elim (λ w. ⊎_elim (λ e. relates_no_trait w.by p _ _ e there.statement) (λ e. relates_no_trait w.by p _ _ e there.statement) w.says) (λ w. relates_no_trait w.by p _ _ w.says there.statement) i.says
 
 pub unanswered_unexplained : (ts : List Tree) (g h : Goal) → Some g ≡ Some h → (IsAskedGoal ts h → ⊥) → (AliasGoalIn ts h → ⊥) → IsExplained ts g → ⊥
 unanswered_unexplained ts g h same not_asked not_alias k = by_case (any_label is_alias (tree_at ts h.param_env.node)) refl

@@ -41,6 +41,12 @@ Reaches h mode gs c d = tells.Reaches (queries h.variances) h.handler mode gs c 
 abbrev pub RefusesOne : Ruling → Mode → GoalKind → List Premise → Content → Type 0
 RefusesOne h mode k gs c = tells.RefusesOne (queries h.variances) h.handler mode k gs c
 
+abbrev pub IsWay : Ruling → Mode → Content → Content → Tree → Tree → List Premise → Type 0
+IsWay h mode c d e g ps = tells.IsWay (queries h.variances) h.handler mode c d e g ps
+
+abbrev pub LesserRefused : Ruling → Mode → Content → Tree → Tree → Type 0
+LesserRefused h mode c e g = tells.LesserRefused (queries h.variances) h.handler mode c e g
+
 abbrev pub Asked : Ruling → Mode → Content → Content → Tree → Tree → Type 0
 Asked h mode c d e g = tells.Asked (queries h.variances) h.handler mode c d e g
 

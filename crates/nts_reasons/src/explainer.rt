@@ -215,7 +215,8 @@ fn reasons_of(
     requires goal { HoldsGoal cx.old.nodes goal }
     requires declared { IsDeclaredPredicate cx.old.declarations
         (tree_at cx.old.nodes goal.predicate.node) }
-    ensures reasons { IfOk result (λ rs. HasReasons cx.old.nodes clauses.now table.old goal rs.items) }
+    ensures reasons { IfOk result (λ rs. HasReasons cx.old.nodes clauses.now table.old goal
+        rs.items) }
     ensures holds { IfOk result (λ rs. All (HoldsReason cx.new.nodes) rs.items) }
     ensures grows { Grows cx.old cx.new }
 {

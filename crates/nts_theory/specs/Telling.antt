@@ -34,7 +34,7 @@ use Rattle.nts_model.specs.Derivations.Proving.{HoldsTerms, AreConstraintsOf}
 use Rattle.nts_theory.specs.Affirming.{SaysAffirmed, IsDenied, HasOwnWay}
 use Rattle.nts_theory.specs.Outliving.{IsOutlives}
 use Rattle.nts_theory.specs.Subtyping.{LeavesPremises, IsNoSubtype}
-use Rattle.nts_theory.specs.Aliasing.{NormalizesSides}
+use Rattle.nts_theory.specs.Aliasing.{NormalizesSides, NormalizesLesser, IsLesserGoal}
 use Rattle.nts_theory.specs.RelatingCandidates.{IsCutIn, equated_part, Begins, IsUnrelated, HasTypesApart}
 use Rattle.nts_model.specs.Answers.Responses.{Findings, AreFindings, Response, response_of, IsResponseTo, Applies, RefusesResponse}
 
@@ -208,7 +208,7 @@ mutual
   -- of a goal that the handler affirms, yes, where the table is as before; or, of one that has one way by the engine, the verdict of that;
   -- or, outside of coherence, of a goal that one type is a subtype of another, what the two, once related, and the goals that this
   -- left came to; of one about an alias the verdict that stands for those of the candidates; and of one that an alias is equal to a
-  -- term, what the goals came to by which the two are one
+  -- term, or the one a subtype of the other, what the goals came to that are left of it
   pub data Tells (Q : Queries) (h : Handler) (mode : Mode) : List PositionKind → Content → Tree → Tree → List Tree → Verdict → Type 0 where
     tells_nothing : {ks : List PositionKind} {c : Content} {e g : Tree} {qs : List Tree} {v : Verdict} (d : Content) → (d ≡ c) ⊎ (d ≡ entered_table c g) → v.is_yes ≡ false → IsPlainResponse d qs v.response → Tells Q h mode ks c e g qs v
     says_nothing : {ks : List PositionKind} {c : Content} {e g : Tree} {qs : List Tree} {v : Verdict} → SaysNothing ks v.response → Tells Q h mode ks c e g qs v
@@ -223,12 +223,12 @@ mutual
         → Reaches Q h mode ps met found → IsFound (entered_table c g) e (opened_in c g) found → SaysOf (entered_table c g) found qs v → Tells Q h mode ks c e g qs v
     tells_alias : {ks : List PositionKind} {c : Content} {e g : Tree} {qs : List Tree} {v : Verdict} (vs : List Verdict) → IsCutIn mode → IsAliasReady c e g → Outcomes Q h mode (entered_table c g) e (opened_in c g) qs (h.offers mode e (opened_in c g)) vs → StandsForAll qs vs v
         → Tells Q h mode ks c e g qs v
-    tells_normal : {ks : List PositionKind} {c : Content} {e g : Tree} {qs : List Tree} {v : Verdict} (ps : List Premise) (met found : Content) → IsCutIn mode → NormalizesSides (entered_table c g) met e (opened_in c g) ps → Reaches Q h mode ps met found
+    tells_normal : {ks : List PositionKind} {c : Content} {e g : Tree} {qs : List Tree} {v : Verdict} (ps : List Premise) (met found : Content) → IsCutIn mode → IsWay Q h mode (entered_table c g) met e (opened_in c g) ps → Reaches Q h mode ps met found
         → IsFound (entered_table c g) e (opened_in c g) found → SaysOf (entered_table c g) found qs v → Tells Q h mode ks c e g qs v
 
   -- each candidate fails, or the one way by the engine, or the handler denies the goal; or the one type is no subtype of the other, or
   -- one of the goals that relating them left is refused; or each candidate for a goal about an alias fails; or a goal is refused by
-  -- which an alias and a term are one
+  -- which an alias and a term are one, and, where it is said that the one is a subtype of the other, one by which their results are so
   pub data Refutes (Q : Queries) (h : Handler) (mode : Mode) : Content → Tree → Tree → List Tree → Type 0 where
     all_fail : {c : Content} {e g : Tree} {qs : List Tree} → IsReady c e g → Outcomes Q h mode (entered_table c g) e (opened_in c g) qs (h.offers mode e (opened_in c g)) [] → Refutes Q h mode c e g qs
     is_denied : {c : Content} {e g : Tree} {qs : List Tree} → IsDenied h.judges (statement_of (opened_in c g)) → Refutes Q h mode c e g qs
@@ -236,7 +236,18 @@ mutual
     is_no_subtype : {c : Content} {e g : Tree} {qs : List Tree} → IsCutIn mode → IsNoSubtype Q.variances (entered_table c g) (opened_in c g) → Refutes Q h mode c e g qs
     subtype_refused : {c : Content} {e g : Tree} {qs : List Tree} (ps : List Premise) (met : Content) → IsCutIn mode → LeavesPremises Q.variances (entered_table c g) met e (opened_in c g) ps → RefusesOne Q h mode other_goal ps met → Refutes Q h mode c e g qs
     aliases_fail : {c : Content} {e g : Tree} {qs : List Tree} → IsCutIn mode → IsAliasReady c e g → Outcomes Q h mode (entered_table c g) e (opened_in c g) qs (h.offers mode e (opened_in c g)) [] → Refutes Q h mode c e g qs
-    normal_refused : {c : Content} {e g : Tree} {qs : List Tree} (ps : List Premise) (met : Content) → IsCutIn mode → NormalizesSides (entered_table c g) met e (opened_in c g) ps → RefusesOne Q h mode other_goal ps met → Refutes Q h mode c e g qs
+    normal_refused : {c : Content} {e g : Tree} {qs : List Tree} (ps : List Premise) (met : Content) → IsCutIn mode → NormalizesSides (entered_table c g) met e (opened_in c g) ps → RefusesOne Q h mode other_goal ps met
+        → ((a b : Tree) → IsLesserGoal (opened_in c g) a b → LesserRefused Q h mode (entered_table c g) e (opened_in c g)) → Refutes Q h mode c e g qs
+
+  -- what is left of a goal that an alias is equal to a term, or the one a subtype of the other: of a subtype, that the result of the one
+  -- is a subtype of the result of the other; else, and where that was refused, that the two are one
+  pub data IsWay (Q : Queries) (h : Handler) (mode : Mode) : Content → Content → Tree → Tree → List Premise → Type 0 where
+    by_lesser : {c d : Content} {e g : Tree} {ps : List Premise} → NormalizesLesser c d e g ps → IsWay Q h mode c d e g ps
+    by_one : {c d : Content} {e g : Tree} {ps : List Premise} → NormalizesSides c d e g ps → ((a b : Tree) → IsLesserGoal g a b → LesserRefused Q h mode c e g) → IsWay Q h mode c d e g ps
+
+  -- one of the goals is refused by which the result of the one is a subtype of the result of the other
+  pub data LesserRefused (Q : Queries) (h : Handler) (mode : Mode) : Content → Tree → Tree → Type 0 where
+    lesser_refused : {c : Content} {e g : Tree} (ps : List Premise) (met : Content) → NormalizesLesser c met e g ps → RefusesOne Q h mode other_goal ps met → LesserRefused Q h mode c e g
 
   -- candidate by candidate, it fails or has a verdict
   pub data Outcomes (Q : Queries) (h : Handler) (mode : Mode) : Content → Tree → Tree → List Tree → List Candidate → List Verdict → Type 0 where

@@ -20,6 +20,8 @@ pub mod Outliving
 pub mod SubtypeGoals
 pub mod AliasGoals
 pub mod NormalGoals
+pub mod LesserGoals
+pub mod NormalizedGoals
 pub mod RelatedAliases
 mod AnsweredTypes
 pub mod JoinedTypes

@@ -1,9 +1,10 @@
--- Goals that an alias is equal to a term: what is left of them, and that they hold where it does.
+-- Goals that an alias is equal to a term, or that the one is a subtype of the other: what is left of them by which the two are one, and
+-- that they hold where it does.
 use Rattle.std.proofs.Common.{Bool, ◌≡◌, ◌⊎◌, inl, inr, ⊎_elim, true, false, List, [], ◌∷◌, Some, refl, sym, ap, ◌∙◌, subst}
+use Rattle.nts_model.specs.declared.labels.AliasRelationDirection.{AliasRelationDirection}
 use Rattle.nts_model.specs.declared.labels.AliasRelationDirection.TheVariants as direction
 use Rattle.nts_model.specs.declared.labels.ListHead.TheVariants as list
 use Rattle.nts_model.specs.declared.labels.PredicateHead.TheVariants as predicate_head
-use Rattle.nts_model.specs.declared.labels.Variance.TheVariants as variance
 use Rattle.nts_model.specs.declared.labels.Label.{Label}
 use Rattle.nts_model.specs.declared.labels.Label.TheVariants as label
 use Rattle.nts_model.specs.declared.labels.AliasHead.TheVariants as alias_of
@@ -26,23 +27,15 @@ use Rattle.nts_variance.specs.Goals.{is_alias_node}
 use Rattle.nts_trying.specs.Outliving.{IsClosedEnv}
 use Rattle.nts_trying.proofs.Unasked.{row_of_none}
 use Rattle.nts_model.specs.Tables.Contents.{Content}
-use Rattle.nts_model.specs.Tables.Resolving.{Knows, IsSound, deeply_resolved}
-use Rattle.nts_model.specs.Tables.Levels.{IsLevelled, AreRegionsLevelled, AreCurrent}
-use Rattle.nts_model.specs.Tables.Holding.{Continues}
+use Rattle.nts_model.specs.Tables.Resolving.{Knows}
 use Rattle.nts_model.specs.Tables.Passing.{TreePasses, PassesQueries, BringsOnly}
 use Rattle.nts_model.specs.Lists.{Among}
-use Rattle.nts_model.specs.Derivations.Related.{alias, alias_goal, pair, unbound, no_sorts, IsAlias, one_tree}
-use Rattle.nts_model.specs.Derivations.Sequents.{Premise}
+use Rattle.nts_model.specs.Derivations.Related.{alias, pair, unbound, no_sorts, IsAlias}
 use Rattle.nts_model.specs.Derivations.Rules.{Meaning, Mode, relating, normalization_goal}
 use Rattle.nts_model.specs.Derivations.Proofs.{Assumed}
 use Rattle.nts_model.proofs.Tables.Held.{Continues-refl}
-use Rattle.nts_model.specs.Derivations.Proving.{HoldsTerms, AreConstraintsOf, IsTermOf}
 use Rattle.nts_model.specs.Searching.Stacks.{IsProvedFrom}
-use Rattle.nts_model.specs.Refutation.Opening.{binds, opened_in}
-use Rattle.nts_theory.specs.Aliasing.{EquatesAlias, EquatesAliases}
-use Rattle.nts_theory.proofs.Derivations.Served.{IsClosedEnvironment}
-use Rattle.nts_theory.proofs.Aliases.ByEngine.{IsClosedThere, read_closed}
-use Rattle.nts_theory.proofs.Aliases.ByRelating.{is_answered, no_goals, IsSide, relation_follows}
+use Rattle.nts_theory.specs.Aliasing.{alias_relation, EquatesAlias, EquatesAliases}
 use Rattle.nts_store.specs.Formed.{AreFormed}
 use Rattle.nts_store.specs.Growth.{tree_at, Extends}
 use Rattle.nts_store.proofs.Growing.{Extends-trans}
@@ -69,23 +62,24 @@ use Rattle.nts_store.specs.declared.nodes.NodeId.{NodeId}
 use Rattle.nts_store.specs.Growth.{IsIn}
 use Rattle.nts_store.proofs.Growing.{IsIn-extended}
 use Rattle.nts_meaning.proofs.Evaluating.{Knows-goes}
-use Rattle.nts_trying.specs.Aliasing.{IsEquatedGoal, IsNormalGoal, LeavesOne, LeavesTwo, BeginsNormalizing, NormalizesAlone, NormalizesTogether, IsNormalizedBy}
+use Rattle.nts_trying.specs.Aliasing.{AreLesserTypes, SaysLesser, IsEquatedGoal, IsNormalGoal, BeginsNormalizing}
+use Rattle.nts_trying.specs.declared.subtypes.TypePair.{TypePair}
+use Rattle.std.proofs.Common.{Option, None}
 use Rattle.nts_trying.specs.Stepping.{ArePosed, terms_of}
 use Rattle.nts_trying.specs.declared.normal.EquatedAlias.{EquatedAlias}
-use Rattle.nts_trying.proofs.SubtypeGoals.{relating_proved}
 use Rattle.std.proofs.lemmas.List.Elements.{All-nil, All-cons}
 
 -- what is so of a goal that two terms are equal is so of the two
-sides_of : (Q : Tree → Type 0) → ((x y : Tree) → Q (alias_goal variance.Invariant x y) → Q x × Q y) → (g a t : Tree) → EquatesAlias g a t → Q g → Q a × Q t
+pub sides_of : (Q : Tree → Type 0) → ((d : AliasRelationDirection) (x y : Tree) → Q (alias_relation d x y) → Q x × Q y) → (g a t : Tree) → EquatesAlias g a t → Q g → Q a × Q t
 sides_of Q f g a t w h = ⊎_elim
-    (λ e. f a t (subst Q e h))
-    (λ e. (let x = f t a (subst Q e h) in (x.1, x.0))) w.says
+    (λ e. f w.by a t (subst Q e h))
+    (λ e. (let x = f w.by t a (subst Q e h) in (x.1, x.0))) w.says
 
-sides_known : (c : Content) (g a t : Tree) → EquatesAlias g a t → Knows c g → Knows c a × Knows c t
-sides_known c = sides_of (Knows c) (λ x y h. (h.1.1.0.1.0, h.1.1.0.1.1.0))
+pub sides_known : (c : Content) (g a t : Tree) → EquatesAlias g a t → Knows c g → Knows c a × Knows c t
+sides_known c = sides_of (Knows c) (λ d x y h. (h.1.1.0.1.0, h.1.1.0.1.1.0))
 
 sides_pass : (P : Label → Bool) (g a t : Tree) → EquatesAlias g a t → TreePasses P g → TreePasses P a × TreePasses P t
-sides_pass P = sides_of (TreePasses P) (λ x y h. (h.1.1.0.1.0, h.1.1.0.1.1.0))
+sides_pass P = sides_of (TreePasses P) (λ d x y h. (h.1.1.0.1.0, h.1.1.0.1.1.0))
 
 -- the parts of an alias
 parts_known : (c : Content) (a : Tree) (x : IsAlias a) → Knows c a → Knows c (node (label.List list.Args) x.parts)
@@ -121,18 +115,22 @@ arguments_here (more a r) h =
     let alone : r ≡ empty = no_children r h.1 in
     (ts, cc (same, alone))
 
-formed_alias : (t : Tree) → IsFormed t → IsClosed t → is_alias_node t ≡ true → IsAlias t
+pub formed_alias : (t : Tree) → IsFormed t → IsClosed t → is_alias_node t ≡ true → IsAlias t
 formed_alias (node (label.Ty (ty.Alias i)) c) f k e = (let x = arguments_here c f.0 in record { head = alias_of.Ty i; parts = x.0; is = ap (node (label.Ty (ty.Alias i))) x.1; closed = k })
 formed_alias (node (label.Const (konst.Unevaluated i)) c) f k e = (let x = arguments_here c f.0 in record { head = alias_of.Const i; parts = x.0; is = ap (node (label.Const (konst.Unevaluated i))) x.1; closed = k })
 formed_alias t f k e = absurd (cc e)
 
-no_alias_node : (t : Tree) → is_alias_node t ≡ false → IsAlias t → ⊥
+pub no_alias_node : (t : Tree) → is_alias_node t ≡ false → IsAlias t → ⊥
 no_alias_node t e x = (let z : true ≡ false = sym (ap is_alias_node x.is ∙ alias_label_is x.head) ∙ e in cc z)
+
+-- a relation says one thing
+same_relation : (d o : AliasRelationDirection) (x y a b : Tree) → alias_relation d x y ≡ alias_relation o a b → (d ≡ o) × (x ≡ a) × (y ≡ b)
+same_relation d o x y a b e = (cc e, cc e, cc e)
 
 -- a goal of the store by what the tests of it see
 module _ (ts : List Tree) (g : Goal) (b : Binder PredicateKind) (is : tree_at ts g.predicate.node ≡ tree_of_predicate ts b) (formed : AreFormed ts) (fits : PredicateFits ts b) (row : IsRow (children (tree_at ts b.vars.node))) (none : row_length (children (tree_at ts b.vars.node)) ≡ 0) (l r : Term)
-    (value : b.value ≡ statements.AliasRelate l r direction.Equate) (closed : HasClosedStatement (tree_at ts g.predicate.node)) (env : IsClosedEnv (tree_at ts g.param_env.node)) (kinds : kind_of (tree_at ts l.node) ≡ kind_of (tree_at ts r.node)) where
-  stated : tree_at ts g.predicate.node ≡ alias_goal variance.Invariant (tree_at ts l.node) (tree_at ts r.node)
+    (d : AliasRelationDirection) (value : b.value ≡ statements.AliasRelate l r d) (way : Option TypePair) (lesser : AreLesserTypes ts l r d way) (closed : HasClosedStatement (tree_at ts g.predicate.node)) (env : IsClosedEnv (tree_at ts g.param_env.node)) (kinds : kind_of (tree_at ts l.node) ≡ kind_of (tree_at ts r.node)) where
+  stated : tree_at ts g.predicate.node ≡ alias_relation d (tree_at ts l.node) (tree_at ts r.node)
   stated =
       let binder : tree_at ts b.vars.node ≡ no_sorts = vars_tree (tree_at ts b.vars.node) fits.0.fits ∙ ap (node (label.List list.Sorts)) (row_of_none (children (tree_at ts b.vars.node)) row none) in
       is ∙ ap (λ z. node (label.List list.Binder) (more z (more (tree_of_statement ts b.value) empty))) binder ∙ ap (λ z. unbound (tree_of_statement ts z)) value
@@ -142,46 +140,64 @@ module _ (ts : List Tree) (g : Goal) (b : Binder PredicateKind) (is : tree_at ts
 
   sides_closed : IsClosed (tree_at ts l.node) × IsClosed (tree_at ts r.node)
   sides_closed =
-      let q = closed (node (label.Predicate (predicate_head.AliasRelate direction.Equate)) (pair (tree_at ts l.node) (tree_at ts r.node))) stated in
+      let q = closed (node (label.Predicate (predicate_head.AliasRelate d)) (pair (tree_at ts l.node) (tree_at ts r.node))) stated in
       (q.1.0, q.1.1.0)
 
-  pub both_equated : is_alias_node (tree_at ts l.node) ≡ true → is_alias_node (tree_at ts r.node) ≡ true → IsEquatedGoal ts g (record { alias = l; term = r })
+  lesser_said : SaysLesser ts g way
+  lesser_said = by_way way lesser
+    where
+      by_way : (w : Option TypePair) → AreLesserTypes ts l r d w → SaysLesser ts g w
+      by_way None never = λ x y says.
+          let same = same_relation d direction.Subtype (tree_at ts l.node) (tree_at ts r.node) x y (sym stated ∙ says.says) in
+          never same.0 (ap kind_of same.1 ∙ says.left) (ap kind_of same.2 ∙ says.right)
+      by_way (Some p) (so, sub, sup, one, two) =
+          record {
+            types = record { sub = sub; sup = sup };
+            is = record { says = rw (one, two) (subst (λ z. tree_at ts g.predicate.node ≡ alias_relation z (tree_at ts l.node) (tree_at ts r.node)) so stated); left = sub.fits; right = sup.fits };
+            sub_closed = rw one sides_closed.0;
+            sup_closed = rw two sides_closed.1;
+          }
+
+  pub both_equated : is_alias_node (tree_at ts l.node) ≡ true → is_alias_node (tree_at ts r.node) ≡ true → IsEquatedGoal ts g (record { alias = l; term = r; types = way })
   both_equated y n =
       let held = sides_held in
       record {
         alias = held.0;
         term = held.1;
         is = record {
-          says = inr (record { says = stated; left = formed_alias (tree_at ts l.node) (formed l.node held.0.within) sides_closed.0 y; right = formed_alias (tree_at ts r.node) (formed r.node held.1.within) sides_closed.1 n; kind = sym kinds });
+          says = inr (record { by = d; says = stated; left = formed_alias (tree_at ts l.node) (formed l.node held.0.within) sides_closed.0 y; right = formed_alias (tree_at ts r.node) (formed r.node held.1.within) sides_closed.1 n; kind = sym kinds });
           ends = sides_closed.1;
           environment = env;
         };
+        types = lesser_said;
       }
 
-  pub left_equated : is_alias_node (tree_at ts l.node) ≡ true → is_alias_node (tree_at ts r.node) ≡ false → IsEquatedGoal ts g (record { alias = l; term = r })
+  pub left_equated : is_alias_node (tree_at ts l.node) ≡ true → is_alias_node (tree_at ts r.node) ≡ false → IsEquatedGoal ts g (record { alias = l; term = r; types = way })
   left_equated y n =
       let held = sides_held in
       record {
         alias = held.0;
         term = held.1;
         is = record {
-          says = inl (record { says = inl stated; alias = formed_alias (tree_at ts l.node) (formed l.node held.0.within) sides_closed.0 y; plain = no_alias_node (tree_at ts r.node) n; kind = sym kinds });
+          says = inl (record { by = d; says = inl stated; alias = formed_alias (tree_at ts l.node) (formed l.node held.0.within) sides_closed.0 y; plain = no_alias_node (tree_at ts r.node) n; kind = sym kinds });
           ends = sides_closed.1;
           environment = env;
         };
+        types = lesser_said;
       }
 
-  pub right_equated : is_alias_node (tree_at ts l.node) ≡ false → is_alias_node (tree_at ts r.node) ≡ true → IsEquatedGoal ts g (record { alias = r; term = l })
+  pub right_equated : is_alias_node (tree_at ts l.node) ≡ false → is_alias_node (tree_at ts r.node) ≡ true → IsEquatedGoal ts g (record { alias = r; term = l; types = way })
   right_equated n y =
       let held = sides_held in
       record {
         alias = held.1;
         term = held.0;
         is = record {
-          says = inl (record { says = inr stated; alias = formed_alias (tree_at ts r.node) (formed r.node held.1.within) sides_closed.1 y; plain = no_alias_node (tree_at ts l.node) n; kind = kinds });
+          says = inl (record { by = d; says = inr stated; alias = formed_alias (tree_at ts r.node) (formed r.node held.1.within) sides_closed.1 y; plain = no_alias_node (tree_at ts l.node) n; kind = kinds });
           ends = sides_closed.0;
           environment = env;
         };
+        types = lesser_said;
       }
 
 module _ {a b : List Tree} {t u : Table} {goal normal : Goal} {x v : Tree} (posed : IsPosed a t goal) (goes : Goes a b t u) (n : IsNormalGoal a b goal x v normal) (y : IsAlias x) (ends : IsClosed v) where
@@ -222,10 +238,10 @@ module _ {a b : List Tree} {t u : Table} {goal normal : Goal} {x v : Tree} (pose
 
 -- what is left of a goal that an alias is equal to a term that is none
 pub begins_one : (a b : Cx) (t : Table) (goal normal : Goal) (r : EquatedAlias) (gs : List (GoalSource × Goal)) → IsEquatedGoal a.nodes goal r → is_alias_node (tree_at a.nodes r.term.node) ≡ false → gs ≡ (source.TypeRelating, normal) ∷ []
-    → IsNormalGoal a.nodes b.nodes goal (tree_at a.nodes r.alias.node) (tree_at a.nodes r.term.node) normal → IsPosed a.nodes t goal → Extends a.nodes b.nodes → BeginsNormalizing a b t t goal gs
+    → IsNormalGoal a.nodes b.nodes goal (tree_at a.nodes r.alias.node) (tree_at a.nodes r.term.node) normal → IsPosed a.nodes t goal → Extends a.nodes b.nodes → BeginsNormalizing None a b t t goal gs
 begins_one a b t goal normal r gs says plain are n posed up = ⊎_elim (λ w. begins w) (λ w. absurd (no_alias_node (tree_at a.nodes r.term.node) plain w.right)) (let i = says.is in i.says)
   where
-    begins : EquatesAlias (tree_at a.nodes goal.predicate.node) (tree_at a.nodes r.alias.node) (tree_at a.nodes r.term.node) → BeginsNormalizing a b t t goal gs
+    begins : EquatesAlias (tree_at a.nodes goal.predicate.node) (tree_at a.nodes r.alias.node) (tree_at a.nodes r.term.node) → BeginsNormalizing None a b t t goal gs
     begins w =
         let i = says.is in
         let c = content_of a.nodes t.entries in
@@ -269,17 +285,17 @@ normal_of a m n b alias var g normal there within am mn nb env holds says =
     }
 
 -- a new variable
-new_closed : (c d : Content) (k : VariableKind) (t : Tree) → IsNew c d k c.universe t → IsClosed t
+pub new_closed : (c d : Content) (k : VariableKind) (t : Tree) → IsNew c d k c.universe t → IsClosed t
 new_closed c d k t n = rw n.tree (tt, tt)
 
-new_passes : (c d : Content) (k : VariableKind) (t : Tree) (P : Label → Bool) → PassesQueries P → IsNew c d k c.universe t → TreePasses P t
+pub new_passes : (c d : Content) (k : VariableKind) (t : Tree) (P : Label → Bool) → PassesQueries P → IsNew c d k c.universe t → TreePasses P t
 new_passes c d k t P q n = rw n.tree (query_variables P q _ _, tt)
 
 aliases_known : (c : Content) (g a b : Tree) → EquatesAliases g a b → Knows c g → Knows c a × Knows c b
-aliases_known c g a b w k = (let h : Knows c (alias_goal variance.Invariant a b) = subst (Knows c) w.says k in (h.1.1.0.1.0, h.1.1.0.1.1.0))
+aliases_known c g a b w k = (let h : Knows c (alias_relation w.by a b) = subst (Knows c) w.says k in (h.1.1.0.1.0, h.1.1.0.1.1.0))
 
 aliases_pass : (P : Label → Bool) (g a b : Tree) → EquatesAliases g a b → TreePasses P g → TreePasses P a × TreePasses P b
-aliases_pass P g a b w k = (let h : TreePasses P (alias_goal variance.Invariant a b) = subst (TreePasses P) w.says k in (h.1.1.0.1.0, h.1.1.0.1.1.0))
+aliases_pass P g a b w k = (let h : TreePasses P (alias_relation w.by a b) = subst (TreePasses P) w.says k in (h.1.1.0.1.0, h.1.1.0.1.1.0))
 
 -- what is left of a goal that two aliases are equal
 module _ (a b : Cx) (t u : Table) (goal first second : Goal) (x y : Tree) (variable : NodeId) (kind : VariableKind) (gs : List (GoalSource × Goal)) (w : EquatesAliases (tree_at a.nodes goal.predicate.node) x y) (env : IsClosedEnv (tree_at a.nodes goal.param_env.node)) (are : gs ≡ (source.TypeRelating, first) ∷ (source.TypeRelating, second) ∷ [])
@@ -335,7 +351,7 @@ module _ (a b : Cx) (t u : Table) (goal first second : Goal) (x y : Tree) (varia
             h.labels P q (λ z j. ⊎_elim (normal_asks posed goes n w.left v_closed P q pe both.0 pv z) (normal_asks posed goes m w.right v_closed P q pe both.1 pv z) (two_terms z j)) now);
       }
 
-  pub begins_two : BeginsNormalizing a b t u goal gs
+  pub begins_two : BeginsNormalizing None a b t u goal gs
   begins_two =
       record {
         posed = two_posed;
@@ -350,30 +366,8 @@ module _ (a b : Cx) (t u : Table) (goal first second : Goal) (x y : Tree) (varia
           premises = ap (goals_at b.nodes) are ∙ (let p = normal_premise posed goes n w.left v_closed in let q = normal_premise posed goes m w.right v_closed in λ i. p i ∷ q i ∷ []);
         });
         labels = two_labels;
-        goals = inr (record { first = first; second = second; are = are; alias = x; other = y; variable = variable; is = w; within = within; knows = v_known; ends = v_closed; kind = of_kind; goal = n; other_goal = m });
+        goals = inr (inl (record { first = first; second = second; are = are; alias = x; other = y; variable = variable; is = w; within = within; knows = v_known; ends = v_closed; kind = of_kind; goal = n; other_goal = m }));
       }
-
--- where the goals that are left are proved, the goal is normalized by them
-pub left_normal : {a b : List Tree} {t u : Table} (g : Goal) (left : List (GoalSource × Goal)) (m : Meaning) (mode : Mode) (A : List Assumed) (d : List Tree) (w : Table) → IsPosed a t g → Goes a b t u → LeavesOne a b g left ⊎ LeavesTwo a b u g left → AreFormed d → Goes b d u w
-    → ((x : GoalSource × Goal) → Among left x → StaysProved m mode A d w x.1) → IsNormalizedBy m mode A (content_of d w.entries) (tree_at a g.param_env.node) (tree_at a g.predicate.node)
-left_normal {a} g left m mode A d w posed goes (inl l) grown later proved =
-    let is = l.is in
-    let y = is.alias in
-    inl (record { premise = relating (tree_at a g.param_env.node) (normalization_goal y.head y.parts l.term); side = record { left = l.alias; right = l.term; is = is; premise = refl }; ends = l.ends; proved = normal_held posed goes l.goal y l.ends grown later (proved (source.TypeRelating, l.normal) (rw l.are (inl refl))) })
-left_normal {a} {b} {t} {u} g left m mode A d w posed goes (inr l) grown later proved =
-    let is = l.is in
-    let kept = later.extends.kept l.variable l.within in
-    inr (record {
-      left = l.alias;
-      right = l.other;
-      is = is;
-      term = tree_at b l.variable;
-      known = record { knows = Knows-goes (tree_at b l.variable) later l.knows; formed = subst IsFormed kept (grown l.variable (IsIn-extended later.extends l.variable l.within)) };
-      ends = l.ends;
-      kind = l.kind;
-      first = normal_held posed goes l.goal is.left l.ends grown later (proved (source.TypeRelating, l.first) (rw l.are (inl refl)));
-      second = normal_held posed goes l.other_goal is.right l.ends grown later (proved (source.TypeRelating, l.second) (rw l.are (inr (inl refl))));
-    })
 
 -- the alias of a goal of the store
 pub equated_alias : {ts : List Tree} {g : Goal} {r : EquatedAlias} → IsEquatedGoal ts g r → IsAlias (tree_at ts r.alias.node)
@@ -388,66 +382,3 @@ equated_both {ts} {g} {r} formed q e = by_says (let i = q.is in i.says)
     by_says : EquatesAlias (tree_at ts g.predicate.node) (tree_at ts r.alias.node) (tree_at ts r.term.node) ⊎ EquatesAliases (tree_at ts g.predicate.node) (tree_at ts r.alias.node) (tree_at ts r.term.node) → EquatesAliases (tree_at ts g.predicate.node) (tree_at ts r.alias.node) (tree_at ts r.term.node)
     by_says (inr w) = w
     by_says (inl w) = (let i = q.is in let held = q.term in absurd (w.plain (formed_alias (tree_at ts r.term.node) (formed r.term.node held.within) i.ends e)))
-
--- the goal is proved where what is left of it is, once it is opened or as it stands
-module _ (m : Meaning) (mode : Mode) (A : List Assumed) (c : Content) (s : IsSound c) (t : HoldsTerms c) (k : AreConstraintsOf c) (b : Content) (e g : Tree) (now : AreCurrent b) (later : Continues b c) (levelled : IsLevelled c) (regions : AreRegionsLevelled c) (te : IsTermOf b e) (tg : IsTermOf b g)
-    (ke : IsTermOf c e) (kg : IsTermOf c g) (ko : IsTermOf c (opened_in b g)) (env : IsClosedThere e) (ends : binds g ≡ true → IsClosed g) where
-  abbrev closed_here : IsClosedEnvironment (deeply_resolved c e)
-  closed_here = read_closed m mode A c s t k e ke env
-
-  side_normal : (a x : Tree) (y : IsAlias a) → kind_of x ≡ kind_of a → IsTermOf c a → IsTermOf c x → IsClosed x → IsProvedFrom m mode A c e (normalization_goal y.head y.parts x) → IsSide m mode A c s t k e ke closed_here a x
-  side_normal a x y kind ka kx cx proved =
-      inr (record { found = y; term = kx; ends = cx; kind = kind; known = ka.knows; goal = is_answered [] (λ z. cc) proved no_goals })
-
-  alone_proved : NormalizesAlone m mode A c e (opened_in b g) → IsProvedFrom m mode A c e g
-  alone_proved n = ⊎_elim by_left by_right (let x = n.side in let is = x.is in is.says)
-    where
-      terms : (let side = n.side in IsTermOf c side.left × IsTermOf c side.right)
-      terms =
-          let side = n.side in
-          let is = side.is in
-          let known = sides_known c (opened_in b g) side.left side.right is ko.knows in
-          let formed = sides_of IsFormed (λ y z h. (h.1.1.0.1.0, h.1.1.0.1.1.0)) (opened_in b g) side.left side.right is ko.formed in
-          (record { knows = known.0; formed = formed.0 }, record { knows = known.1; formed = formed.1 })
-
-      normal : (let side = n.side in IsSide m mode A c s t k e ke closed_here side.left side.right)
-      normal =
-          let side = n.side in
-          let is = side.is in
-          side_normal side.left side.right is.alias is.kind terms.0 terms.1 n.ends (subst (λ (p : Premise). IsProvedFrom m mode A c e p.predicate) side.premise n.proved)
-
-      alias_closed : (let side = n.side in IsClosed side.left)
-      alias_closed = (let side = n.side in let is = side.is in let y = is.alias in y.closed)
-
-      by_left : (let side = n.side in opened_in b g ≡ alias_goal variance.Invariant side.left side.right) → IsProvedFrom m mode A c e g
-      by_left q =
-          let side = n.side in
-          relating_proved m mode A c s t k e ke env side.left side.right (predicate_head.AliasRelate direction.Equate) (λ xs. refl)
-          (relation_follows m mode A c s t k e ke closed_here direction.Equate [] side.left side.right side.right side.right normal (inl refl) (λ y i. absurd i) (inl (one_tree tt)))
-          terms.0 terms.1 b g now later levelled regions te tg kg ends alias_closed n.ends q
-
-      by_right : (let side = n.side in opened_in b g ≡ alias_goal variance.Invariant side.right side.left) → IsProvedFrom m mode A c e g
-      by_right q =
-          let side = n.side in
-          relating_proved m mode A c s t k e ke env side.right side.left (predicate_head.AliasRelate direction.Equate) (λ xs. refl)
-          (relation_follows m mode A c s t k e ke closed_here direction.Equate [] side.right side.left side.right side.right (inl refl) normal (λ y i. absurd i) (inl (one_tree tt)))
-          terms.1 terms.0 b g now later levelled regions te tg kg ends n.ends alias_closed q
-
-  -- two aliases that normalize to one term
-  together_proved : NormalizesTogether m mode A c e (opened_in b g) → IsProvedFrom m mode A c e g
-  together_proved n =
-      let is = n.is in
-      let x = is.left in
-      let y = is.right in
-      let whole : IsTermOf c (alias_goal variance.Invariant n.left n.right) = subst (IsTermOf c) is.says ko in
-      let known = whole.knows in
-      let formed = whole.formed in
-      let first : IsTermOf c n.left = record { knows = known.1.1.0.1.0; formed = formed.1.1.0.1.0 } in
-      let second : IsTermOf c n.right = record { knows = known.1.1.0.1.1.0; formed = formed.1.1.0.1.1.0 } in
-      relating_proved m mode A c s t k e ke env n.left n.right (predicate_head.AliasRelate direction.Equate) (λ xs. refl)
-      (relation_follows m mode A c s t k e ke closed_here direction.Equate [] n.left n.right n.term n.term (side_normal n.left n.term x n.kind first n.known n.ends n.first) (side_normal n.right n.term y (n.kind ∙ sym is.kind) second n.known n.ends n.second) (λ z i. absurd i) (inl (one_tree tt)))
-      first second b g now later levelled regions te tg kg ends x.closed y.closed is.says
-
-  pub normal_proved : IsNormalizedBy m mode A c e (opened_in b g) → IsProvedFrom m mode A c e g
-  normal_proved (inl n) = alone_proved n
-  normal_proved (inr n) = together_proved n

@@ -41,9 +41,9 @@ use Rattle.nts_candidates.specs.declared.data.CandidateData.{CandidateData}
 use Rattle.nts_candidates.specs.Offered.{candidates_of}
 use Rattle.nts_delegate.specs.Relevant.{LeavesOut}
 use Rattle.nts_trying.proofs.LeftOut.{all_outcomes}
-use Rattle.nts_trying.specs.Aliasing.{AliasGoalIn, IsAliasTold, IsAliasRefuted, IsEquatedGoal, IsNormalizedBy, SaysNormal, NormalTold, NormalRefuted}
+use Rattle.nts_trying.specs.Aliasing.{AliasGoalIn, IsAliasTold, IsAliasRefuted, IsEquatedGoal, IsNormalizedBy, SaysLeft, NormalTold, NormalRefuted}
 use Rattle.nts_trying.specs.declared.normal.EquatedAlias.{EquatedAlias}
-use Rattle.nts_trying.proofs.NormalGoals.{normal_proved}
+use Rattle.nts_trying.proofs.NormalizedGoals.{normal_proved}
 use Rattle.nts_trying.proofs.AliasGoals.{alias_asked, alias_goal_here}
 use Rattle.nts_terms.specs.Handles.{HoldsGoal}
 use Rattle.nts_meaning.specs.Evaluation.{Goes, IsPosed, IsAskedGoal, asked_terms}
@@ -51,7 +51,7 @@ use Rattle.nts_trying.specs.Opening.{IsOpenedTo}
 use Rattle.nts_meaning.specs.Meant.{IsServed, offers_of, IsTold, IsRefuted, CandidatesTell}
 use Rattle.nts_meaning.proofs.Evaluating.{Knows-goes, offers-kept}
 use Rattle.nts_meaning.proofs.Running.{term_table}
-use Rattle.nts_meaning.specs.Telling.{Ruling, Outcomes, Replies, Fails}
+use Rattle.nts_meaning.specs.Telling.{Ruling, Outcomes, Replies, Fails, IsWay}
 use Rattle.nts_theory.specs.Telling.{IsPlainResponse, Verdict, kind_for, IsReady, IsAliasReady, IsAliasGoal, IsTraitGoal, StandsForAll, SaysRecorded, IsTermTable, IsResponseOf, IsOwnWayIn}
 use Rattle.nts_theory.specs.Affirming.{SaysAffirmed, IsDenied, HasOwnWay}
 use Rattle.nts_theory.proofs.Aliases.ByEngine.{IsClosedThere, affirmed_proved}
@@ -398,15 +398,16 @@ module _ {a b : List Tree} {t u : Table} {g o : Goal} (posed : IsPosed a t g) (o
       → NormalTold h (mode_of mode) there (tree_at b o.param_env.node) (tree_at b o.predicate.node) (trees_of b qs) (verdict_at e r) → IsTold h mode a t g qs e r
   normal_told h mode qs e r same (inl x) ks =
       let v = verdict_at e r in
-      let one = subst (λ z. Reading (λ c i j. SaysNormal h (mode_of mode) c i j z v)) same x in
-      let y = through_opening (λ c i j. SaysNormal h (mode_of mode) c i j (trees_of a qs) v) one in
+      let one = subst (λ z. Reading (λ c i j. SaysLeft h (mode_of mode) (λ d ps. IsWay h (mode_of mode) c d i j ps) c i j z v)) same x in
+      let y = through_opening (λ c i j. SaysLeft h (mode_of mode) (λ d ps. IsWay h (mode_of mode) c d i j ps) c i j (trees_of a qs) v) one in
       tells_normal y.left y.met y.found y.outside y.sides y.reaches y.is_found y.says
   normal_told h mode qs e r same (inr (unsure, plain)) ks = nothing_through h mode qs e r same unsure plain ks
 
   pub normal_stops : (h : Ruling) (mode : TypingMode) (qs : List GenericArg) → NormalRefuted h (mode_of mode) there (tree_at b o.param_env.node) (tree_at b o.predicate.node) → IsRefuted h mode a t g qs
   normal_stops h mode qs x =
       let y = through_opening (λ c e p. NormalRefuted h (mode_of mode) c e p) x in
-      normal_refused y.left y.met y.outside y.sides y.refused
+      let one = y.one in
+      normal_refused one.left one.met one.outside one.sides one.refused y.lesser
 
   pub subtype_refuted : (h : Ruling) (mode : TypingMode) (qs : List GenericArg) → SubtypesRefuted h (mode_of mode) there (tree_at b o.param_env.node) (tree_at b o.predicate.node) → IsRefuted h mode a t g qs
   subtype_refuted h mode qs (outside, inl none) =

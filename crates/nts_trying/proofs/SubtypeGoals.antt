@@ -140,7 +140,7 @@ module _ (m : Meaning) (mode : Mode) (A : List Assumed) (c : Content) (s : IsSou
       owes_from m mode here cs (λ q. A) none (Itself g) (chooses_grows m mode here cs formed closed (read_itself c s t k) other_goal (asked g) (deeply_resolved c g))
       (chooses_itself m mode here cs formed closed (read_itself c s t k) other_goal (asked g) (deeply_resolved c g) refl term)
 
-  goal_stands : (g : Tree) → IsTermOf c g → IsProvedFrom m mode A c e g → Owed (Stood g)
+  pub goal_stands : (g : Tree) → IsTermOf c g → IsProvedFrom m mode A c e g → Owed (Stood g)
   goal_stands g kg h =
       let formed = IsFormed-deeply_resolved c e s t ke.knows ke.formed in
       let first : Owed (λ P. P (asked g)) = answered_follows m mode A c s t k e ke closed (relating e g) (asked g) refl refl (is_answered [] (λ x. cc) h no_goals) in

@@ -1,9 +1,9 @@
-//! Goals that an alias is equal to a term.
-ghost use Rattle.std.specs.Prelude.{◌≡◌, true, false, IfOk, IfSome, IsNone, IsOkUnless};
+//! Goals that an alias is equal to a term, or that the one is a subtype of the other.
+ghost use Rattle.std.specs.Prelude.{◌≡◌, true, false, None, IfOk, IfSome, IsNone, IsOkUnless};
 ghost use Rattle.nts_model.specs.Terms.Trees.{is_alias, kind_of};
 ghost use Rattle.nts_model.specs.Derivations.Related.{alias_label, IsAlias};
 ghost use Rattle.nts_model.specs.Derivations.Rules.{normalization_goal};
-ghost use Rattle.nts_model.specs.declared.labels.AliasRelationDirection.TheVariants as direction;
+ghost use Rattle.nts_model.specs.declared.labels.AliasRelationDirection.{AliasRelationDirection};
 ghost use Rattle.nts_terms.specs.declared.kinds.PredicateKind.TheVariants as statements;
 ghost use Rattle.nts_terms.specs.declared.handles.Term.{Term};
 ghost use Rattle.nts_store.specs.Growth.{tree_at, IsIn};
@@ -11,10 +11,11 @@ ghost use Rattle.nts_terms.specs.Handles.{HoldsGoal, HoldsPredicate, HoldsTerm};
 ghost use Rattle.nts_terms.specs.Rest.{Grows};
 ghost use Rattle.nts_meaning.specs.Evaluation.{Runs, IsPosed};
 ghost use Rattle.nts_variance.specs.Goals.{is_alias_node};
-ghost use Rattle.nts_trying.specs.Aliasing.{IsEquatedGoal, BeginsNormalizing};
+ghost use Rattle.nts_trying.specs.Aliasing.{AreLesserTypes, IsEquatedGoal, BeginsNormalizing};
 
 use crate::candidate::fresh_value;
 use crate::outlives::is_closed_env;
+use crate::subtypes::TypePair;
 use nts_certainty::GoalSource;
 use nts_model::{
     AliasHead, AliasRelationDirection, ConstHead, Label, ListHead, PredicateHead, Sort, TyHead,
@@ -23,26 +24,44 @@ use nts_store::Fault;
 use nts_table::InferCtxt;
 use nts_terms::{Cx, Goal, Predicate, PredicateKind, Term, TermKind};
 
-/// An alias, and the term that it is said to be equal to.
+/// An alias, and the term that it is said to be equal to, or to be a subtype of, or of which that is one.
 #[derive(Clone, Copy)]
 pub struct EquatedAlias {
     pub alias: Term,
     pub term: Term,
+    /// The two types, where the goal says that the first is a subtype of the second.
+    pub types: Option<TypePair>,
 }
 
-/// The terms of which a statement says that they are equal, where one may be an alias.
-fn equal_sides(statement: PredicateKind) -> Option<(Term, Term)>
-    ensures found { IfSome result (λ r. statement ≡ statements.AliasRelate r.0 r.1
-        direction.Equate) }
-    ensures none { IsNone result → (a b : Term) → statement ≡ statements.AliasRelate a b
-        direction.Equate → ⊥ }
+/// The terms of which a statement says how they are related, where one may be an alias.
+fn related_sides(statement: PredicateKind) -> Option<(Term, Term, AliasRelationDirection)>
+    ensures found { IfSome result (λ r. statement ≡ statements.AliasRelate r.0 r.1 r.2) }
+    ensures none { IsNone result → (a b : Term) (d : AliasRelationDirection) →
+        statement ≡ statements.AliasRelate a b d → ⊥ }
 {
     match statement {
-        PredicateKind::AliasRelate(left, right, direction) => match direction {
-            AliasRelationDirection::Equate => Some((left, right)),
-            AliasRelationDirection::Subtype => None,
-        },
+        PredicateKind::AliasRelate(left, right, direction) => Some((left, right, direction)),
         _ => None,
+    }
+}
+
+/// The two types, if they are types and the first is said to be a subtype of the second.
+fn lesser_types(
+    cx: &Cx,
+    left: Term,
+    right: Term,
+    direction: AliasRelationDirection,
+) -> Option<TypePair>
+    requires left { HoldsTerm cx.now.nodes left }
+    requires right { HoldsTerm cx.now.nodes right }
+    ensures { AreLesserTypes cx.now.nodes left right direction result }
+{
+    match direction {
+        AliasRelationDirection::Equate => None,
+        AliasRelationDirection::Subtype => match (left.kind(cx), right.kind(cx)) {
+            (TermKind::Ty(sub), TermKind::Ty(sup)) => Some(TypePair { sub, sup }),
+            _ => None,
+        },
     }
 }
 
@@ -56,7 +75,7 @@ fn is_alias(label: Label) -> bool
 }
 
 /// Whether a term is an alias.
-fn is_alias_term(cx: &Cx, t: Term) -> bool
+pub(crate) fn is_alias_term(cx: &Cx, t: Term) -> bool
     requires { IsIn cx.now.nodes t.node }
     ensures { result ≡ is_alias_node (tree_at cx.now.nodes t.node) }
 {
@@ -77,15 +96,15 @@ fn are_of_one_sort(cx: &Cx, left: Term, right: Term) -> bool
     }
 }
 
-/// What a goal says that an alias is equal to, where it binds nothing, and neither its terms nor its environment have a bound variable that
-/// is without its binder. Of two aliases the left one is the alias.
+/// How a goal says that an alias and a term are related, where it binds nothing, and neither its terms nor its environment have a bound
+/// variable that is without its binder. Of two aliases the left one is the alias.
 #[inline(never)]
 pub fn equated_in(cx: &Cx, goal: Goal) -> Option<EquatedAlias>
     requires { HoldsGoal cx.now.nodes goal }
     ensures { IfSome result (IsEquatedGoal cx.now.nodes goal) }
 {
     let predicate = goal.predicate.kind(cx);
-    let (left, right) = equal_sides(predicate.value)?;
+    let (left, right, direction) = related_sides(predicate.value)?;
     if predicate.vars.len(cx) != 0 {
         return None;
     }
@@ -98,19 +117,23 @@ pub fn equated_in(cx: &Cx, goal: Goal) -> Option<EquatedAlias>
     if !are_of_one_sort(cx, left, right) {
         return None;
     }
+    let types = lesser_types(cx, left, right, direction);
     cx.terms_are_formed();
     match (is_alias_term(cx, left), is_alias_term(cx, right)) {
         (true, false) => Some(EquatedAlias {
             alias: left,
             term: right,
+            types,
         }),
         (false, true) => Some(EquatedAlias {
             alias: right,
             term: left,
+            types,
         }),
         (true, true) => Some(EquatedAlias {
             alias: left,
             term: right,
+            types,
         }),
         (false, false) => None,
     }
@@ -129,7 +152,7 @@ fn head_of(label: Label) -> AliasHead
 }
 
 /// The goal, in the environment of another one, that an alias normalizes to a term.
-fn normal_goal(cx: &mut Cx, goal: Goal, alias: Term, term: Term) -> Result<Goal, Fault>
+pub(crate) fn normal_goal(cx: &mut Cx, goal: Goal, alias: Term, term: Term) -> Result<Goal, Fault>
     requires alias { HoldsTerm cx.old.nodes alias }
     requires is { IsAlias (tree_at cx.old.nodes alias.node) }
     requires term { IsIn cx.old.nodes term.node }
@@ -157,7 +180,7 @@ fn normal_goal(cx: &mut Cx, goal: Goal, alias: Term, term: Term) -> Result<Goal,
     })
 }
 
-/// What is left of a goal that an alias is equal to a term that is none: that the alias normalizes to the term.
+/// What is left of a goal by which an alias and a term that is none are one: that the alias normalizes to the term.
 fn normalize_one(
     table: &InferCtxt,
     cx: &mut Cx,
@@ -167,8 +190,8 @@ fn normalize_one(
     requires posed { IsPosed cx.old.nodes table.now goal }
     requires equated { IsEquatedGoal cx.old.nodes goal equated }
     requires plain { is_alias_node (tree_at cx.old.nodes equated.term.node) ≡ false }
-    ensures begins { IfOk result (λ gs. BeginsNormalizing cx.old cx.new table.now table.now goal
-        gs.items) }
+    ensures begins { IfOk result (λ gs. BeginsNormalizing None cx.old cx.new table.now table.now
+        goal gs.items) }
     ensures grows { Grows cx.old cx.new }
     ensures memory { IsOkUnless result Fault.Memory }
 {
@@ -180,7 +203,7 @@ fn normalize_one(
     Ok(goals)
 }
 
-/// What is left of a goal that two aliases are equal: that each of them normalizes to one new variable.
+/// What is left of a goal by which two aliases are one: that each of them normalizes to one new variable.
 fn normalize_both(
     table: &mut InferCtxt,
     cx: &mut Cx,
@@ -191,8 +214,8 @@ fn normalize_both(
     requires equated { IsEquatedGoal cx.old.nodes goal equated }
     requires alias { is_alias_node (tree_at cx.old.nodes equated.term.node) ≡ true }
     ensures runs { Runs cx.old cx.new table.old table.new }
-    ensures begins { IfOk result (λ gs. BeginsNormalizing cx.old cx.new table.old table.new goal
-        gs.items) }
+    ensures begins { IfOk result (λ gs. BeginsNormalizing None cx.old cx.new table.old table.new
+        goal gs.items) }
     ensures memory { IsOkUnless result Fault.Memory }
 {
     cx.terms_are_formed();
@@ -210,10 +233,10 @@ fn normalize_both(
     Ok(goals)
 }
 
-/// The goals that are left of a goal that an alias is equal to a term: that the alias normalizes to the term; or, of two aliases, that
+/// The goals that are left of a goal by which an alias and a term are one: that the alias normalizes to the term; or, of two aliases, that
 /// both normalize to one new variable.
 #[inline(never)]
-pub fn normal_goals(
+pub(crate) fn normal_goals(
     table: &mut InferCtxt,
     cx: &mut Cx,
     goal: Goal,
@@ -222,8 +245,8 @@ pub fn normal_goals(
     requires posed { IsPosed cx.old.nodes table.old goal }
     requires equated { IsEquatedGoal cx.old.nodes goal equated }
     ensures runs { Runs cx.old cx.new table.old table.new }
-    ensures begins { IfOk result (λ gs. BeginsNormalizing cx.old cx.new table.old table.new goal
-        gs.items) }
+    ensures begins { IfOk result (λ gs. BeginsNormalizing None cx.old cx.new table.old table.new
+        goal gs.items) }
     ensures memory { IsOkUnless result Fault.Memory }
 {
     if is_alias_term(cx, equated.term) {

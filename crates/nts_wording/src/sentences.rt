@@ -48,7 +48,8 @@ pub fn goal_of(
 /// This environment, or the empty one.
 #[tactic(auto, using(crate::proofs::Stores::growing))]
 fn environment(cx: &mut Cx, env: Option<ParamEnv>) -> Result<ParamEnv, Stop>
-    ensures is { IfOk result (λ e. (us : List Tree) → Extends cx.new.nodes us → IsGivenEnvironment us env e) }
+    ensures is { IfOk result (λ e. (us : List Tree) → Extends cx.new.nodes us →
+        IsGivenEnvironment us env e) }
     ensures holds { IfOk result (λ e. HoldsEnv cx.new.nodes e) }
     ensures grows { Grows cx.old cx.new }
 {

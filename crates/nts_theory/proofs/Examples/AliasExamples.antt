@@ -1,18 +1,21 @@
 -- Goals about aliases: what a query tells and refutes of them, and which goals say that an alias is equal to a term.
-use Rattle.std.proofs.Common.{◌≡◌, ◌⊎◌, inl, inr, ⊎_elim, List, [], ◌∷◌, refl, sym, ap, ◌∙◌, subst}
+use Rattle.std.proofs.Common.{◌≡◌, ◌⊎◌, inl, inr, ⊎_elim, true, List, [], ◌∷◌, refl, sym, ap, ◌∙◌, subst}
 use Rattle.nts_model.specs.declared.labels.AliasHead.{AliasHead}
+use Rattle.nts_model.specs.declared.labels.AliasRelationDirection.TheVariants as direction
 use Rattle.nts_model.specs.declared.labels.AliasHead.TheVariants as alias_of
 use Rattle.nts_model.specs.declared.labels.ClauseHead.TheVariants as clause
 use Rattle.nts_model.specs.declared.labels.PredicateHead.TheVariants as predicate
 use Rattle.nts_model.specs.declared.labels.Label.TheVariants as label
 use Rattle.nts_model.specs.declared.labels.Variance.TheVariants as variance
+use Rattle.nts_model.specs.declared.labels.VariableKind.TheVariants as variable
 use Rattle.nts_model.specs.Terms.Trees.{Tree, empty, more, node}
 use Rattle.nts_model.specs.Tables.Contents.{Content}
-use Rattle.nts_model.specs.Derivations.Related.{constructor, alias, alias_goal, IsAlias}
+use Rattle.nts_model.specs.Answers.Applying.{IsNew}
+use Rattle.nts_model.specs.Derivations.Related.{constructor, alias, alias_goal, subtype_goal, IsAlias}
 use Rattle.nts_model.specs.Derivations.Rules.{Mode, coherence, relating, normalization_goal, statement_of, IsHandlers}
 use Rattle.nts_model.specs.Derivations.Handlers.{Handler}
 use Rattle.nts_model.specs.Refutation.Opening.{opened_in}
-use Rattle.nts_theory.specs.Aliasing.{EquatesAlias, NormalizesSide}
+use Rattle.nts_theory.specs.Aliasing.{EquatesAlias, NormalizesSide, IsLesserGoal, NormalizesLesser}
 use Rattle.nts_theory.specs.Telling.{Queries, IsTraitStatement, IsAliasStatement, IsAliasReady, Refutes, all_fail, is_denied, own_fails, is_no_subtype, subtype_refused, aliases_fail, normal_refused, no_outcome}
 use Rattle.nts_theory.specs.RelatingCandidates.{IsCutIn}
 use Rattle.nts_theory.proofs.Refutation.Affirming.{denied_no_handlers, way_no_handlers}
@@ -50,7 +53,7 @@ alias_is_not_refuted_in_coherence Q h c e g qs a (own_fails x own fails) =
 alias_is_not_refuted_in_coherence Q h c e g qs a (is_no_subtype outside n) = outside refl
 alias_is_not_refuted_in_coherence Q h c e g qs a (subtype_refused ps there outside l refused) = outside refl
 alias_is_not_refuted_in_coherence Q h c e g qs a (aliases_fail outside ready all) = outside refl
-alias_is_not_refuted_in_coherence Q h c e g qs a (normal_refused ps met outside left refused) = outside refl
+alias_is_not_refuted_in_coherence Q h c e g qs a (normal_refused ps met outside left refused other) = outside refl
 
 -- a goal says that Item and List are equal: what is left is that Item normalizes to List. Of two aliases no goal says so, and no
 -- trait's goal does
@@ -65,7 +68,29 @@ list_is_no_alias x = by_head x.head x.is
     by_head (alias_of.Const i) e = cc e
 
 pub item_is_normalized : NormalizesSide empty (alias_goal variance.Invariant item list_type) (relating empty (normalization_goal (alias_of.Ty 0) empty list_type))
-item_is_normalized = record { left = item; right = list_type; is = record { says = inl refl; alias = item_alias; plain = list_is_no_alias; kind = refl }; premise = refl }
+item_is_normalized = record { left = item; right = list_type; is = record { by = direction.Equate; says = inl refl; alias = item_alias; plain = list_is_no_alias; kind = refl }; premise = refl }
+
+-- .. and of the goal that Item is a subtype of List it is left that Item normalizes to a new variable, which is a subtype of List. A goal
+-- that the two are equal says of neither that it is a subtype of the other
+pub item_is_a_subtype : (c d : Content) (r : Tree) → IsNew c d variable.Ty c.universe r
+    → NormalizesLesser c d empty (alias_goal variance.Covariant item list_type) (relating empty (normalization_goal (alias_of.Ty 0) empty r) ∷ relating empty (subtype_goal true variance.Covariant r list_type) ∷ [])
+item_is_a_subtype c d r new =
+    record {
+      left = item;
+      right = list_type;
+      is = record { says = refl; left = refl; right = refl };
+      first = r;
+      second = list_type;
+      between = d;
+      of_left = relating empty (normalization_goal (alias_of.Ty 0) empty r) ∷ [];
+      of_right = [];
+      left_has = inl (record { is = item_alias; new = new; premise = refl });
+      right_has = inr (record { plain = list_is_no_alias; same = refl; table = refl; none = refl });
+      premises = refl;
+    }
+
+pub equal_types_are_no_subtypes : (a b : Tree) → IsLesserGoal (alias_goal variance.Invariant item list_type) a b → ⊥
+equal_types_are_no_subtypes a b x = cc x.says
 
 pub other_aliases_are_not_equated : (g a t : Tree) → IsAlias t → EquatesAlias g a t → ⊥
 other_aliases_are_not_equated g a t x e = e.plain x

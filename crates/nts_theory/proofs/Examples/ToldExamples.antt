@@ -90,7 +90,7 @@ fact_is_not_refuted Q h mode c e g qs x tight offered met constraints goals plai
 fact_is_not_refuted Q h mode c e g qs x tight offered met constraints goals plain is (subtype_refused ps there outside l refused) = subtyping_no_handlers (opened_in c g) l.left l.right l.is is
 fact_is_not_refuted Q h mode c e g qs x tight offered met constraints goals plain is (all_fail ready all) = fact_never_fails Q h mode (entered_table c g) e x tight met constraints goals plain (kind_for h (opened_in c g)) (all_failed all refl x offered)
 fact_is_not_refuted Q h mode c e g qs x tight offered met constraints goals plain is (aliases_fail outside ready all) = fact_never_fails Q h mode (entered_table c g) e x tight met constraints goals plain (kind_for h (opened_in c g)) (all_failed all refl x offered)
-fact_is_not_refuted Q h mode c e g qs x tight offered met constraints goals plain is (normal_refused ps there outside left refused) = sides_no_handlers (entered_table c g) there e (opened_in c g) ps left is
+fact_is_not_refuted Q h mode c e g qs x tight offered met constraints goals plain is (normal_refused ps there outside left refused other) = sides_no_handlers (entered_table c g) there e (opened_in c g) ps left is
 
 -- and it refutes one for which nothing is offered
 pub no_candidate_is_refuted : (Q : Queries) (h : Handler) (mode : Mode) (c : Content) (e g : Tree) (qs : List Tree) → IsReady c e g → h.offers mode e (opened_in c g) ≡ [] → Refutes Q h mode c e g qs

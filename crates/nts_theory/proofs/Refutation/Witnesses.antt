@@ -127,7 +127,7 @@ module _ (Q : Queries) (begins : BeginsEach Q) (h : Handler) (truth : Truth) (Pr
     refutes_none (is_no_subtype outside none) q ts w s = outside refl
     refutes_none (subtype_refused ps met outside related refused) q ts w s = outside refl
     refutes_none (aliases_fail outside ready all) q ts w s = outside refl
-    refutes_none (normal_refused ps met outside left refused) q ts w s = outside refl
+    refutes_none (normal_refused ps met outside left refused other) q ts w s = outside refl
 
     outcomes_contain : {ks : List PositionKind} {c : Content} {e g : Tree} {qs : List Tree} {xs : List Candidate} {vs : List Verdict} → Outcomes Q h coherence c e g qs xs vs → IsTried ks c e g qs
         → (w : World) → IsSolution truth 0 c w → (x : Candidate) → Among xs x → CanBegin truth Proves c w x → OneContains truth vs (map (inst w) qs)

@@ -206,8 +206,8 @@ evaluate_subtype-returns-in_err-left = subtypes.evaluate_subtype-returns-in_err-
 pub evaluate_subtype-boxed_response-requires-clause-values : goal.evaluate_subtype-boxed_response-requires-clause-values
 evaluate_subtype-boxed_response-requires-clause-values = subtypes.evaluate_subtype-boxed_response-requires-clause-values
 
-pub evaluate_subtype-returns-in_err-doubt : goal.evaluate_subtype-returns-in_err-doubt
-evaluate_subtype-returns-in_err-doubt = subtypes.evaluate_subtype-returns-in_err-doubt
+pub evaluate_subtype-returns-in_err-joined : goal.evaluate_subtype-returns-in_err-joined
+evaluate_subtype-returns-in_err-joined = subtypes.evaluate_subtype-returns-in_err-joined
 
 pub evaluate_subtype-returns-in_default : goal.evaluate_subtype-returns-in_default
 evaluate_subtype-returns-in_default = subtypes.evaluate_subtype-returns-in_default
@@ -269,35 +269,53 @@ evaluate_equated-returns-in_err-doubt = equated.evaluate_equated-returns-in_err-
 pub evaluate_equated-returns-then-matches : goal.evaluate_equated-returns-then-matches
 evaluate_equated-returns-then-matches = equated.evaluate_equated-returns-then-matches
 
-pub evaluate_equated-returns-in_err-goals : goal.evaluate_equated-returns-in_err-goals
-evaluate_equated-returns-in_err-goals = equated.evaluate_equated-returns-in_err-goals
+pub evaluate_equated-returns-then-not-matches : goal.evaluate_equated-returns-then-not-matches
+evaluate_equated-returns-then-not-matches = equated.evaluate_equated-returns-then-not-matches
 
-pub evaluate_equated-returns-in_err-snapshot : goal.evaluate_equated-returns-in_err-snapshot
-evaluate_equated-returns-in_err-snapshot = equated.evaluate_equated-returns-in_err-snapshot
+pub evaluate_equated-evaluate_way-requires : goal.evaluate_equated-evaluate_way-requires
+evaluate_equated-evaluate_way-requires = equated.evaluate_equated-evaluate_way-requires
 
-pub evaluate_equated-try_evaluate_goals-requires : goal.evaluate_equated-try_evaluate_goals-requires
-evaluate_equated-try_evaluate_goals-requires = equated.evaluate_equated-try_evaluate_goals-requires
-
-pub evaluate_equated-returns-in_err-certainty : goal.evaluate_equated-returns-in_err-certainty
-evaluate_equated-returns-in_err-certainty = equated.evaluate_equated-returns-in_err-certainty
-
-pub evaluate_equated-boxed_response-requires-then-keeps_constraints-clause-values : goal.evaluate_equated-boxed_response-requires-then-keeps_constraints-clause-values
-evaluate_equated-boxed_response-requires-then-keeps_constraints-clause-values = equated.evaluate_equated-boxed_response-requires-then-keeps_constraints-clause-values
-
-pub evaluate_equated-returns-in_err-response : goal.evaluate_equated-returns-in_err-response
-evaluate_equated-returns-in_err-response = equated.evaluate_equated-returns-in_err-response
-
-pub evaluate_equated-returns-then-keeps_constraints : goal.evaluate_equated-returns-then-keeps_constraints
-evaluate_equated-returns-then-keeps_constraints = equated.evaluate_equated-returns-then-keeps_constraints
-
-pub evaluate_equated-boxed_response-requires-2-clause-values : goal.evaluate_equated-boxed_response-requires-2-clause-values
-evaluate_equated-boxed_response-requires-2-clause-values = equated.evaluate_equated-boxed_response-requires-2-clause-values
-
-pub evaluate_equated-returns-in_err-response-2 : goal.evaluate_equated-returns-in_err-response-2
-evaluate_equated-returns-in_err-response-2 = equated.evaluate_equated-returns-in_err-response-2
+pub evaluate_equated-returns-in-Some : goal.evaluate_equated-returns-in-Some
+evaluate_equated-returns-in-Some = equated.evaluate_equated-returns-in-Some
 
 pub evaluate_equated-returns : goal.evaluate_equated-returns
 evaluate_equated-returns = equated.evaluate_equated-returns
+
+pub evaluate_way-returns-in_err-snapshot : goal.evaluate_way-returns-in_err-snapshot
+evaluate_way-returns-in_err-snapshot = equated.evaluate_way-returns-in_err-snapshot
+
+pub evaluate_way-returns-in-Err : goal.evaluate_way-returns-in-Err
+evaluate_way-returns-in-Err = equated.evaluate_way-returns-in-Err
+
+pub evaluate_way-boxed_response-response-requires-clause-values : goal.evaluate_way-boxed_response-response-requires-clause-values
+evaluate_way-boxed_response-response-requires-clause-values = equated.evaluate_way-boxed_response-response-requires-clause-values
+
+pub evaluate_way-returns-in_err-response : goal.evaluate_way-returns-in_err-response
+evaluate_way-returns-in_err-response = equated.evaluate_way-returns-in_err-response
+
+pub evaluate_way-returns-then-keeps_constraints : goal.evaluate_way-returns-then-keeps_constraints
+evaluate_way-returns-then-keeps_constraints = equated.evaluate_way-returns-then-keeps_constraints
+
+pub evaluate_way-boxed_response-requires-clause-values : goal.evaluate_way-boxed_response-requires-clause-values
+evaluate_way-boxed_response-requires-clause-values = equated.evaluate_way-boxed_response-requires-clause-values
+
+pub evaluate_way-returns-in_err-response-2 : goal.evaluate_way-returns-in_err-response-2
+evaluate_way-returns-in_err-response-2 = equated.evaluate_way-returns-in_err-response-2
+
+pub evaluate_way-returns : goal.evaluate_way-returns
+evaluate_way-returns = equated.evaluate_way-returns
+
+pub try_way-returns-in_err-goals : goal.try_way-returns-in_err-goals
+try_way-returns-in_err-goals = equated.try_way-returns-in_err-goals
+
+pub try_way-try_evaluate_goals-requires : goal.try_way-try_evaluate_goals-requires
+try_way-try_evaluate_goals-requires = equated.try_way-try_evaluate_goals-requires
+
+pub try_way-returns-in_err-certainty : goal.try_way-returns-in_err-certainty
+try_way-returns-in_err-certainty = equated.try_way-returns-in_err-certainty
+
+pub try_way-returns : goal.try_way-returns
+try_way-returns = equated.try_way-returns
 
 pub compute_goal-evaluate_own-response-requires : goal.compute_goal-evaluate_own-response-requires
 compute_goal-evaluate_own-response-requires = own.compute_goal-evaluate_own-response-requires
@@ -808,9 +826,6 @@ try_relating-returns-in_err-certainty = relating.try_relating-returns-in_err-cer
 
 pub try_relating-returns : goal.try_relating-returns
 try_relating-returns = relating.try_relating-returns
-
-pub evaluate_equated-normal_goals-requires-clause-posed : goal.evaluate_equated-normal_goals-requires-clause-posed
-evaluate_equated-normal_goals-requires-clause-posed = equated.evaluate_equated-normal_goals-requires-clause-posed
 
 pub try_candidate-try_relating-requires : goal.try_candidate-try_relating-requires
 try_candidate-try_relating-requires g t c = λ κs k. (omega (arith, c.decreases), (k, (c.requires.posed, (c.requires.ready, (c.requires.candidate, ((c.needs_relating.ensures.yes c.if-needs_relating.true).0, ((c.needs_relating.ensures.yes c.if-needs_relating.true).1, c.requires.search)))))))

@@ -48,6 +48,12 @@ decreases-evaluate_alias g l = 20 * l.depth + 14
 abbrev pub decreases-evaluate_equated : goal.decreases-evaluate_equated
 decreases-evaluate_equated g l = 20 * l.depth + 14
 
+abbrev pub decreases-evaluate_way : goal.decreases-evaluate_way
+decreases-evaluate_way g l = 20 * l.depth + 13
+
+abbrev pub decreases-try_way : goal.decreases-try_way
+decreases-try_way g l = 20 * l.depth + 12
+
 abbrev pub decreases-evaluate_candidates : goal.decreases-evaluate_candidates
 decreases-evaluate_candidates g l = 20 * l.depth + 13
 

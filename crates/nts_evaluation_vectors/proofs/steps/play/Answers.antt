@@ -25,3 +25,6 @@ ask_all-requires-in-Judge-clause-table g c = IsTable-extended c.tell_all.ensures
 
 pub ask_all-requires-in-AtOnce-clause-table : goal.ask_all-requires-in-AtOnce-clause-table
 ask_all-requires-in-AtOnce-clause-table g c = IsTable-extended c.tell_all.ensures.grows.extends c.requires
+
+pub ask_all-requires-in-Rigid-clause-table : goal.ask_all-requires-in-Rigid-clause-table
+ask_all-requires-in-Rigid-clause-table g c = IsTable-extended c.tell_all.ensures.grows.extends c.requires

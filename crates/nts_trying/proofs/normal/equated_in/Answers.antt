@@ -12,7 +12,7 @@ returns-in-true-false c =
     let kinds : kind_of (tree_at ts c.in_ok-left.left.node) ≡ kind_of (tree_at ts c.in_ok-left.right.node) = search rules in
     let left : is_alias_node (tree_at ts c.in_ok-left.left.node) ≡ true = first_of (cc, search rules) in
     let right : is_alias_node (tree_at ts c.in_ok-left.right.node) ≡ false = first_of (cc, search rules) in
-    left_equated ts c.args.goal c.kind-predicate.result c.kind-predicate.ensures.tree c.terms_are_formed.ensures c.kind-predicate.ensures.fits c.len.ensures.row none c.in_ok-left.left c.in_ok-left.right c.in_ok-left.ensures.found (c.has_closed_statement.ensures.0 c.if-not-has_closed_statement.false)
+    left_equated ts c.args.goal c.kind-predicate.result c.kind-predicate.ensures.tree c.terms_are_formed.ensures c.kind-predicate.ensures.fits c.len.ensures.row none c.in_ok-left.left c.in_ok-left.right c.in_ok-left.direction c.in_ok-left.ensures.found c.lesser_types-types.result c.lesser_types-types.ensures (c.has_closed_statement.ensures.0 c.if-not-has_closed_statement.false)
     (c.is_closed_env.ensures.0 c.if-not-is_closed_env.false) kinds left right
 
 pub returns-in-false-true : goal.returns-in-false-true
@@ -22,7 +22,7 @@ returns-in-false-true c =
     let kinds : kind_of (tree_at ts c.in_ok-left.left.node) ≡ kind_of (tree_at ts c.in_ok-left.right.node) = search rules in
     let left : is_alias_node (tree_at ts c.in_ok-left.left.node) ≡ false = first_of (cc, search rules) in
     let right : is_alias_node (tree_at ts c.in_ok-left.right.node) ≡ true = first_of (cc, search rules) in
-    right_equated ts c.args.goal c.kind-predicate.result c.kind-predicate.ensures.tree c.terms_are_formed.ensures c.kind-predicate.ensures.fits c.len.ensures.row none c.in_ok-left.left c.in_ok-left.right c.in_ok-left.ensures.found (c.has_closed_statement.ensures.0 c.if-not-has_closed_statement.false)
+    right_equated ts c.args.goal c.kind-predicate.result c.kind-predicate.ensures.tree c.terms_are_formed.ensures c.kind-predicate.ensures.fits c.len.ensures.row none c.in_ok-left.left c.in_ok-left.right c.in_ok-left.direction c.in_ok-left.ensures.found c.lesser_types-types.result c.lesser_types-types.ensures (c.has_closed_statement.ensures.0 c.if-not-has_closed_statement.false)
     (c.is_closed_env.ensures.0 c.if-not-is_closed_env.false) kinds left right
 
 pub returns-in-true-true : goal.returns-in-true-true
@@ -32,5 +32,5 @@ returns-in-true-true c =
     let kinds : kind_of (tree_at ts c.in_ok-left.left.node) ≡ kind_of (tree_at ts c.in_ok-left.right.node) = search rules in
     let left : is_alias_node (tree_at ts c.in_ok-left.left.node) ≡ true = first_of (cc, search rules) in
     let right : is_alias_node (tree_at ts c.in_ok-left.right.node) ≡ true = first_of (cc, search rules) in
-    both_equated ts c.args.goal c.kind-predicate.result c.kind-predicate.ensures.tree c.terms_are_formed.ensures c.kind-predicate.ensures.fits c.len.ensures.row none c.in_ok-left.left c.in_ok-left.right c.in_ok-left.ensures.found (c.has_closed_statement.ensures.0 c.if-not-has_closed_statement.false)
+    both_equated ts c.args.goal c.kind-predicate.result c.kind-predicate.ensures.tree c.terms_are_formed.ensures c.kind-predicate.ensures.fits c.len.ensures.row none c.in_ok-left.left c.in_ok-left.right c.in_ok-left.direction c.in_ok-left.ensures.found c.lesser_types-types.result c.lesser_types-types.ensures (c.has_closed_statement.ensures.0 c.if-not-has_closed_statement.false)
     (c.is_closed_env.ensures.0 c.if-not-is_closed_env.false) kinds left right

@@ -1,8 +1,9 @@
 -- Goals that an alias is equal to a term.
-use Rattle.std.proofs.Common.{◌≡◌, Err, Ok, inl, inr, ⊎_elim, arith, rules, true, ap, sym, ◌∙◌}
-use Rattle.std.specs.Result.{is_err}
-use Rattle.std.proofs.lemmas.Result.{IfOk-from_err}
+use Rattle.std.proofs.Common.{◌≡◌, Err, Ok, None, inl, inr, ⊎_elim, arith, rules, ap, sym, ◌∙◌}
+use Rattle.nts_model.specs.Terms.Trees.{Tree}
 use Rattle.nts_model.specs.Derivations.Handlers.{meaning}
+use Rattle.nts_theory.specs.Aliasing.{IsLesserGoal}
+use Rattle.nts_store.specs.Growth.{tree_at}
 use Rattle.nts_store.specs.declared.fault.EvalError.TheVariants as EvalError
 use Rattle.nts_store.proofs.Growing.{Extends-refl}
 use Rattle.nts_terms.specs.Modes.{mode_of}
@@ -14,24 +15,26 @@ use Rattle.nts_response.specs.Forms.{response_at}
 use Rattle.nts_certainty.specs.Certainties.{ambiguous}
 use Rattle.nts_search.specs.declared.kinds.CurrentGoalKind.TheVariants as Kinds
 use Rattle.nts_meaning.specs.Answering.{is_yes, verdict_at}
-use Rattle.nts_meaning.specs.Meant.{ruling_since}
-use Rattle.nts_meaning.specs.Searching.{assumed_in}
-use Rattle.nts_meaning.specs.Evaluation.{IsPosed, goals_at}
+use Rattle.nts_meaning.specs.Meant.{ruling_since, Since}
+use Rattle.nts_meaning.specs.Searching.{assumed_in, HeadsTell}
+use Rattle.nts_meaning.specs.Evaluation.{goals_at}
 use Rattle.nts_meaning.proofs.AnsweredQueries.{args_later}
 use Rattle.nts_meaning.proofs.AskedGoals.{trees_kept}
-use Rattle.nts_meaning.proofs.Evaluating.{Goes-trans, Runs-trans, Since-later, goes-back, rolled_back}
+use Rattle.nts_meaning.proofs.Evaluating.{Goes-trans, Goes-extends, IsPosed-later, Runs-trans, Since-later, goes-back, rolled_back}
 use Rattle.nts_meaning.proofs.Rounds.{ran, search_then}
 use Rattle.nts_meaning.proofs.Running.{term_table}
-use Rattle.nts_meaning.proofs.Searching.{Searches-refl, search_grown, search_grows, search_later, covers_grown, tell_grown}
-use Rattle.nts_trying.proofs.NormalGoals.{left_normal}
+use Rattle.nts_meaning.proofs.Searching.{Searches-refl, Searches-trans, heads_tell_later, search_grown, search_grows, search_later, covers_grown, tell_grown}
+use Rattle.nts_trying.proofs.LesserGoals.{equated_later}
+use Rattle.nts_trying.proofs.NormalizedGoals.{left_normal}
+use Rattle.nts_trying.proofs.Outcomes.{found_earlier}
 use Rattle.nts_trying.proofs.Opened.{labels_through, normal_through, normal_told, normal_stops}
 use Rattle.nts_trying.proofs.Probed.{found_in, found_still, went_in, plain_of, not_kept, says_found, says_before, doubtful}
 use Rattle.nts_trying.proofs.Ran.{proved_all}
 use Rattle.nts_trying.proofs.Stepping.{stopped_refused}
 use Rattle.nts_evaluation.proofs.DecidedGoals.{is_asked_here, outlives_in, states_own, way_states_own}
 use Rattle.nts_evaluation.proofs.FactTrials.{fact_asked}
-use Rattle.nts_evaluation.proofs.Failing.{equated_failed}
-use Rattle.nts_evaluation.proofs.NormalLeft.{normal_more, all_relating}
+use Rattle.nts_evaluation.proofs.Failing.{equated_failed, way_failed}
+use Rattle.nts_evaluation.proofs.NormalLeft.{normal_more, all_relating, way_told_earlier, way_refuted_earlier, lesser_told, one_told, lesser_no}
 use Rattle.nts_terms.proofs.Moved.{KeepsRest-refl}
 use Rattle.nts_evaluation.proofs.evaluate.+evaluate.Goals as goal
 
@@ -123,22 +126,224 @@ evaluate_equated-returns-then-matches g t c =
       refuted = search rules;
     }
 
-pub evaluate_equated-returns-in_err-snapshot : goal.evaluate_equated-returns-in_err-snapshot
-evaluate_equated-returns-in_err-snapshot g t c =
-    equated_failed c.from_residual-in_err-snapshot.result (search rules) (search rules) (search rules) (Searches-refl c.args.depth c.requires.search (record { extends = Extends-refl _; rest = KeepsRest-refl _ }))
+-- the ways are asked one after the other
+pub evaluate_equated-returns-then-not-matches : goal.evaluate_equated-returns-then-not-matches
+evaluate_equated-returns-then-not-matches g t c =
+    let r = c.evaluate_way-lesser.ensures in
+    record {
+      grows = search rules;
+      searches = r.searches;
+      found = r.found;
+      told = λ s tells. IfOk-map c.evaluate_way-lesser.result (λ x f. lesser_told (ruling_since (λ ts. g.H.GoalHandler.handler ts c.args.handler.now) s) (mode_of c.args.table.now.mode) c.in-Some.types _ _ _ _ _ f) (r.told s tells);
+      refuted = search rules;
+    }
 
-pub evaluate_equated-normal_goals-requires-clause-posed : goal.evaluate_equated-normal_goals-requires-clause-posed
-evaluate_equated-normal_goals-requires-clause-posed g t c =
+pub evaluate_equated-evaluate_way-requires : goal.evaluate_equated-evaluate_way-requires
+evaluate_equated-evaluate_way-requires g t c = λ κs k.
+    let r = c.evaluate_way-lesser.ensures in
+    let p = c.requires.posed in
+    let up = r.grows.extends in
+    let goes = Goes-extends p.table up in (
+      omega (arith, c.decreases),
+      (
+        k,
+        (
+          rw r.same (IsPosed-later goes p),
+          (
+            equated_later up p.holds c.requires.equated,
+            (
+              tt,
+              (
+                rw r.same (search rules),
+                (
+                  g.met.H.GoalHandler.ready_kept _ _ _ c.requires.ready up,
+                  (
+                    rw r.same (args_later c.args.cx.now.nodes c.evaluate_way-lesser.new.cx.nodes c.args.table.now.entries c.args.table.now.entries c.args.values.now goes.extends goes.continues c.requires.values),
+                    search_later c.args.depth c.args.depth (omega arith) c.requires.search r.searches,
+                  ),
+                ),
+              ),
+            ),
+          ),
+        ),
+      ),
+    )
+
+pub evaluate_equated-returns-in-Some : goal.evaluate_equated-returns-in-Some
+evaluate_equated-returns-in-Some g t c =
+    let first = c.evaluate_way-lesser.ensures in
+    let r = c.evaluate_way.ensures in
+    let p = c.requires.posed in
+    let a = c.args.cx.now in
+    let b = c.evaluate_way-lesser.new.cx in
+    let w = c.args.table.now in
+    let mode = mode_of w.mode in
+    let up = first.grows.extends in
+    let later = λ (s : Since (λ ts. g.H.GoalHandler.ready ts c.args.handler.now) c.args.cx.now) (tells : HeadsTell (ruling_since (λ ts. g.H.GoalHandler.handler ts c.args.handler.now) s) c.args.cx.now.nodes c.args.graph.now). heads_tell_later (ruling_since (λ ts. g.H.GoalHandler.handler ts c.args.handler.now) s) c.args.depth c.requires.search first.grows.extends first.searches tells in
+    let env = up.kept c.args.goal.param_env.node p.holds.env.within in
+    let predicate = up.kept c.args.goal.predicate.node p.holds.predicate.within in
+    let none : c.evaluate_way-lesser.result ≡ Err EvalError.NoSolution = search rules in
+    record {
+      grows = search rules;
+      searches = Searches-trans first.searches r.searches;
+      found = IfOk-map c.evaluate_way.result (λ x f. found_earlier x.value up p.table p.holds c.requires.values (λ b u y s. rw (env, predicate) at (y (Since-later first.grows s))) (rw first.same at f)) r.found;
+      told = λ s tells.
+          let h = ruling_since (λ ts. g.H.GoalHandler.handler ts c.args.handler.now) s in
+          IfOk-map c.evaluate_way.result
+          (λ x f. one_told h mode (content_of a.nodes w.entries) (tree_at a.nodes c.args.goal.param_env.node) (tree_at a.nodes c.args.goal.predicate.node) (trees_of a.nodes c.args.values.now) (verdict_at c.evaluate_way.new.cx.nodes x.value)
+          (λ y z is. lesser_no h mode c.in-Some.types (content_of a.nodes w.entries) (tree_at a.nodes c.args.goal.param_env.node) (tree_at a.nodes c.args.goal.predicate.node) (first.refuted s tells none))
+          (way_told_earlier h mode None a.nodes b.nodes w c.args.goal c.args.values.now (verdict_at c.evaluate_way.new.cx.nodes x.value) up p.table p.holds c.requires.values (rw first.same at f)))
+          (r.told (Since-later first.grows s) (later s tells));
+      refuted = λ s tells n.
+          let h = ruling_since (λ ts. g.H.GoalHandler.handler ts c.args.handler.now) s in
+          record {
+            one = way_refuted_earlier h mode None a.nodes b.nodes w c.args.goal up p.table p.holds (rw first.same at (r.refuted (Since-later first.grows s) (later s tells) n));
+            lesser = λ y z is. lesser_no h mode c.in-Some.types (content_of a.nodes w.entries) (tree_at a.nodes c.args.goal.param_env.node) (tree_at a.nodes c.args.goal.predicate.node) (first.refuted s tells none);
+          };
+    }
+
+pub evaluate_equated-returns : goal.evaluate_equated-returns
+evaluate_equated-returns g t c =
+    let r = c.evaluate_way-2.ensures in
+    let q = c.requires.equated in
+    let no_types : c.args.equated.types ≡ None = search rules in
+    let none : (a b : Tree) → IsLesserGoal (tree_at c.args.cx.now.nodes c.args.goal.predicate.node) a b → ⊥ = rw no_types at q.types in
+    record {
+      grows = search rules;
+      searches = r.searches;
+      found = r.found;
+      told = λ s tells. IfOk-map c.evaluate_way-2.result (λ x f. one_told (ruling_since (λ ts. g.H.GoalHandler.handler ts c.args.handler.now) s) (mode_of c.args.table.now.mode) _ _ _ _ _ (λ a b is. absurd (none a b is)) f) (r.told s tells);
+      refuted = λ s tells n. record { one = r.refuted s tells n; lesser = λ a b is. absurd (none a b is) };
+    }
+
+-- a goal answered by a way
+pub evaluate_way-returns-in_err-snapshot : goal.evaluate_way-returns-in_err-snapshot
+evaluate_way-returns-in_err-snapshot g t c =
+    way_failed c.from_residual.result (search rules) (search rules) (search rules) (search rules) (Searches-refl c.args.depth c.requires.search (record { extends = Extends-refl _; rest = KeepsRest-refl _ }))
+
+pub evaluate_way-returns-in-Err : goal.evaluate_way-returns-in-Err
+evaluate_way-returns-in-Err g t c =
+    let o = c.in_ok-snapshot.ensures in
+    let r = c.in-Err.ensures in
+    record {
+      same = rolled_back o.saved r.runs.goes c.rollback_to.ensures.saved o.mode c.rollback_to.ensures.mode;
+      grows = search rules;
+      searches = r.searches;
+      found = search rules;
+      told = search rules;
+      refuted = λ s tells n. rw (o.mode, o.entries) at (r.refuted s tells (search rules));
+    }
+
+pub evaluate_way-boxed_response-response-requires-clause-values : goal.evaluate_way-boxed_response-response-requires-clause-values
+evaluate_way-boxed_response-response-requires-clause-values g t c =
     let p = c.requires.posed in
     let o = c.in_ok-snapshot.ensures in
-    record { table = o.table c.args.cx.now.nodes p.table; holds = p.holds; knows = rw o.entries p.knows }
+    let r = c.in-Ok.ensures in
+    let went = went_in p.table o.entries o.saved o.mode r.runs.goes in
+    args_later c.args.cx.now.nodes c.try_way.new.cx.nodes c.args.table.now.entries c.try_way.new.table.entries c.args.values.now went.extends went.continues c.requires.values
 
-pub evaluate_equated-returns-in_err-goals : goal.evaluate_equated-returns-in_err-goals
-evaluate_equated-returns-in_err-goals g t c =
-    equated_failed c.from_residual-in_err-goals.result (search rules) (search rules) (search rules) (Searches-refl c.args.depth c.requires.search (ran c.normal_goals.ensures.runs))
+pub evaluate_way-returns-in_err-response : goal.evaluate_way-returns-in_err-response
+evaluate_way-returns-in_err-response g t c =
+    let o = c.in_ok-snapshot.ensures in
+    let r = c.in-Ok.ensures in
+    way_failed c.from_residual-in_err-response.result (search rules) (search rules) (rolled_back o.saved r.runs.goes c.rollback_to-then-keeps_constraints.ensures.saved o.mode c.rollback_to-then-keeps_constraints.ensures.mode) (search rules) (search_grown c.args.depth c.requires.search r.searches c.boxed_response-response.ensures.grows)
 
-pub evaluate_equated-try_evaluate_goals-requires : goal.evaluate_equated-try_evaluate_goals-requires
-evaluate_equated-try_evaluate_goals-requires g t c = λ κs k.
+pub evaluate_way-returns-then-keeps_constraints : goal.evaluate_way-returns-then-keeps_constraints
+evaluate_way-returns-then-keeps_constraints g t c =
+    let p = c.requires.posed in
+    let o = c.in_ok-snapshot.ensures in
+    let r = c.in-Ok.ensures in
+    let m = c.in_ok-response.ensures in
+    let a = c.args.cx.now in
+    let d = c.try_way.new.cx in
+    let v = c.try_way.new.table in
+    let went = went_in p.table o.entries o.saved o.mode r.runs.goes in
+    let trees = trees_kept a.nodes d.nodes c.args.table.now.entries c.args.values.now went.extends c.requires.values in
+    let now = search_later c.args.depth c.args.depth (omega arith) c.requires.search r.searches in
+    let covers = covers_grown c.args.depth now m.grows in
+    record {
+      same = rolled_back o.saved r.runs.goes c.rollback_to-then-keeps_constraints.ensures.saved o.mode c.rollback_to-then-keeps_constraints.ensures.mode;
+      grows = search rules;
+      searches = search_grown c.args.depth c.requires.search r.searches m.grows;
+      found = found_in c.in_ok-response.field-0.value c.in-Ok.certainty went c.terms_are_formed.ensures m.grows.extends (rw o.entries at r.labels) c.requires.values m.certainty m.says m.holds (record { no_hidden = m.nothing.0; no_goals = m.nothing.1 })
+          (λ y s. normal_more covers (rw o.mode at (r.proved s (ap Ok y))));
+      told = λ s tells.
+          let run = rw (o.mode, o.entries) at (r.told s tells) in
+          inl (record {
+            outside = run.outside;
+            left = run.left;
+            met = run.met;
+            sides = run.sides;
+            found = content_of d.nodes v.entries;
+            reaches = run.reaches;
+            is_found = record { table = term_table c.terms_are_formed.ensures r.runs.goes.table; labels = rw o.entries at r.labels };
+            says = says_found c.in-Ok.certainty (content_of a.nodes c.args.table.now.entries) (content_of d.nodes v.entries) (trees_of a.nodes c.args.values.now) (verdict_at c.boxed_response-response.new.cx.nodes c.in_ok-response.field-0.value) (ap is_yes m.certainty) (rw trees at m.says);
+          });
+      refuted = search rules;
+    }
+
+pub evaluate_way-boxed_response-requires-clause-values : goal.evaluate_way-boxed_response-requires-clause-values
+evaluate_way-boxed_response-requires-clause-values g t c =
+    let p = c.requires.posed in
+    let o = c.in_ok-snapshot.ensures in
+    let r = c.in-Ok.ensures in
+    let back = rolled_back o.saved r.runs.goes c.rollback_to-2.ensures.saved o.mode c.rollback_to-2.ensures.mode in
+    let goes = goes-back p.table r.runs.goes.extends back in
+    args_later c.args.cx.now.nodes c.try_way.new.cx.nodes c.args.table.now.entries c.rollback_to-2.new.self.entries c.args.values.now goes.extends goes.continues c.requires.values
+
+pub evaluate_way-returns-in_err-response-2 : goal.evaluate_way-returns-in_err-response-2
+evaluate_way-returns-in_err-response-2 g t c =
+    let o = c.in_ok-snapshot.ensures in
+    let r = c.in-Ok.ensures in
+    way_failed c.from_residual-in_err-response-2.result (search rules) (search rules) (rolled_back o.saved r.runs.goes c.rollback_to-2.ensures.saved o.mode c.rollback_to-2.ensures.mode) (search rules) (search_grown c.args.depth c.requires.search r.searches c.boxed_response.ensures.grows)
+
+pub evaluate_way-returns : goal.evaluate_way-returns
+evaluate_way-returns g t c =
+    let p = c.requires.posed in
+    let o = c.in_ok-snapshot.ensures in
+    let r = c.in-Ok.ensures in
+    let m = c.in_ok-response-2.ensures in
+    let a = c.args.cx.now in
+    let d = c.try_way.new.cx in
+    let v = c.try_way.new.table in
+    let back = rolled_back o.saved r.runs.goes c.rollback_to-2.ensures.saved o.mode c.rollback_to-2.ensures.mode in
+    let trees = trees_kept a.nodes d.nodes c.args.table.now.entries c.args.values.now r.runs.goes.extends c.requires.values in
+    let still = content_of-extended r.runs.goes.extends p.table.now in
+    let unsure = not_kept (sym c.keeps_constraints.ensures ∙ c.if-keeps_constraints.false) in
+    record {
+      same = back;
+      grows = search rules;
+      searches = search_grown c.args.depth c.requires.search r.searches m.grows;
+      found = found_still c.in_ok-response-2.response.value c.in-Ok.certainty p.table r.runs.goes.extends c.terms_are_formed.ensures m.grows.extends c.requires.values m.certainty unsure (rw back at m.says) m.holds (record { no_hidden = m.nothing.0; no_goals = m.nothing.1 });
+      told = λ s tells.
+          let run = rw (o.mode, o.entries) at (r.told s tells) in
+          inl (record {
+            outside = run.outside;
+            left = run.left;
+            met = run.met;
+            sides = run.sides;
+            found = content_of d.nodes v.entries;
+            reaches = run.reaches;
+            is_found = record { table = term_table c.terms_are_formed.ensures r.runs.goes.table; labels = rw o.entries at r.labels };
+            says = says_before c.in-Ok.certainty (content_of a.nodes c.args.table.now.entries) (content_of d.nodes v.entries) (trees_of a.nodes c.args.values.now) (verdict_at c.boxed_response.new.cx.nodes c.in_ok-response-2.response.value) (ap is_yes m.certainty) unsure (plain_of c.in-Ok.certainty _ _ _ (rw (back, still, trees) at m.says) unsure);
+          });
+      refuted = search rules;
+    }
+
+-- the goals that are left of it are asked
+pub try_way-returns-in_err-goals : goal.try_way-returns-in_err-goals
+try_way-returns-in_err-goals g t c =
+    record {
+      runs = c.way_goals.ensures.runs;
+      searches = Searches-refl c.args.depth c.requires.search (ran c.way_goals.ensures.runs);
+      labels = search rules;
+      proved = search rules;
+      told = search rules;
+      refuted = search rules;
+    }
+
+pub try_way-try_evaluate_goals-requires : goal.try_way-try_evaluate_goals-requires
+try_way-try_evaluate_goals-requires g t c = λ κs k.
     let r = c.in_ok-goals.ensures in
     let begins = r.begins in (
       omega (arith, c.decreases),
@@ -157,144 +362,54 @@ evaluate_equated-try_evaluate_goals-requires g t c = λ κs k.
       ),
     )
 
-pub evaluate_equated-returns-in_err-certainty : goal.evaluate_equated-returns-in_err-certainty
-evaluate_equated-returns-in_err-certainty g t c =
+pub try_way-returns-in_err-certainty : goal.try_way-returns-in_err-certainty
+try_way-returns-in_err-certainty g t c =
     let r = c.in_ok-goals.ensures in
     let begins = r.begins in
-    let o = c.in_ok-snapshot.ensures in
     let e = c.try_evaluate_goals.ensures in
-    let b = c.normal_goals.new.cx in
-    let u = c.normal_goals.new.table in
+    let b = c.way_goals.new.cx in
+    let u = c.way_goals.new.table in
     let gs = c.in_ok-goals.goals.items in
-    let fails : is_err c.from_residual-in_err-certainty.result ≡ true = search rules in
     record {
-      grows = search rules;
+      runs = Runs-trans r.runs e.runs;
       searches = search_then c.args.depth c.requires.search (ran r.runs) e.searches;
-      found = IfOk-from_err c.from_residual-in_err-certainty.result _ fails;
-      told = λ s tells. IfOk-from_err c.from_residual-in_err-certainty.result _ fails;
+      labels = search rules;
+      proved = search rules;
+      told = search rules;
       refuted = λ s tells n.
           let h = ruling_since (λ ts. g.H.GoalHandler.handler ts c.args.handler.now) s in
           let refused : c.try_evaluate_goals.result ≡ Err EvalError.NoSolution = search rules in
           let no = stopped_refused u c.args.graph.now Kinds.Misc (e.refuted (Since-later (ran r.runs) s) (tell_grown h c.args.depth c.requires.search (ran r.runs) tells) refused) in
+          record { outside = c.requires.outside; left = goals_at b.nodes gs; met = content_of b.nodes u.entries; sides = begins.sides; refused = rw r.runs.goes.mode at no };
+    }
+
+pub try_way-returns : goal.try_way-returns
+try_way-returns g t c =
+    let r = c.in_ok-goals.ensures in
+    let begins = r.begins in
+    let e = c.in_ok-certainty.ensures in
+    let b = c.way_goals.new.cx in
+    let u = c.way_goals.new.table in
+    let d = c.try_evaluate_goals.new.cx in
+    let v = c.try_evaluate_goals.new.table in
+    let gs = c.in_ok-goals.goals.items in
+    record {
+      runs = Runs-trans r.runs e.runs;
+      searches = search_then c.args.depth c.requires.search (ran r.runs) e.searches;
+      labels = begins.labels e.labels;
+      proved = λ s y.
+          let none = e.sure (search rules) in
+          let settled = rw r.runs.goes.mode at (e.proved (Since-later (ran r.runs) s)) in
+          left_normal c.args.goal gs (meaning (g.H.GoalHandler.handler s.base c.args.handler.now) s.variances) (mode_of c.args.table.now.mode) (assumed_in d.nodes c.try_evaluate_goals.new.graph) d.nodes v c.requires.posed r.runs.goes begins.goals c.terms_are_formed.ensures e.runs.goes
+          (all_relating d.nodes v gs begins.goals (proved_all _ gs none settled));
+      told = λ s tells.
+          let h = ruling_since (λ ts. g.H.GoalHandler.handler ts c.args.handler.now) s in
           record {
-            outside = search rules;
+            outside = c.requires.outside;
             left = goals_at b.nodes gs;
             met = content_of b.nodes u.entries;
-            sides = rw o.entries at begins.sides;
-            refused = rw (r.runs.goes.mode, o.mode) at no;
+            sides = begins.sides;
+            reaches = rw r.runs.goes.mode at (e.told (Since-later (ran r.runs) s) (tell_grown h c.args.depth c.requires.search (ran r.runs) tells));
           };
-    }
-
-pub evaluate_equated-boxed_response-requires-then-keeps_constraints-clause-values : goal.evaluate_equated-boxed_response-requires-then-keeps_constraints-clause-values
-evaluate_equated-boxed_response-requires-then-keeps_constraints-clause-values g t c =
-    let p = c.requires.posed in
-    let o = c.in_ok-snapshot.ensures in
-    let all = Runs-trans c.in_ok-goals.ensures.runs c.in_ok-certainty.ensures.runs in
-    let went = went_in p.table o.entries o.saved o.mode all.goes in
-    args_later c.args.cx.now.nodes c.try_evaluate_goals.new.cx.nodes c.args.table.now.entries c.try_evaluate_goals.new.table.entries c.args.values.now went.extends went.continues c.requires.values
-
-pub evaluate_equated-returns-in_err-response : goal.evaluate_equated-returns-in_err-response
-evaluate_equated-returns-in_err-response g t c =
-    let r = c.in_ok-goals.ensures in
-    let e = c.in_ok-certainty.ensures in
-    equated_failed c.from_residual-in_err-response.result (search rules) (search rules) (search rules) (search_grown c.args.depth c.requires.search (search_then c.args.depth c.requires.search (ran r.runs) e.searches) c.boxed_response-then-keeps_constraints.ensures.grows)
-
-pub evaluate_equated-returns-then-keeps_constraints : goal.evaluate_equated-returns-then-keeps_constraints
-evaluate_equated-returns-then-keeps_constraints g t c =
-    let p = c.requires.posed in
-    let o = c.in_ok-snapshot.ensures in
-    let r = c.in_ok-goals.ensures in
-    let begins = r.begins in
-    let e = c.in_ok-certainty.ensures in
-    let m = c.in_ok-response.ensures in
-    let a = c.args.cx.now in
-    let b = c.normal_goals.new.cx in
-    let d = c.try_evaluate_goals.new.cx in
-    let snap = c.start_snapshot.new.self in
-    let u = c.normal_goals.new.table in
-    let v = c.try_evaluate_goals.new.table in
-    let gs = c.in_ok-goals.goals.items in
-    let posed : IsPosed a.nodes snap c.args.goal = record { table = o.table a.nodes p.table; holds = p.holds; knows = rw o.entries p.knows } in
-    let all = Runs-trans r.runs e.runs in
-    let went = went_in p.table o.entries o.saved o.mode all.goes in
-    let trees = trees_kept a.nodes d.nodes c.args.table.now.entries c.args.values.now went.extends c.requires.values in
-    let brings = begins.labels e.labels in
-    let searches = search_then c.args.depth c.requires.search (ran r.runs) e.searches in
-    let covers = covers_grown c.args.depth (search_later c.args.depth c.args.depth (omega arith) c.requires.search searches) m.grows in
-    record {
-      grows = search rules;
-      searches = search_grown c.args.depth c.requires.search searches m.grows;
-      found = found_in c.in_ok-response.response.value c.in_ok-certainty.certainty went c.terms_are_formed-2.ensures m.grows.extends (rw o.entries at brings) c.requires.values m.certainty m.says m.holds (record { no_hidden = m.nothing.0; no_goals = m.nothing.1 })
-          (λ y s.
-          let none = e.sure (ap Ok y) in
-          let settled = rw (r.runs.goes.mode, o.mode) at (e.proved (Since-later (ran r.runs) s)) in
-          normal_more covers (left_normal c.args.goal gs (meaning (g.H.GoalHandler.handler s.base c.args.handler.now) s.variances) (mode_of c.args.table.now.mode) (assumed_in d.nodes c.try_evaluate_goals.new.graph) d.nodes v posed r.runs.goes begins.goals c.terms_are_formed-2.ensures e.runs.goes
-          (all_relating d.nodes v gs begins.goals (proved_all _ gs none settled))));
-      told = λ s tells.
-          let h = ruling_since (λ ts. g.H.GoalHandler.handler ts c.args.handler.now) s in
-          inl (record {
-            outside = search rules;
-            left = goals_at b.nodes gs;
-            met = content_of b.nodes u.entries;
-            sides = rw o.entries at begins.sides;
-            found = content_of d.nodes v.entries;
-            reaches = rw (r.runs.goes.mode, o.mode) at (e.told (Since-later (ran r.runs) s) (tell_grown h c.args.depth c.requires.search (ran r.runs) tells));
-            is_found = record { table = term_table c.terms_are_formed-2.ensures e.runs.goes.table; labels = rw o.entries at brings };
-            says = says_found c.in_ok-certainty.certainty (content_of a.nodes c.args.table.now.entries) (content_of d.nodes v.entries) (trees_of a.nodes c.args.values.now) (verdict_at c.boxed_response-then-keeps_constraints.new.cx.nodes c.in_ok-response.response.value) (ap is_yes m.certainty) (rw trees at m.says);
-          });
-      refuted = search rules;
-    }
-
-pub evaluate_equated-boxed_response-requires-2-clause-values : goal.evaluate_equated-boxed_response-requires-2-clause-values
-evaluate_equated-boxed_response-requires-2-clause-values g t c =
-    let p = c.requires.posed in
-    let o = c.in_ok-snapshot.ensures in
-    let all = Runs-trans c.in_ok-goals.ensures.runs c.in_ok-certainty.ensures.runs in
-    let back = rolled_back o.saved all.goes c.rollback_to.ensures.saved o.mode c.rollback_to.ensures.mode in
-    let goes = goes-back p.table all.goes.extends back in
-    args_later c.args.cx.now.nodes c.try_evaluate_goals.new.cx.nodes c.args.table.now.entries c.rollback_to.new.self.entries c.args.values.now goes.extends goes.continues c.requires.values
-
-pub evaluate_equated-returns-in_err-response-2 : goal.evaluate_equated-returns-in_err-response-2
-evaluate_equated-returns-in_err-response-2 g t c =
-    let r = c.in_ok-goals.ensures in
-    let e = c.in_ok-certainty.ensures in
-    equated_failed c.from_residual-in_err-response-2.result (search rules) (search rules) (search rules) (search_grown c.args.depth c.requires.search (search_then c.args.depth c.requires.search (ran r.runs) e.searches) c.boxed_response-2.ensures.grows)
-
-pub evaluate_equated-returns : goal.evaluate_equated-returns
-evaluate_equated-returns g t c =
-    let p = c.requires.posed in
-    let o = c.in_ok-snapshot.ensures in
-    let r = c.in_ok-goals.ensures in
-    let begins = r.begins in
-    let e = c.in_ok-certainty.ensures in
-    let m = c.in_ok-response-2.ensures in
-    let a = c.args.cx.now in
-    let b = c.normal_goals.new.cx in
-    let d = c.try_evaluate_goals.new.cx in
-    let u = c.normal_goals.new.table in
-    let v = c.try_evaluate_goals.new.table in
-    let gs = c.in_ok-goals.goals.items in
-    let all = Runs-trans r.runs e.runs in
-    let back = rolled_back o.saved all.goes c.rollback_to.ensures.saved o.mode c.rollback_to.ensures.mode in
-    let trees = trees_kept a.nodes d.nodes c.args.table.now.entries c.args.values.now all.goes.extends c.requires.values in
-    let still = content_of-extended all.goes.extends p.table.now in
-    let brings = begins.labels e.labels in
-    let unsure = not_kept (sym c.keeps_constraints.ensures ∙ c.if-keeps_constraints.false) in
-    record {
-      grows = search rules;
-      searches = search_grown c.args.depth c.requires.search (search_then c.args.depth c.requires.search (ran r.runs) e.searches) m.grows;
-      found = found_still c.in_ok-response-2.response.value c.in_ok-certainty.certainty p.table all.goes.extends c.terms_are_formed-2.ensures m.grows.extends c.requires.values m.certainty unsure (rw back at m.says) m.holds (record { no_hidden = m.nothing.0; no_goals = m.nothing.1 });
-      told = λ s tells.
-          let h = ruling_since (λ ts. g.H.GoalHandler.handler ts c.args.handler.now) s in
-          inl (record {
-            outside = search rules;
-            left = goals_at b.nodes gs;
-            met = content_of b.nodes u.entries;
-            sides = rw o.entries at begins.sides;
-            found = content_of d.nodes v.entries;
-            reaches = rw (r.runs.goes.mode, o.mode) at (e.told (Since-later (ran r.runs) s) (tell_grown h c.args.depth c.requires.search (ran r.runs) tells));
-            is_found = record { table = term_table c.terms_are_formed-2.ensures e.runs.goes.table; labels = rw o.entries at brings };
-            says = says_before c.in_ok-certainty.certainty (content_of a.nodes c.args.table.now.entries) (content_of d.nodes v.entries) (trees_of a.nodes c.args.values.now) (verdict_at c.boxed_response-2.new.cx.nodes c.in_ok-response-2.response.value) (ap is_yes m.certainty) unsure (plain_of c.in_ok-certainty.certainty _ _ _ (rw (back, still, trees) at m.says) unsure);
-          });
       refuted = search rules;
     }

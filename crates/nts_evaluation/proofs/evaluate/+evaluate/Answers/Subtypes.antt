@@ -138,17 +138,17 @@ evaluate_subtype-boxed_response-requires-clause-values g t c =
     let went = went_in p.table o.entries o.saved o.mode r.runs.goes in
     args_later c.args.cx.now.nodes c.relate_types.new.cx.nodes c.args.table.now.entries c.relate_types.new.table.entries c.args.values.now went.extends went.continues c.requires.values
 
-pub evaluate_subtype-returns-in_err-doubt : goal.evaluate_subtype-returns-in_err-doubt
-evaluate_subtype-returns-in_err-doubt g t c =
+pub evaluate_subtype-returns-in_err-joined : goal.evaluate_subtype-returns-in_err-joined
+evaluate_subtype-returns-in_err-joined g t c =
     let r = c.in_ok-left.ensures in
-    subtype_failed c.from_residual-in_err-doubt.result (search rules) (search rules) (search rules) (Searches-refl c.args.depth c.requires.search (grown (ran r.runs) c.boxed_response.ensures.grows))
+    subtype_failed c.from_residual-in_err-joined.result (search rules) (search rules) (search rules) (Searches-refl c.args.depth c.requires.search (grown (ran r.runs) c.boxed_response.ensures.grows))
 
 pub evaluate_subtype-returns-in_default : goal.evaluate_subtype-returns-in_default
 evaluate_subtype-returns-in_default g t c =
     let p = c.requires.posed in
     let o = c.in_ok-snapshot.ensures in
     let r = c.in_ok-left.ensures in
-    let m = c.in_ok-doubt.ensures in
+    let m = c.in_ok-joined.ensures in
     let a = c.args.cx.now in
     let b = c.relate_types.new.cx in
     let snap = c.start_snapshot.new.self in
@@ -161,12 +161,12 @@ evaluate_subtype-returns-in_default g t c =
     let went = went_in p.table o.entries o.saved o.mode r.runs.goes in
     let trees = trees_kept a.nodes b.nodes c.args.table.now.entries c.args.values.now went.extends c.requires.values in
     let undone : AreUntouched snap u ⊎ AreJoinedTypes a b snap u types = subst (AreLeftOfTypes a b snap u c.args.goal types) c.in_default.is r.left in
-    let reply = response_at c.boxed_response.new.cx.nodes c.in_ok-doubt.doubt.value in
+    let reply = response_at c.boxed_response.new.cx.nodes c.in_ok-joined.joined.value in
     let plain = plain_of ambiguous (content_of b.nodes u.entries) (trees_of a.nodes c.args.values.now) reply (rw trees at m.says) (doubtful _) in
     record {
       grows = search rules;
       searches = Searches-refl c.args.depth c.requires.search (grown (ran r.runs) m.grows);
-      found = found_in c.in_ok-doubt.doubt.value ambiguous went c.terms_are_formed.ensures m.grows.extends (rw o.entries at (undone_brings a b snap u types (asked_terms a.nodes c.args.goal) table up undone)) c.requires.values m.certainty m.says m.holds (record { no_hidden = m.nothing.0; no_goals = m.nothing.1 }) (λ y. absurd (doubtful _ y));
+      found = found_in c.in_ok-joined.joined.value ambiguous went c.terms_are_formed.ensures m.grows.extends (rw o.entries at (undone_brings a b snap u types (asked_terms a.nodes c.args.goal) table up undone)) c.requires.values m.certainty m.says m.holds (record { no_hidden = m.nothing.0; no_goals = m.nothing.1 }) (λ y. absurd (doubtful _ y));
       told = λ s tells.
           let h = ruling_since (λ ts. g.H.GoalHandler.handler ts c.args.handler.now) s in
           ⊎_elim
@@ -181,7 +181,7 @@ evaluate_subtype-returns-in_default g t c =
               reaches = asks_nothing;
             };
             is_found = record { table = term_table c.terms_are_formed.ensures r.runs.goes.table; labels = rw o.entries at (joined_brings a b snap u types table up x.joins (env ∷ pred ∷ [])) };
-            says = says_found ambiguous (content_of a.nodes c.args.table.now.entries) (content_of b.nodes u.entries) (trees_of a.nodes c.args.values.now) (verdict_at c.boxed_response.new.cx.nodes c.in_ok-doubt.doubt.value) (ap is_yes m.certainty) (rw trees at m.says);
+            says = says_found ambiguous (content_of a.nodes c.args.table.now.entries) (content_of b.nodes u.entries) (trees_of a.nodes c.args.values.now) (verdict_at c.boxed_response.new.cx.nodes c.in_ok-joined.joined.value) (ap is_yes m.certainty) (rw trees at m.says);
           })) undone;
       refuted = search rules;
       joined = λ n k v outside.
