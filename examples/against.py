@@ -6,7 +6,7 @@ assumptions of a program, so far as the proof names no other types. A goal that 
 where the answer is `yes` with values, each proof that it finds must be of an instance of them. It finds no proofs that need other
 types, so it never says that an answer of `yes` is wrong: it counts those that it can confirm.
 
-About half of the programs have aliases, in conditions, assumptions and goals. For the search an alias of a type is a variable, with
+About half of the programs have aliases, in conditions, assumptions and goals, and in coherence in heads. For the search an alias of a type is a variable, with
 the condition that the alias is that: its `norm` lines and what is assumed of it are impls of a trait of two types. An alias is said
 to be another one only if that was declared before, and no alias stands in the conditions of a `norm` line: outside of coherence an
 alias that comes back to one of its form is refused, whatever else it may be (docs/TEXT.md).
@@ -129,11 +129,11 @@ class Program:
         self.arity = {name: rng.choice([1, 1, 2]) for name in self.names}
         self.coinductive = {name for name in self.names if rng.random() < 0.25}
         self.aliases = [f"{ALIAS}{number}_{i}" for i in range(rng.choice([0, 0, 1, 2]))]
+        self.mode = rng.choice(["coherence", "analysis", "postanalysis"])
         self.impls = [self.impl() for _ in range(rng.randint(2, 7))]
         self.norms = [self.norm(i) for i in range(len(self.aliases)) for _ in range(rng.randint(1, 3))]
         self.env = [self.closed() for _ in range(rng.choice([0, 0, 1, 2]))]
         self.env += [self.assumed(name) for name in self.aliases if rng.random() < 0.3]
-        self.mode = rng.choice(["coherence", "analysis", "postanalysis"])
         self.goals = [self.with_alias(self.goal(), 0.3) for _ in range(6)]
 
     def term(self, names, depth):
@@ -168,11 +168,13 @@ class Program:
         return [self.bound(self.predicate(bound + others, 1), 0.15) for _ in range(self.rng.choice([0, 0, 1, 1, 2]))]
 
     def impl(self):
-        """At most one alias stands in the conditions, and then no variable that the head has not."""
+        """At most one alias stands in the conditions, and then no variable that the head has not. In coherence one may stand in the head."""
         head = self.predicate(VARIABLES[:2], 2)
         body = self.conditions(head)
         if body and VARIABLES[2] not in variables_in([term for goal in body for term in goal[1:]]):
             body[-1] = self.with_alias(body[-1], 0.4)
+        if self.mode == "coherence":
+            head = self.with_alias(head, 0.2)
         return head, body
 
     def norm(self, at):

@@ -19,7 +19,7 @@ use Rattle.nts_theory.specs.Subtyping.{IsSubtyping}
 use Rattle.nts_theory.specs.Aliasing.{NormalizesSides}
 use Rattle.nts_theory.proofs.Refutation.Aliasing.{sides_no_handlers, way_no_handlers}
 use Rattle.nts_theory.proofs.Refutation.Apart.{apart_unmet}
-use Rattle.nts_theory.proofs.Refutation.PlainParts.{part_met}
+use Rattle.nts_theory.proofs.Refutation.PlainParts.{plain_met}
 use Rattle.nts_decisions.proofs.OpenedStatements.{trait_outlives_nothing, trait_not_affirmed, trait_not_denied, trait_has_no_way, trait_says_no_subtype, trait_says_no_alias, statement_handlers}
 use Rattle.nts_model.specs.Derivations.Sequents.{Premise}
 use Rattle.nts_model.specs.Derivations.Rules.{Mode, GoalKind, Equation, statement_of}
@@ -187,11 +187,12 @@ module _ (Q : Queries) (h : Handler) (law : IsLawfulHandler h) (mode : Mode) (ti
 
     -- the query's fact does not fail
     never_fails : {k : GoalKind} {e : Tree} → Fails Q h mode k q e y → ⊥
-    never_fails (is_unmet n) = n (part_met mode q y is_met)
+    never_fails (is_unmet n) = n (plain_met q y is_met)
     never_fails (has_types_apart a) = apart_unmet q y a is_met
     never_fails (is_unrelated outside n) = n.some is_plain
     never_fails {k} (is_refused ps met (inl (values, in_one, begun, same)) refused) = no_refusal Q h mode met k values y.goals no_goals (subst (λ z. RefusesOne Q h mode k z met) same refused)
-    never_fails (is_refused ps met (inr (outside, begun)) refused) = begun.some is_plain
+    never_fails (is_refused ps met (inr (inl (outside, begun))) refused) = begun.some is_plain
+    never_fails (is_refused ps met (inr (inr (inside, begun))) refused) = begun.some is_plain
     never_fails (is_leaky ps met found begun reach leaks) = tight found 0 leaks
 
     -- and what it replies is so in the caller's world
@@ -204,7 +205,8 @@ module _ (Q : Queries) (h : Handler) (law : IsLawfulHandler h) (mode : Mode) (ti
     says_so found v table m (inr (y, inr r)) = says_merged (canonical_of i).kinds (without_constraints q) (map leaf_tree u) ts v.response is_tried.placed (query_without (canonical_of i).kinds q (map leaf_tree u) is_tried.table) r (without q (map leaf_tree u) ts entered)
 
     fact_replies : (v : Verdict) → Replies Q h mode q e' g' (map leaf_tree u) y v → ContainsMerged v.response ts
-    fact_replies v (replies ps met found (inr (outside, begun)) reach is says) = absurd (begun.some is_plain)
+    fact_replies v (replies ps met found (inr (inl (outside, begun))) reach is says) = absurd (begun.some is_plain)
+    fact_replies v (replies ps met found (inr (inr (inside, begun))) reach is says) = absurd (begun.some is_plain)
     fact_replies v (replies ps met found (inl (values, in_one, begun, are)) reach is says) =
         let n = entered in
         let b = begun_there q n.world n.solves e' g' first.knows y over us fit one named equal proper values met begun (map leaf_tree u) ts (tried_knows (canonical_of i).kinds q e' g' (map leaf_tree u) is_tried) n.images in

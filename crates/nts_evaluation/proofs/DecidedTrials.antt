@@ -1,13 +1,13 @@
 -- A candidate of a decided goal that is tried: its equations are made equal exactly if it is met, no region constraint fails, and its
 -- goals are decided.
-use Rattle.std.proofs.Common.{◌≡◌, ◌⊎◌, ℕ, Bool, false, List, [], map, refl, sym, ap, subst}
+use Rattle.std.proofs.Common.{◌≡◌, ℕ, Bool, false, List, [], map, refl, sym, ap, subst}
 use Rattle.nts_model.specs.Terms.Trees.{Tree, IsFormed}
 use Rattle.nts_model.specs.Tables.Contents.{Content}
 use Rattle.nts_model.specs.Tables.Resolving.{Knows, deeply_resolved}
 use Rattle.nts_model.specs.Terms.Substitutions.{filled}
 use Rattle.nts_model.specs.Lists.{Among}
 use Rattle.nts_model.specs.Derivations.Sequents.{Premise}
-use Rattle.nts_model.specs.Derivations.Rules.{Mode, coherence}
+use Rattle.nts_model.specs.Derivations.Rules.{Mode}
 use Rattle.nts_model.specs.Derivations.Handlers.{Handler, Candidate, premise_by}
 use Rattle.nts_model.specs.Refutation.Choosing.{IsCandidateMet}
 use Rattle.nts_model.specs.Refutation.Forcing.{AddsAll}
@@ -23,7 +23,6 @@ use Rattle.nts_store.specs.Growth.{tree_at, AllIn, Extends}
 use Rattle.nts_store.proofs.Growing.{Extends-trans, IsIn-extended}
 use Rattle.nts_terms.specs.declared.handles.Goal.{Goal}
 use Rattle.nts_terms.specs.declared.modes.TypingMode.{TypingMode}
-use Rattle.nts_terms.specs.Modes.{mode_of}
 use Rattle.nts_unify.specs.Reading.{content_of}
 use Rattle.nts_unify.specs.Lawful.{content_of-extended}
 use Rattle.nts_table.specs.Tables.{Table, IsTable}
@@ -63,7 +62,7 @@ module _ {a b e f : List Tree} {t u v : Table} (h : Handler) (mode : TypingMode)
     (equated : EquatesCandidate a b t u x.fresh.items vs x.equations.items) (adds : AddsAll (map (tree_at b) vs) (map (constraint_of b) x.region_constraints.items) (content_of b u.entries) (content_of e v.entries))
     (constraints : map (constraint_of b) x.region_constraints.items ≡ map (constraint_of a) x.region_constraints.items) (nested : AreNested a x.fresh.items g x.goals.items)
     (ab : Extends a b) (be : Extends b e) (ae : Extends a e) (ef : Extends e f) (table : IsTable e v) (within : AllIn b vs) (added : goals_at f gs ≡ goals_with (map (tree_at e) vs) (map (premise_of e) x.goals.items))
-    (formed : AreFormed f) (there : IsTable b u) (posed : ArePosed f v gs) (asked : IsPosed a t g) (candidate : IsCandidate a g x) (at_once : (mode_of mode ≡ coherence) ⊎ HasPlainEquations (candidate_of a x)) where
+    (formed : AreFormed f) (there : IsTable b u) (posed : ArePosed f v gs) (asked : IsPosed a t g) (candidate : IsCandidate a g x) (at_once : HasPlainEquations (candidate_of a x)) where
   goals : goals_at f gs ≡ goals_with (map (tree_at b) vs) (map (premise_of a) x.goals.items)
   goals = its_goals (record { handler = h; variances = λ z. [] }) mode g x vs gs equated adds constraints nested ab be ae ef table within added at_once
 

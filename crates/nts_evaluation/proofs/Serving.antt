@@ -1,7 +1,7 @@
 -- A candidate that holds, and that is offered, serves the goal.
-use Rattle.std.proofs.Common.{◌≡◌, refl, List, inl, inr}
-use Rattle.nts_theory.specs.RelatingCandidates.{IsCutIn, HasPlainEquations, equated_part, plain_part}
-use Rattle.nts_model.specs.Derivations.Rules.{Mode, coherence, post_analysis, erased, analysis, borrowck, post_borrowck}
+use Rattle.std.proofs.Common.{List, inl, inr}
+use Rattle.nts_theory.specs.RelatingCandidates.{HasPlainEquations}
+use Rattle.nts_model.specs.Derivations.Rules.{Mode}
 use Rattle.nts_model.specs.Tables.Contents.{Content}
 use Rattle.nts_model.specs.Terms.Trees.{Tree}
 use Rattle.nts_model.specs.Lists.{Among}
@@ -34,12 +34,3 @@ served_by h m mode A b c u g x up holds offered y =
 pub held_plain : {m : Meaning} {mode : Mode} {A : List Assumed} {c : Content} {e g : Tree} {x : Candidate} → HasPlainEquations x → HoldsEither m mode A c e g x → HoldsCandidateFrom m mode A c g x
 held_plain plain (inl h) = h
 held_plain plain (inr h) = absurd (h.0 plain)
-
--- outside of coherence the plain part of a candidate is made equal at once
-pub part_outside : (mode : Mode) (x : Candidate) → IsCutIn mode → equated_part mode x ≡ plain_part x
-part_outside coherence x cut = absurd (cut refl)
-part_outside post_analysis x cut = refl
-part_outside erased x cut = refl
-part_outside (analysis ds) x cut = refl
-part_outside (borrowck ds) x cut = refl
-part_outside (post_borrowck ds) x cut = refl

@@ -32,9 +32,9 @@ use nts_table::InferCtxt;
 use nts_terms::{Cx, GenericArg, Goal, TypingMode};
 use nts_trying::{
     AvailableDepth, EquatedAlias, GoalRow, Judged, OwnGoal, Step, Trial, TypePair, answer_outlives,
-    begin_relating, check_leaks, enter_forall, equate, fast_answer, goal_kind, goal_row, judge,
-    keep_response, merge_responses, needs_relating, record_constraints, relate_types,
-    relevant_candidates, way_goals,
+    begin_in_part, begin_relating, check_leaks, enter_forall, equate, fast_answer, goal_kind,
+    goal_row, judge, keep_response, merge_responses, needs_relating, record_constraints,
+    relate_types, relevant_candidates, way_goals,
 };
 
 /// Evaluates a goal in a query of its own: its leaves give place to positions, the search answers the query, and the response is
@@ -554,7 +554,8 @@ fn run_candidate<H: GoalHandler>(
     check_leaks(table, cx, handler, tried)
 }
 
-/// Tries a candidate: its equations, its region constraints, and its goals in steps.
+/// Tries a candidate: its equations, its region constraints, and its goals in steps. One of whose equations relate aliases is in doubt in
+/// coherence, unless its other equations can't be met.
 #[cycle(evaluate)]
 fn try_candidate<H: GoalHandler>(
     table: &mut InferCtxt,
@@ -572,7 +573,10 @@ fn try_candidate<H: GoalHandler>(
     ensures { RunsOne (rules_of H.ready H.handler handler.now) cx.old cx.new graph.old graph.new
         table.old table.new goal candidate.now depth result }
 {
-    if needs_relating(table, cx, goal, candidate) {
+    if needs_relating(cx, goal, candidate) {
+        if matches!(table.typing_mode(), TypingMode::Coherence) {
+            return begin_in_part(table, cx, goal, candidate);
+        }
         return try_relating(table, cx, handler, graph, goal, candidate, depth);
     }
     let kind = goal_kind(cx, handler, goal);

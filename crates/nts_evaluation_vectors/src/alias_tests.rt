@@ -184,6 +184,27 @@ fn a_rule_for_an_alias_serves_its_type(rt: HostRuntime) {
     plays(&rt, rt.alloc(), TypingMode::PostAnalysis, PAIR, PARTS);
 }
 
+/// In coherence such a rule leaves each type in doubt, since what the alias is may decide.
+#[test]
+fn a_rule_for_an_alias_is_in_doubt_in_coherence(rt: HostRuntime) {
+    const NORMS: &[Norm] = &[Norm(&[], "byte", "word", None)];
+    const FOR_ALIAS: &[Rule] = &[Rule(&[], Of(0, &["alias"]), None)];
+    const FOR_WORD: &[Rule] = &[Rule(&[], Of(0, &["word"]), None)];
+    const DOUBTED: &[Asked] = &[
+        Goal(Plain(Of(0, &["word"])), Is(DOUBT, HasChanged::No)),
+        Goal(Plain(Of(0, &["byte"])), Is(DOUBT, HasChanged::No)),
+    ];
+    const KNOWN: &[Asked] = &[
+        Goal(Plain(Of(0, &["word"])), Is(YES, HasChanged::No)),
+        Goal(Plain(Of(0, &["byte"])), Refused),
+    ];
+    const PARTS: &[Part] = &[
+        Part(By::Aliases(NORMS), FOR_ALIAS, DOUBTED),
+        Part(By::Aliases(NORMS), FOR_WORD, KNOWN),
+    ];
+    plays(&rt, rt.alloc(), TypingMode::Coherence, PAIR, PARTS);
+}
+
 /// In coherence goals about aliases are in doubt.
 #[test]
 fn aliases_are_in_doubt_in_coherence(rt: HostRuntime) {

@@ -1,5 +1,5 @@
 -- Candidates whose equations have aliases: outside of coherence such equations are related, which leaves goals, once the others were
--- made equal.
+-- made equal. In coherence they are left alone, and the candidate is in doubt.
 use Rattle.std.specs.Prelude.{◌≡◌, ◌⊎◌, ◌&&◌, ◌||◌, ℕ, Bool, true, false, if◌then◌else◌, Option, Some, List, [], ◌∷◌, ◌++◌, map}
 use Rattle.nts_model.specs.declared.labels.Variance.{Variance}
 use Rattle.nts_model.specs.declared.labels.Variance.TheVariants as variance
@@ -56,11 +56,6 @@ HasPlainEquations x = aliased_equations x.equations ≡ []
 -- a candidate with the plain ones of its equations
 abbrev pub plain_part : Candidate → Candidate
 plain_part x = record x { equations = plain_equations x.equations }
-
--- what is made equal of a candidate at once: in coherence aliases stand for themselves
-abbrev pub equated_part : Mode → Candidate → Candidate
-equated_part coherence x = x
-equated_part m x = plain_part x
 
 -- a candidate's goals, with the values in place of its positions
 abbrev pub goals_with : List Tree → List Premise → List Premise
@@ -119,13 +114,22 @@ pub record HasTypesApart (x : Candidate) : Type 0 where
   pub equation : Among x.equations (related left right)
   pub apart : AreTypesApart left right
 
--- a candidate is begun in an environment, and these premises are left to be asked: its equations and constraints hold, in coherence or
--- where none of its equations relates aliases; or, outside of coherence, those that do were related
-abbrev pub IsBegunPlainly : Mode → Content → Candidate → Content → List Premise → Type 0
-IsBegunPlainly mode c x met ps = (vs : List Tree) × ((mode ≡ coherence) ⊎ HasPlainEquations x) × IsBegun c x vs met × (ps ≡ goals_with vs x.goals)
+-- a candidate none of whose equations relates aliases is begun: its equations and constraints hold
+abbrev pub IsBegunPlainly : Content → Candidate → Content → List Premise → Type 0
+IsBegunPlainly c x met ps = (vs : List Tree) × HasPlainEquations x × IsBegun c x vs met × (ps ≡ goals_with vs x.goals)
 
+-- another one is begun in part: those that relate aliases are left alone
+pub record IsBegunInPart (c : Content) (x : Candidate) (met : Content) (ps : List Premise) : Type 0 where
+  pub some : HasPlainEquations x → ⊥
+  pub values : List Tree
+  pub begun : IsBegun c (plain_part x) values met
+  pub premises : ps ≡ goals_with values x.goals
+
+-- a candidate is begun in an environment, and these premises are left to be asked: plainly; or, outside of coherence, by relating;
+-- or, in coherence, in part
 abbrev pub Begins : (ℕ → List Variance) → Mode → Content → Tree → Candidate → Content → List Premise → Type 0
-Begins declared mode c e x met ps = IsBegunPlainly mode c x met ps ⊎ IsCutIn mode × IsBegunByRelating declared c e x met ps
+Begins declared mode c e x met ps =
+    IsBegunPlainly c x met ps ⊎ IsCutIn mode × IsBegunByRelating declared c e x met ps ⊎ (mode ≡ coherence) × IsBegunInPart c x met ps
 
 -- two terms were related under a table, and what that left is proved there in the environment e, behind an inductive step
 pub record IsRelatedFrom (m : Meaning) (mode : Mode) (A : List Assumed) (c : Content) (e a b : Tree) : Type 0 where

@@ -35,7 +35,7 @@ use Rattle.nts_theory.specs.Affirming.{SaysAffirmed, IsDenied, HasOwnWay}
 use Rattle.nts_theory.specs.Outliving.{IsOutlives}
 use Rattle.nts_theory.specs.Subtyping.{LeavesPremises, IsNoSubtype}
 use Rattle.nts_theory.specs.Aliasing.{NormalizesSides, NormalizesLesser, IsLesserGoal}
-use Rattle.nts_theory.specs.RelatingCandidates.{IsCutIn, equated_part, Begins, IsUnrelated, HasTypesApart}
+use Rattle.nts_theory.specs.RelatingCandidates.{IsCutIn, plain_part, Begins, IsUnrelated, HasTypesApart}
 use Rattle.nts_model.specs.Answers.Responses.{Findings, AreFindings, Response, response_of, IsResponseTo, Applies, RefusesResponse}
 
 -- a response, and whether it is certain
@@ -264,7 +264,7 @@ mutual
   -- equates types that are apart; or, outside of coherence, no settled solution relates its equations with aliases; or a goal is refused;
   -- or the handler's leak check says of what was found that nothing which the root names meets its region constraints
   pub data Fails (Q : Queries) (h : Handler) (mode : Mode) : GoalKind → Content → Tree → Candidate → Type 0 where
-    is_unmet : {k : GoalKind} {c : Content} {e : Tree} {x : Candidate} → (IsCandidateMet c (equated_part mode x) → ⊥) → Fails Q h mode k c e x
+    is_unmet : {k : GoalKind} {c : Content} {e : Tree} {x : Candidate} → (IsCandidateMet c (plain_part x) → ⊥) → Fails Q h mode k c e x
     has_types_apart : {k : GoalKind} {c : Content} {e : Tree} {x : Candidate} → HasTypesApart x → Fails Q h mode k c e x
     is_unrelated : {k : GoalKind} {c : Content} {e : Tree} {x : Candidate} → IsCutIn mode → IsUnrelated Q.variances c x → Fails Q h mode k c e x
     is_refused : {k : GoalKind} {c : Content} {e : Tree} {x : Candidate} (ps : List Premise) (met : Content) → Begins Q.variances mode c e x met ps → RefusesOne Q h mode k ps met → Fails Q h mode k c e x

@@ -1,5 +1,5 @@
 -- A candidate that is run: what its parts left, put together.
-use Rattle.std.proofs.Common.{◌≡◌, ◌⊎◌, ⊎_elim, inl, inr, List, [], ◌∷◌, map, refl, ap, ◌∙◌, subst}
+use Rattle.std.proofs.Common.{◌≡◌, ⊎_elim, inl, inr, List, [], ◌∷◌, map, refl, ap, ◌∙◌, subst}
 use Rattle.std.specs.Prelude.{Result, Ok}
 use Rattle.nts_terms.specs.Modes.{mode_of}
 use Rattle.nts_candidates.specs.Offered.{source_of}
@@ -11,7 +11,7 @@ use Rattle.nts_model.specs.Tables.Contents.{Content}
 use Rattle.nts_model.specs.Tables.Resolving.{Knows}
 use Rattle.nts_model.specs.Derivations.Sequents.{Premise}
 use Rattle.nts_model.specs.Tables.Passing.{BringsOnly}
-use Rattle.nts_model.specs.Derivations.Rules.{Mode, coherence, Meaning, GoalKind, step_kind}
+use Rattle.nts_model.specs.Derivations.Rules.{Mode, Meaning, GoalKind, step_kind}
 use Rattle.nts_model.specs.Derivations.Proofs.{Assumed, passed}
 use Rattle.nts_model.specs.Searching.Stacks.{IsProvedFrom}
 use Rattle.nts_model.specs.Terms.Substitutions.{filled}
@@ -65,7 +65,7 @@ added_only {e} {f} {v} {g} {vs} {hs} {d} gs h k same = record { labels = λ P q 
 module _ {a b e f : List Tree} {t u v : Table} (h : Ruling) (mode : TypingMode) (g : Goal) (x : CandidateData) (vs : List NodeId) (gs : List (GoalSource × Goal))
     (equated : EquatesCandidate a b t u x.fresh.items vs x.equations.items) (adds : AddsAll (map (tree_at b) vs) (map (constraint_of b) x.region_constraints.items) (content_of b u.entries) (content_of e v.entries))
     (constraints : map (constraint_of b) x.region_constraints.items ≡ map (constraint_of a) x.region_constraints.items) (nested : AreNested a x.fresh.items g x.goals.items)
-    (ab : Extends a b) (be : Extends b e) (ae : Extends a e) (ef : Extends e f) (table : IsTable e v) (within : AllIn b vs) (added : goals_at f gs ≡ goals_with (map (tree_at e) vs) (map (premise_of e) x.goals.items)) (at_once : (mode_of mode ≡ coherence) ⊎ HasPlainEquations (candidate_of a x)) where
+    (ab : Extends a b) (be : Extends b e) (ae : Extends a e) (ef : Extends e f) (table : IsTable e v) (within : AllIn b vs) (added : goals_at f gs ≡ goals_with (map (tree_at e) vs) (map (premise_of e) x.goals.items)) (at_once : HasPlainEquations (candidate_of a x)) where
   pub its_goals : goals_at f gs ≡ goals_with (map (tree_at b) vs) (map (premise_of a) x.goals.items)
   its_goals = added ∙ added_is b g x.fresh.items vs x.goals.items ae nested (map-kept b e vs within be)
 

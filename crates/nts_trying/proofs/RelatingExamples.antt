@@ -1,5 +1,5 @@
 -- Candidates whose equations have aliases: which equations these are, and which candidates are begun at once.
-use Rattle.std.proofs.Common.{◌≡◌, ◌⊎◌, inl, inr, true, false, ℕ, List, [], ◌∷◌, refl}
+use Rattle.std.proofs.Common.{◌≡◌, inl, inr, true, false, ℕ, List, [], ◌∷◌, refl}
 use Rattle.nts_model.specs.declared.labels.Variance.{Variance}
 use Rattle.nts_model.specs.declared.labels.AliasHead.TheVariants as alias_of
 use Rattle.nts_model.specs.declared.labels.TyHead.TheVariants as ty
@@ -12,7 +12,7 @@ use Rattle.nts_model.specs.Derivations.Sequents.{Premise}
 use Rattle.nts_model.specs.Derivations.Rules.{Mode, coherence, related, alike}
 use Rattle.nts_model.specs.Derivations.Handlers.{Candidate}
 use Rattle.nts_theory.specs.Affirming.{plain_way}
-use Rattle.nts_theory.specs.RelatingCandidates.{relates_aliases, HasPlainEquations, IsBegunByRelating, IsUnrelated, Begins, AreTypesApart, HasTypesApart}
+use Rattle.nts_theory.specs.RelatingCandidates.{relates_aliases, HasPlainEquations, IsBegunByRelating, IsUnrelated, Begins, AreTypesApart, HasTypesApart, IsBegunInPart}
 use Rattle.nts_decisions.specs.Deciding.{HasNoAliases}
 
 abbrev byte : Tree
@@ -53,12 +53,16 @@ item_rule_is_not h = cc h
 
 -- the rule for an alias is begun by relating outside of coherence, or not at all
 item_is_not_made_equal : (declared : ℕ → List Variance) (mode : Mode) (c met : Content) (e : Tree) (ps : List Premise) → (mode ≡ coherence → ⊥) → Begins declared mode c e for_item met ps → IsBegunByRelating declared c e for_item met ps
-item_is_not_made_equal declared mode c met e ps outside (inl (vs, at_once, begun, are)) = absurd (outside_or at_once)
-  where
-    outside_or : (mode ≡ coherence) ⊎ HasPlainEquations for_item → ⊥
-    outside_or (inl q) = outside q
-    outside_or (inr h) = item_rule_is_not h
-item_is_not_made_equal declared mode c met e ps outside (inr (cut, by)) = by
+item_is_not_made_equal declared mode c met e ps outside (inl (vs, plain, begun, are)) = absurd (item_rule_is_not plain)
+item_is_not_made_equal declared mode c met e ps outside (inr (inl (cut, by))) = by
+item_is_not_made_equal declared mode c met e ps outside (inr (inr (inside, by))) = absurd (outside inside)
+
+-- .. and in coherence in part, by which nothing is made equal of it; the rule for a word never is
+item_is_begun_in_part : (c : Content) → IsBegunInPart c for_item c []
+item_is_begun_in_part c = record { some = item_rule_is_not; values = []; begun = record { made = c; equal = c; freshens = refl; equates = refl; adds = refl }; premises = refl }
+
+word_is_not_begun_in_part : (c met : Content) (ps : List Premise) → IsBegunInPart c for_word met ps → ⊥
+word_is_not_begun_in_part c met ps b = b.some word_rule_is_plain
 
 -- .. and the rule for a word never is; nor is it called unrelated
 word_is_not_related : (declared : ℕ → List Variance) (c met : Content) (e : Tree) (ps : List Premise) → IsBegunByRelating declared c e for_word met ps → ⊥
@@ -72,7 +76,7 @@ abbrev for_all : Candidate
 for_all = plain_way [] []
 
 all_is_begun : (declared : ℕ → List Variance) (mode : Mode) (c : Content) (e : Tree) → Begins declared mode c e for_all c []
-all_is_begun declared mode c e = inl ([], inr refl, record { made = c; equal = c; freshens = refl; equates = refl; adds = refl }, refl)
+all_is_begun declared mode c e = inl ([], refl, record { made = c; equal = c; freshens = refl; equates = refl; adds = refl }, refl)
 
 -- a byte and a word are types apart; an alias and a word are not
 byte_and_word_are_apart : HasTypesApart (plain_way (related byte word ∷ []) [])

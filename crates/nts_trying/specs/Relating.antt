@@ -7,7 +7,8 @@ use Rattle.nts_model.specs.Terms.Trees.{Tree, node, IsFormed}
 use Rattle.nts_model.specs.Terms.Substitutions.{filled}
 use Rattle.nts_model.specs.Tables.Passing.{BringsOnly}
 use Rattle.nts_model.specs.Tables.Contents.{Content}
-use Rattle.nts_theory.specs.RelatingCandidates.{relates_aliases, goals_with, IsBegunByRelating}
+use Rattle.nts_model.specs.Derivations.Sequents.{Premise}
+use Rattle.nts_theory.specs.RelatingCandidates.{relates_aliases, goals_with, IsBegunByRelating, IsBegunInPart}
 use Rattle.nts_store.specs.declared.nodes.NodeId.{NodeId}
 use Rattle.nts_store.specs.Growth.{tree_at, trees_at}
 use Rattle.nts_certainty.specs.declared.sources.GoalSource.{GoalSource}
@@ -85,6 +86,12 @@ pub record RunsByRelating (a b : Cx) (t u : Table) (g : Goal) (x : CandidateData
   pub goals : goals_at b.nodes own ≡ goals_with (map (tree_at at.nodes) values) (map (premise_of a.nodes) x.goals.items)
   pub own_posed : ArePosed b.nodes u own
   pub are : left ≡ related ++ own
+
+-- a candidate was begun in part, which brought no labels but those of the goal
+pub record BeginsInPart (a b : Cx) (t u : Table) (g : Goal) (x : CandidateData) : Type 0 where
+  pub left : List Premise
+  pub begun : IsBegunInPart (content_of a.nodes t.entries) (candidate_of a.nodes x) (content_of b.nodes u.entries) left
+  pub labels : BringsOnly (asked_terms a.nodes g) (content_of a.nodes t.entries) (content_of b.nodes u.entries)
 
 -- .. and begun so. The goals that are left have no labels but those of the goal
 pub record BeginsByRelating (a b : Cx) (t u : Table) (g : Goal) (x : CandidateData) (left : List (GoalSource × Goal)) : Type 0 where

@@ -29,6 +29,6 @@ pub use normal::{EquatedAlias, equated_in};
 pub use offered::relevant_candidates;
 pub use outlives::{Outlives, answer_outlives};
 pub use own::{Judged, OwnGoal, judge};
-pub use relating::{begin_relating, needs_relating};
+pub use relating::{begin_in_part, begin_relating, needs_relating};
 pub use steps::{AvailableDepth, Step, depth_below};
 pub use subtypes::{TypePair, relate_types};

@@ -1,14 +1,13 @@
-//! Candidates whose equations have aliases: the other equations are made equal, and these are related.
+//! Candidates whose equations have aliases: the other equations are made equal, and these are related, or left alone.
 ghost use Rattle.std.specs.Prelude.{◌≡◌, ◌≢◌, ◌⊎◌, [], map, true, false, IfOk, OnOk, Err, IsOkUnless};
 ghost use Rattle.nts_model.specs.Terms.Trees.{kind_of, any_argument, AllFit};
 ghost use Rattle.nts_store.specs.Formed.{AreFormed};
 ghost use Rattle.nts_store.specs.Growth.{tree_at, trees_at, IsIn, AllIn};
-ghost use Rattle.nts_model.specs.Derivations.Rules.{coherence};
-ghost use Rattle.nts_terms.specs.Modes.{mode_of};
-ghost use Rattle.nts_theory.specs.RelatingCandidates.{IsCutIn, may_be_argument, relates_aliases, HasPlainEquations, IsUnrelated, plain_part, pairs_with, aliased_equations};
+ghost use Rattle.nts_theory.specs.RelatingCandidates.{may_be_argument, relates_aliases, HasPlainEquations, IsUnrelated, plain_part, pairs_with, aliased_equations};
 ghost use Rattle.nts_model.specs.Refutation.Choosing.{IsCandidateMet};
 ghost use Rattle.nts_variance_model.specs.Variances.Leaving.{Refuses};
 ghost use Rattle.nts_candidates.specs.Offered.{equation_of, candidate_of};
+ghost use Rattle.nts_certainty.specs.Certainties.{ambiguous};
 ghost use Rattle.nts_delegate.specs.Candidates.{IsOverIn, AreEquations, IsCandidate};
 ghost use Rattle.nts_terms.specs.Handles.{HoldsGoal};
 ghost use Rattle.nts_terms.specs.Rest.{Grows};
@@ -16,7 +15,7 @@ ghost use Rattle.nts_terms.specs.Signatures.{variances_in};
 ghost use Rattle.nts_unify.specs.Reading.{content_of};
 ghost use Rattle.nts_meaning.specs.Evaluation.{Runs, IsPosed, AreValues};
 ghost use Rattle.nts_trying.specs.Instances.{HoldsValues, IsTermInstance};
-ghost use Rattle.nts_trying.specs.Relating.{aliased_data, plain_data, left_node, right_node, list_of, left_list, right_list, IsPlainPart, RelatesEquations, BeginsByRelating};
+ghost use Rattle.nts_trying.specs.Relating.{aliased_data, plain_data, left_node, right_node, list_of, left_list, right_list, IsPlainPart, RelatesEquations, BeginsByRelating, BeginsInPart};
 
 use crate::candidate::{Trial, equate, record_constraints};
 use crate::subtypes::relating_goals;
@@ -26,7 +25,7 @@ use nts_model::{Label, ListHead, Variance};
 use nts_solver_relating::relate_by;
 use nts_store::{EvalError, Fault, NodeId, sort_of};
 use nts_table::InferCtxt;
-use nts_terms::{Cx, Goal, TypingMode};
+use nts_terms::{Cx, Goal};
 use std::alloc::{AllocError, Global};
 
 /// Whether a term is a type, a region or a const.
@@ -54,8 +53,9 @@ fn relates(cx: &Cx, equation: Equation) -> bool
     left.has_alias || right.has_alias
 }
 
-/// Whether an equation of a candidate does.
-fn relates_some(cx: &Cx, goal: Goal, candidate: &CandidateData) -> bool
+/// Whether a candidate can't be begun by making its equations equal, since one of them relates aliases.
+#[inline(never)]
+pub fn needs_relating(cx: &Cx, goal: Goal, candidate: &CandidateData) -> bool
     requires { IsCandidate cx.now.nodes goal candidate.now }
     ensures yes { result ≡ true → HasPlainEquations (candidate_of cx.now.nodes candidate.now) → ⊥ }
     ensures no { result ≡ false → HasPlainEquations (candidate_of cx.now.nodes candidate.now) }
@@ -66,21 +66,6 @@ fn relates_some(cx: &Cx, goal: Goal, candidate: &CandidateData) -> bool
         }
     }
     false
-}
-
-/// Whether a candidate is begun by relating: outside of coherence, where an equation of it does.
-#[inline(never)]
-pub fn needs_relating(table: &InferCtxt, cx: &Cx, goal: Goal, candidate: &CandidateData) -> bool
-    requires { IsCandidate cx.now.nodes goal candidate.now }
-    ensures yes { result ≡ true → IsCutIn (mode_of table.now.mode) × (HasPlainEquations
-        (candidate_of cx.now.nodes candidate.now) → ⊥) }
-    ensures no { result ≡ false → (mode_of table.now.mode ≡ coherence) ⊎ HasPlainEquations
-        (candidate_of cx.now.nodes candidate.now) }
-{
-    if matches!(table.typing_mode(), TypingMode::Coherence) {
-        return false;
-    }
-    relates_some(cx, goal, candidate)
 }
 
 /// The equations of a candidate that do.
@@ -224,6 +209,37 @@ fn relate_equations(
     )?;
     let left = relating_goals(cx.alloc, &goals)?;
     Ok(left)
+}
+
+/// Begins a part of a candidate of whose equations some relate aliases: makes the others equal, and records its region constraints. These
+/// are left alone, so the candidate is in doubt.
+#[inline(never)]
+pub fn begin_in_part(
+    table: &mut InferCtxt,
+    cx: &mut Cx,
+    goal: Goal,
+    candidate: &CandidateData,
+) -> Result<Certainty, EvalError>
+    requires posed { IsPosed cx.old.nodes table.old goal }
+    requires candidate { IsCandidate cx.old.nodes goal candidate.now }
+    requires some { HasPlainEquations (candidate_of cx.old.nodes candidate.now) → ⊥ }
+    ensures runs { Runs cx.old cx.new table.old table.new }
+    ensures doubt { IfOk result (λ y. y ≡ ambiguous) }
+    ensures begins { OnOk result (BeginsInPart cx.old cx.new table.old table.new goal
+        candidate.now) }
+    ensures no { result ≡ Err EvalError.NoSolution → IsCandidateMet (content_of cx.old.nodes
+        table.old.entries) (plain_part (candidate_of cx.old.nodes candidate.now)) → ⊥ }
+    ensures full { result ≢ Err EvalError.Full }
+{
+    let plain = plain_part_of(cx, goal, candidate)?;
+    let values = equate(table, cx, goal, &plain)?;
+    let trial = Trial {
+        goal,
+        fresh: &candidate.fresh,
+        values: &values,
+    };
+    record_constraints(table, cx, trial, &candidate.region_constraints)?;
+    Ok(Certainty::AMBIGUOUS)
 }
 
 /// Begins a candidate of whose equations some relate aliases: makes the others equal, records its region constraints, and relates these.

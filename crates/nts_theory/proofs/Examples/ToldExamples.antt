@@ -28,7 +28,7 @@ use Rattle.nts_theory.proofs.Refutation.Aliasing.{sides_no_handlers}
 use Rattle.nts_theory.specs.Telling.{Verdict, Queries, IsReady, SaysNothing, ChangesNothing, StandsForAll, Refutes, all_fail, is_denied, own_fails, is_no_subtype, subtype_refused, aliases_fail, normal_refused, kind_for, Outcomes, no_outcome, then_fails, then_replies, Fails, is_unmet, has_types_apart, is_unrelated, is_refused, is_leaky, RefusesOne, refuses_one, cuts_one}
 use Rattle.nts_theory.specs.RelatingCandidates.{goals_with, HasPlainEquations}
 use Rattle.nts_theory.proofs.Refutation.Apart.{apart_unmet}
-use Rattle.nts_theory.proofs.Refutation.PlainParts.{part_met}
+use Rattle.nts_theory.proofs.Refutation.PlainParts.{plain_met}
 
 -- the answer without constraints says nothing, in each universe
 unconstrained_says_nothing : (ks : List PositionKind) → SaysNothing ks (unconstrained ks)
@@ -58,11 +58,12 @@ no_refusal Q h mode c k vs [] e (cuts_one d p r i s n) = i
 no_refusal Q h mode c k vs (g ∷ gs) e r = cc e
 
 pub fact_never_fails : (Q : Queries) (h : Handler) (mode : Mode) (c : Content) (e : Tree) (x : Candidate) → HasNoLeaks h → IsCandidateMet c x → x.constraints ≡ [] → x.goals ≡ [] → HasPlainEquations x → (k : GoalKind) → Fails Q h mode k c e x → ⊥
-fact_never_fails Q h mode c e x tight met constraints goals plain k (is_unmet n) = n (part_met mode c x met)
+fact_never_fails Q h mode c e x tight met constraints goals plain k (is_unmet n) = n (plain_met c x met)
 fact_never_fails Q h mode c e x tight met constraints goals plain k (has_types_apart y) = apart_unmet c x y met
 fact_never_fails Q h mode c e x tight met constraints goals plain k (is_unrelated outside n) = n.some plain
 fact_never_fails Q h mode c e x tight met constraints goals plain k (is_refused ps there (inl (vs, in_one, begun, same)) refused) = no_refusal Q h mode there k vs x.goals goals (subst (λ z. RefusesOne Q h mode k z there) same refused)
-fact_never_fails Q h mode c e x tight met constraints goals plain k (is_refused ps there (inr (outside, begun)) refused) = begun.some plain
+fact_never_fails Q h mode c e x tight met constraints goals plain k (is_refused ps there (inr (inl (outside, begun))) refused) = begun.some plain
+fact_never_fails Q h mode c e x tight met constraints goals plain k (is_refused ps there (inr (inr (inside, begun))) refused) = begun.some plain
 fact_never_fails Q h mode c e x tight met constraints goals plain k (is_leaky ps there found begun reach leaks) = tight found 0 leaks
 
 -- where no verdict is left, each candidate failed

@@ -29,7 +29,8 @@ use Rattle.nts_theory.proofs.Refutation.Trying.{Reaches as ReachesWorld, reaches
 use Rattle.nts_theory.proofs.Refutation.Carriers.{moved, moved_carrying, back_to, back_carrying, carrier}
 use Rattle.nts_theory.proofs.Refutation.Opening.{IsBegunAt, CanBegin, AreTrueIn, added_all}
 use Rattle.nts_theory.specs.Telling.{IsInputFor, CanAsk}
-use Rattle.nts_theory.specs.RelatingCandidates.{IsBegun, Begins, goals_with}
+use Rattle.nts_theory.specs.RelatingCandidates.{IsBegun, Begins, goals_with, plain_part}
+use Rattle.nts_theory.proofs.Refutation.PlainParts.{plain_among}
 use Rattle.nts_theory.proofs.Refutation.Queried.{Leads, Reached}
 
 -- the caller and its query
@@ -125,10 +126,34 @@ module _ (truth : Truth) (Proves : Tree → Tree → Type 0) where
         };
       }
 
+  -- its plain part can be begun too
+  plain_can_begin : (c : Content) (w : World) (x : Candidate) → CanBegin truth Proves c w x → CanBegin truth Proves c w (plain_part x)
+  plain_can_begin c w x k =
+      let m = k.is_met in
+      record {
+        is_met = record { world = m.world; solves = m.solves; values = m.values; fit = m.fit; named = m.named; equal = λ q i. m.equal q (plain_among x.equations q i) };
+        begins = λ xs d f. (let b = k.begins xs d f in
+            let meets = b.meets in
+            let known = b.known in
+            let equations = known.equations in
+            record {
+              reaches = b.reaches;
+              meets = record { equal = record { each = λ q i. (let all = meets.equal in all.each q (plain_among x.equations q i)) }; met = meets.met; goals = meets.goals };
+              known = record {
+                equations = record { left = λ q i. equations.left q (plain_among x.equations q i); right = λ q i. equations.right q (plain_among x.equations q i) };
+                left = known.left;
+                right = known.right;
+                environments = known.environments;
+                predicates = known.predicates;
+              };
+            });
+      }
+
   -- .. in coherence no equations are related
   pub begun_with : (declared : ℕ → List Variance) (c met : Content) (w : World) (e : Tree) (x : Candidate) (ps : List Premise) → Begins declared coherence c e x met ps → CanBegin truth Proves c w x → BegunAt truth Proves c met w ps
   begun_with declared c met w e x ps (inl (xs, in_one, b, same)) k = subst (BegunAt truth Proves c met w) (sym same) (begun_at c met w xs x b k)
-  begun_with declared c met w e x ps (inr (outside, b)) k = absurd (outside refl)
+  begun_with declared c met w e x ps (inr (inl (outside, b))) k = absurd (outside refl)
+  begun_with declared c met w e x ps (inr (inr (inside, b))) k = subst (BegunAt truth Proves c met w) (sym b.premises) (begun_at c met w b.values (plain_part x) b.begun (plain_can_begin c w x k))
 
   -- one more goal is asked; all of them stay
   pub asks_more : (c d e : Content) (gs : List Premise) (p : Premise) → Among gs p → AreTermsOf c gs → CanAsk d → Reached truth Proves c d gs → Leads truth Proves d e (deeply_resolved d p.environment) (deeply_resolved d p.predicate) → Reached truth Proves c e gs

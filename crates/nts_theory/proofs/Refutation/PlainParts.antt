@@ -3,10 +3,10 @@ use Rattle.std.proofs.Common.{◌≡◌, ◌⊎◌, inl, inr, Bool, true, false,
 use Rattle.nts_model.specs.Terms.Trees.{Tree}
 use Rattle.nts_model.specs.Tables.Contents.{Content}
 use Rattle.nts_model.specs.Lists.{Among}
-use Rattle.nts_model.specs.Derivations.Rules.{Mode, coherence, post_analysis, erased, analysis, borrowck, post_borrowck, Equation}
+use Rattle.nts_model.specs.Derivations.Rules.{Equation}
 use Rattle.nts_model.specs.Derivations.Handlers.{Candidate}
 use Rattle.nts_model.specs.Refutation.Choosing.{IsCandidateMet}
-use Rattle.nts_theory.specs.RelatingCandidates.{relates_aliases, aliased_equations, plain_equations, HasPlainEquations, plain_part, equated_part}
+use Rattle.nts_theory.specs.RelatingCandidates.{relates_aliases, aliased_equations, plain_equations, HasPlainEquations, plain_part}
 
 plain_first : (x : Equation) (qs : List Equation) (q : Equation) → (Among (plain_equations qs) q → Among qs q) → Among (plain_equations (x ∷ qs)) q → Among (x ∷ qs) q
 plain_first x qs q rest i = by_test (relates_aliases x) refl
@@ -47,27 +47,6 @@ pub plain_met : (c : Content) (x : Candidate) → IsCandidateMet c x → IsCandi
 plain_met c x m =
     record { world = m.world; solves = m.solves; values = m.values; fit = m.fit; named = m.named; equal = λ q i. m.equal q (plain_among x.equations q i) }
 
-pub part_met : (mode : Mode) (c : Content) (x : Candidate) → IsCandidateMet c x → IsCandidateMet c (equated_part mode x)
-part_met coherence c x m = m
-part_met post_analysis c x m = plain_met c x m
-part_met erased c x m = plain_met c x m
-part_met (analysis is) c x m = plain_met c x m
-part_met (borrowck is) c x m = plain_met c x m
-part_met (post_borrowck is) c x m = plain_met c x m
-
 -- where no equation relates aliases, all is made equal at once
 pub plain_is : (x : Candidate) → HasPlainEquations x → plain_part x ≡ x
 plain_is x h = (let e = all_plain_equations x.equations h in λ i. record x { equations = e i })
-
-pub part_is : (mode : Mode) (x : Candidate) → (mode ≡ coherence) ⊎ HasPlainEquations x → equated_part mode x ≡ x
-part_is coherence x h = refl
-part_is post_analysis x (inr h) = plain_is x h
-part_is post_analysis x (inl e) = cc e
-part_is erased x (inr h) = plain_is x h
-part_is erased x (inl e) = cc e
-part_is (analysis is) x (inr h) = plain_is x h
-part_is (analysis is) x (inl e) = cc e
-part_is (borrowck is) x (inr h) = plain_is x h
-part_is (borrowck is) x (inl e) = cc e
-part_is (post_borrowck is) x (inr h) = plain_is x h
-part_is (post_borrowck is) x (inl e) = cc e

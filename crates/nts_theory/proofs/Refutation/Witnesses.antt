@@ -19,6 +19,7 @@ use Rattle.nts_model.specs.Refutation.Coherence.{RulesAreOffered}
 use Rattle.nts_theory.specs.Refutation.Refutation.{IsFair, RespectsLeaks, IsTheory}
 use Rattle.nts_model.proofs.Tables.Instances.{Agrees-trans}
 use Rattle.nts_model.proofs.Tables.Slots.{KeepsKinds-refl, KeepsKinds-trans}
+use Rattle.nts_theory.proofs.Refutation.PlainParts.{plain_met}
 use Rattle.nts_theory.proofs.Refutation.AskingWorlds.{image, contained_granted}
 use Rattle.nts_model.proofs.Lists.{among_left, among_right}
 use Rattle.nts_theory.proofs.Refutation.Answered.{AreTermsOf, askable, asked_solution, asked_refuses, asked_extends, kept_same, among_split}
@@ -155,7 +156,7 @@ module _ (Q : Queries) (begins : BeginsEach Q) (h : Handler) (truth : Truth) (Pr
         some_says ks c met found w e g qs v ps t is s b (reaches_keep reach b.terms) says
 
     fails_never : {k : GoalKind} {c : Content} {e : Tree} {x : Candidate} → Fails Q h coherence k c e x → (w : World) → IsSolution truth 0 c w → CanBegin truth Proves c w x → ⊥
-    fails_never (is_unmet n) w s k = n k.is_met
+    fails_never {c = c} {x = x} (is_unmet n) w s k = n (plain_met c x k.is_met)
     fails_never {c = c} {x = x} (has_types_apart y) w s k = apart_unmet c x y k.is_met
     fails_never (is_unrelated outside n) w s k = outside refl
     fails_never {c = c} {e = e} {x = x} (is_refused ps met begun refused) w s k =

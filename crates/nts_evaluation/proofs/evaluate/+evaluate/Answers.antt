@@ -21,7 +21,7 @@ use Rattle.nts_meaning.proofs.Running.{constraints-kept}
 use Rattle.nts_theory.specs.Telling.{IsPlainResponse, SaysNothing}
 use Rattle.nts_theory.specs.Telling.Tells.{tells_nothing, says_nothing}
 use Rattle.nts_theory.specs.Telling.Fails.{is_unmet}
-use Rattle.nts_theory.proofs.Refutation.PlainParts.{part_is}
+use Rattle.nts_theory.proofs.Refutation.PlainParts.{plain_is}
 use Rattle.nts_model.specs.Refutation.Choosing.{IsCandidateMet}
 use Rattle.nts_trying.proofs.Opened.{nothing_through, labels_through, labels_entered, opened_holds, outlives_told, outlives_through}
 use Rattle.nts_decisions.proofs.OpenedStatements.{trait_outlives_nothing}
@@ -741,7 +741,7 @@ try_candidate-returns-in_err-values g t c =
       told = λ s tells. IfOk-from_err c.from_residual.result _ fails;
       refuted = λ s tells n.
           let no : c.equate.result ≡ Err EvalError.NoSolution = search rules in
-          is_unmet (λ met. c.equate.ensures.unmet no (subst (IsCandidateMet (content_of c.args.cx.now.nodes c.args.table.now.entries)) (part_is (mode_of c.args.table.now.mode) (candidate_of c.args.cx.now.nodes c.args.candidate.now) (c.needs_relating.ensures.no c.if-needs_relating.false)) met));
+          is_unmet (λ met. c.equate.ensures.unmet no (subst (IsCandidateMet (content_of c.args.cx.now.nodes c.args.table.now.entries)) (plain_is (candidate_of c.args.cx.now.nodes c.args.candidate.now) (c.needs_relating.ensures.no c.if-needs_relating.false)) met));
       decided = λ s n b d can.
           decides_refused c.from_residual.result fails
           (λ no.
@@ -827,5 +827,8 @@ try_relating-returns-in_err-certainty = relating.try_relating-returns-in_err-cer
 pub try_relating-returns : goal.try_relating-returns
 try_relating-returns = relating.try_relating-returns
 
+pub try_candidate-returns-then-matches : goal.try_candidate-returns-then-matches
+try_candidate-returns-then-matches = relating.try_candidate-returns-then-matches
+
 pub try_candidate-try_relating-requires : goal.try_candidate-try_relating-requires
-try_candidate-try_relating-requires g t c = λ κs k. (omega (arith, c.decreases), (k, (c.requires.posed, (c.requires.ready, (c.requires.candidate, ((c.needs_relating.ensures.yes c.if-needs_relating.true).0, ((c.needs_relating.ensures.yes c.if-needs_relating.true).1, c.requires.search)))))))
+try_candidate-try_relating-requires g t c = λ κs k. (omega (arith, c.decreases), (k, (c.requires.posed, (c.requires.ready, (c.requires.candidate, (search rules, (c.needs_relating.ensures.yes c.if-needs_relating.true, c.requires.search)))))))

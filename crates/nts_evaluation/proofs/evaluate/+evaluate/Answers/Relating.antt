@@ -1,15 +1,13 @@
 -- Candidates of whose equations some relate aliases.
-use Rattle.std.proofs.Common.{◌≡◌, Err, Ok, inr, ⊎_elim, arith, rules, true, ap, sym, ◌∙◌, subst}
+use Rattle.std.proofs.Common.{◌≡◌, Err, Ok, inl, inr, ⊎_elim, arith, rules, true, ap, sym, ◌∙◌, subst}
 use Rattle.std.specs.Result.{is_err}
 use Rattle.std.proofs.lemmas.Result.{IfOk-from_err}
 use Rattle.nts_model.specs.Derivations.Handlers.{meaning}
-use Rattle.nts_model.specs.Refutation.Choosing.{IsCandidateMet}
 use Rattle.nts_theory.specs.Telling.Fails.{is_unmet, is_unrelated, is_refused}
-use Rattle.nts_evaluation.proofs.Serving.{part_outside}
 use Rattle.nts_store.specs.declared.fault.EvalError.TheVariants as EvalError
 use Rattle.nts_terms.specs.Modes.{mode_of}
 use Rattle.nts_unify.specs.Reading.{content_of}
-use Rattle.nts_candidates.specs.Offered.{candidate_of, certainty_of}
+use Rattle.nts_candidates.specs.Offered.{certainty_of}
 use Rattle.nts_meaning.specs.Evaluation.{goals_at}
 use Rattle.nts_meaning.specs.Meant.{ruling_since}
 use Rattle.nts_meaning.specs.Searching.{assumed_in}
@@ -20,7 +18,35 @@ use Rattle.nts_meaning.proofs.Searching.{Searches-refl, search_grows, tell_grown
 use Rattle.nts_trying.proofs.HeldRelating.{relating_holds}
 use Rattle.nts_trying.proofs.Ran.{proved_all, ok_inside}
 use Rattle.nts_trying.proofs.Stepping.{stopped_refused}
+use Rattle.std.specs.Prelude.{Result, IfOk}
+use Rattle.nts_model.specs.Derivations.Rules.{coherence}
+use Rattle.nts_theory.specs.Telling.Reaches.{asks_nothing}
+use Rattle.nts_candidates.proofs.Results.{OnOk-map}
+use Rattle.nts_certainty.specs.Certainties.{ambiguous}
+use Rattle.nts_certainty.specs.declared.certainty.Certainty.{Certainty}
+use Rattle.nts_certainty.specs.declared.certainty.Certainty.TheVariants as certainty
+use Rattle.nts_store.specs.declared.fault.EvalError.{EvalError as EvalFault}
 use Rattle.nts_evaluation.proofs.evaluate.+evaluate.Goals as goal
+
+-- what is in doubt is no yes
+doubt_no_yes : (r : Result Certainty EvalFault) → IfOk r (λ y. y ≡ ambiguous) → r ≡ Ok certainty.Yes → ⊥
+doubt_no_yes r h e = (let same : certainty.Yes ≡ ambiguous = subst (λ z. IfOk z (λ y. y ≡ ambiguous)) e h in cc same)
+
+-- in coherence such a candidate is begun in part, and in doubt
+pub try_candidate-returns-then-matches : goal.try_candidate-returns-then-matches
+try_candidate-returns-then-matches g t c =
+    let b = c.begin_in_part.ensures in
+    let some = c.needs_relating.ensures.yes c.if-needs_relating.true in
+    let inside : mode_of c.args.table.now.mode ≡ coherence = search rules in
+    record {
+      runs = b.runs;
+      searches = Searches-refl c.args.depth c.requires.search (ran b.runs);
+      labels = OnOk-map c.begin_in_part.result (λ h. h.labels) b.begins;
+      proved = λ s y. absurd (doubt_no_yes c.begin_in_part.result b.doubt y);
+      told = λ s tells. OnOk-map c.begin_in_part.result (λ h. record { left = h.left; met = content_of c.begin_in_part.new.cx.nodes c.begin_in_part.new.table.entries; begun = inr (inr (inside, h.begun)); reaches = asks_nothing }) b.begins;
+      refuted = λ s tells n. is_unmet (b.no n);
+      decided = λ s n k d can. absurd (some d.plain);
+    }
 
 pub try_relating-returns-in_err-goals : goal.try_relating-returns-in_err-goals
 try_relating-returns-in_err-goals g t c =
@@ -33,10 +59,8 @@ try_relating-returns-in_err-goals g t c =
       told = λ s tells. IfOk-from_err c.from_residual.result _ fails;
       refuted = λ s tells n.
           let no : c.begin_relating.result ≡ Err EvalError.NoSolution = search rules in
-          let mode = mode_of c.args.table.now.mode in
-          let x = candidate_of c.args.cx.now.nodes c.args.candidate.now in
           ⊎_elim
-          (λ u. is_unmet (λ met. u (subst (IsCandidateMet (content_of c.args.cx.now.nodes c.args.table.now.entries)) (part_outside mode x c.requires.outside) met)))
+          (λ u. is_unmet u)
           (λ u. is_unrelated c.requires.outside (rw s.declared u))
           (c.begin_relating.ensures.no no);
       decided = λ s n b d can. absurd (c.requires.some d.plain);
@@ -80,7 +104,7 @@ try_relating-returns-in_err-certainty g t c =
           let h = ruling_since (λ ts. g.H.GoalHandler.handler ts c.args.handler.now) s in
           let refused : c.try_evaluate_goals.result ≡ Err EvalError.NoSolution = search rules in
           let no = stopped_refused u c.args.graph.now c.goal_kind-kind.result (e.refuted (Since-later (ran b.runs) s) (tell_grown h c.args.depth c.requires.search (ran b.runs) tells) refused) in
-          is_refused (goals_at m.nodes c.in_ok-goals.goals.items) (content_of m.nodes u.entries) (inr (c.requires.outside, rw s.declared begins.begun)) (rw (b.runs.goes.mode, c.goal_kind-kind.ensures.kind s.base s.variances) at no);
+          is_refused (goals_at m.nodes c.in_ok-goals.goals.items) (content_of m.nodes u.entries) (inr (inl (c.requires.outside, rw s.declared begins.begun))) (rw (b.runs.goes.mode, c.goal_kind-kind.ensures.kind s.base s.variances) at no);
       decided = λ s n k d can. absurd (c.requires.some d.plain);
     }
 
@@ -110,7 +134,7 @@ try_relating-returns g t c =
           record {
             left = goals_at m.nodes gs;
             met = content_of m.nodes u.entries;
-            begun = inr (c.requires.outside, rw s.declared begins.begun);
+            begun = inr (inl (c.requires.outside, rw s.declared begins.begun));
             reaches = rw b.runs.goes.mode at (e.told (Since-later (ran b.runs) s) (tell_grown h c.args.depth c.requires.search (ran b.runs) tells));
           };
       refuted = search rules;

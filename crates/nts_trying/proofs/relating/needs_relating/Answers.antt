@@ -3,7 +3,7 @@ use Rattle.std.proofs.lemmas.List.{take_all, take_more}
 use Rattle.nts_candidates.specs.declared.data.Equation.{Equation}
 use Rattle.nts_meaning.proofs.Evaluating.{equation_at}
 use Rattle.nts_trying.proofs.RelatedAliases.{some_aliased, none_aliased, aliased_no}
-use Rattle.nts_trying.proofs.relating.relates_some.Goals as goal
+use Rattle.nts_trying.proofs.relating.needs_relating.Goals as goal
 
 pub relates-requires-clause-left : goal.relates-requires-clause-left
 relates-requires-clause-left c =
