@@ -1,13 +1,22 @@
 -- What stands for goals that are added, by example.
 use Rattle.std.proofs.Common.{◌≡◌, ℕ, suc, List, [], ◌∷◌, length, inl, refl, sym, ◌∙◌, arith}
 use Rattle.nts_model.specs.declared.labels.Sort.{Sort}
+use Rattle.nts_model.specs.declared.labels.Sort.TheVariants as sort
+use Rattle.nts_model.specs.declared.labels.AliasHead.TheVariants as alias_of
+use Rattle.nts_model.specs.declared.labels.Variance.TheVariants as variance
+use Rattle.nts_model.specs.declared.labels.VariableKind.TheVariants as variable
 use Rattle.nts_model.specs.Terms.Trees.{Tree, empty, more, IsClosed, variable_tree}
-use Rattle.nts_model.specs.Derivations.Related.{IsAlias}
+use Rattle.nts_model.specs.Tables.Resolving.{Knows}
+use Rattle.nts_model.specs.Derivations.Related.{alias, IsAlias}
 use Rattle.nts_model.specs.Derivations.Rules.{chosen, kept_empty, kept_more, kept_node}
 use Rattle.nts_store.specs.declared.nodes.NodeId.{NodeId}
+use Rattle.nts_terms.specs.declared.handles.Goal.{Goal}
 use Rattle.nts_terms.specs.declared.handles.ParamEnv.{ParamEnv}
-use Rattle.nts_unify.specs.Entries.{Entries}
+use Rattle.nts_unify.specs.Entries.{Entries, added}
+use Rattle.nts_unify.specs.Reading.{content_of}
 use Rattle.nts_table.specs.Fresh.{variable_kind, fresh_row}
+use Rattle.nts_table.specs.Making.{new_variable}
+use Rattle.nts_variance.specs.Goals.{goal_of}
 use Rattle.nts_adding.specs.Equal.{IsEqualToNew}
 use Rattle.nts_adding.specs.Putting.{HasPut, equal_pair, AreVariables}
 
@@ -40,3 +49,41 @@ shared_no e f a b v h = by_sorts h.sorts h.row
 -- that an alias is equal to a variable is one goal, and not none
 pub equal_without_goal : (ts us : List Tree) (e f : Entries) (env : ParamEnv) (x v : NodeId) → IsEqualToNew ts us e f env x v [] → ⊥
 equal_without_goal ts us e f env x v h = h.equal
+
+-- an alias in a table without variables: the first variable, and the goal that the two are equal
+abbrev pub item : Tree
+item = alias (alias_of.Ty 0) empty
+
+abbrev first_variable : Tree
+first_variable = variable_tree variable.Ty 0
+
+abbrev asked : Tree
+asked = goal_of (record { variance = variance.Invariant; left = item; right = first_variable })
+
+abbrev pub no_entries : Entries
+no_entries = record { variables = []; order = []; universe = 0; constraints = []; hidden = record { lookup = []; duplicates = [] } }
+
+abbrev pub one_goal : ParamEnv → Goal
+one_goal env = record { param_env = env; predicate = record { node = record { number = 2 } } }
+
+abbrev pub one_entry : Entries
+one_entry = added no_entries (new_variable no_entries variable.Ty)
+
+abbrev pub grown : List Tree
+grown = item ∷ first_variable ∷ asked ∷ []
+
+-- the three are of the table: the one variable is its first, nothing else is bound or named
+item_known : Knows (content_of grown one_entry) item
+item_known = ((tt, tt, refl), (((tt, tt, refl), tt, tt), tt), tt)
+
+variable_known : Knows (content_of grown one_entry) first_variable
+variable_known = ((refl, tt, refl), tt, tt)
+
+asked_known : Knows (content_of grown one_entry) asked
+asked_known = ((tt, tt, refl), (((tt, tt, refl), tt, tt), (((tt, tt, refl), (item_known, (variable_known, tt)), tt), tt)), ((tt, tt), ((tt, ((tt, ((tt, tt), tt)), ((tt, tt), tt))), tt)))
+
+pub equal_by_a_goal : (env : ParamEnv) → IsEqualToNew (item ∷ []) grown no_entries one_entry env (record { number = 0 }) (record { number = 1 }) (one_goal env ∷ [])
+equal_by_a_goal env = record {
+  fresh = record { sort = sort.Ty; is = refl; tree = refl; entries = refl };
+  equal = (record { param_env = refl; holds = record { within = omega (arith); fits = refl }; knows = asked_known; tree = refl }, tt);
+}

@@ -2,7 +2,7 @@ pub mod Loose
 pub mod Walked
 pub mod Known
 pub mod Added
-mod AddingExamples
+pub mod AddingExamples
 pub mod NewVariables
 pub mod Rigidly
 pub mod Relating
