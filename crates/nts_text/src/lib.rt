@@ -5,7 +5,9 @@
 //! nesting of a type, so a line may nest as deeply as memory allows.
 #![tactic(auto)]
 
+mod arguments;
 mod commands;
+mod kinds;
 mod known;
 mod lexer;
 mod names;

@@ -1,8 +1,9 @@
 //! Predicates, as the grammar reads them.
 
 ghost use Rattle.std.specs.Prelude.{◌≡◌, ◌<◌, ◌≤◌, ◌+◌, ◌^◌, true, not, ◌==◌, ◌&&◌, ◌++◌, if◌then◌else◌, is_some, is_none, length, map, filter, reverse, All, Contains, IfOk, IfSome, OnOk};
-ghost use Rattle.nts_text.specs.Predicates.{is_bound_token, is_marked, is_name, is_equals, is_region, is_sign, is_type, is_word, ends_item, is_complete, may_have_colon, may_have_equals, needs_equals, is_right, is_value, may_sign, may_follow, may_follow_bound, may_stand, binding_before, binding_behind, first_side, side_behind, is_many, before_first_of, are_predicates, kind_before, sign_before, taken_sign, trees_before, outlives_role, behind_sign, written_nodes, is_forest};
+ghost use Rattle.nts_text.specs.Predicates.{is_name, is_equals, is_word, ends_item, is_complete, may_have_colon, may_have_equals, needs_equals, is_right, is_value, may_sign, may_follow, may_follow_bound, may_stand, binding_before, binding_behind, first_side, side_behind, is_many, before_first_of, are_predicates, kind_before, sign_before, taken_sign, trees_before, outlives_role, behind_sign, written_nodes, is_forest};
 
+use crate::kinds::{is_bound, is_marked, is_region, is_sign, is_type, is_word};
 use crate::lexer::{Token, TokenKind};
 use std::alloc::{AllocError, Global};
 
@@ -66,56 +67,6 @@ pub enum Side {
     Region,
     /// Behind an `=`.
     Type,
-}
-
-fn is_marked(kind: TokenKind) -> bool
-    ensures { result ≡ is_marked kind }
-{
-    matches!(
-        kind,
-        TokenKind::TypeVariable
-            | TokenKind::TypeParam
-            | TokenKind::RegionVariable
-            | TokenKind::RegionParam
-            | TokenKind::Static
-    )
-}
-
-fn is_word(kind: TokenKind) -> bool
-    ensures { result ≡ is_word kind }
-{
-    kind == TokenKind::Name || is_marked(kind)
-}
-
-fn is_region(kind: TokenKind) -> bool
-    ensures { result ≡ is_region kind }
-{
-    matches!(
-        kind,
-        TokenKind::RegionVariable | TokenKind::RegionParam | TokenKind::Static
-    )
-}
-
-/// A type begins with it.
-fn is_type(kind: TokenKind) -> bool
-    ensures { result ≡ is_type kind }
-{
-    is_word(kind) && !is_region(kind)
-}
-
-fn is_sign(kind: TokenKind) -> bool
-    ensures { result ≡ is_sign kind }
-{
-    matches!(kind, TokenKind::Colon | TokenKind::Equals)
-}
-
-fn is_bound(kind: TokenKind) -> bool
-    ensures { result ≡ is_bound_token kind }
-{
-    matches!(
-        kind,
-        TokenKind::Name | TokenKind::RegionParam | TokenKind::Static
-    )
 }
 
 /// Whether this may stand behind a complete argument or predicate.

@@ -1,15 +1,16 @@
 //! Predicates whose names have become numbers.
-ghost use Rattle.std.specs.Prelude.{◌≡◌, ◌≢◌, ◌<◌, vec_len, true, None, Some, Err, ◌++◌, ◌∷◌, [], length, reverse, All, IfOk, IfErr, IsErr, OnOk};
+ghost use Rattle.std.specs.Prelude.{◌≡◌, ◌≢◌, true, None, Some, Err, ◌++◌, ◌∷◌, [], length, reverse, All, IfOk, IfErr, IsErr, OnOk};
 ghost use Rattle.nts_text.specs.Binders.{BoundNames, bound_names, bound_behind, nothing_bound};
 ghost use Rattle.nts_text.specs.Faults.{IsUnknown, HasFreeName, IsBoundTwice, HasBoundTwice, IsRigidAlias, HasRigidAlias};
 ghost use Rattle.nts_text.specs.Spelled.{KeepsNames};
 ghost use Rattle.nts_text.specs.Reasons.{is_name_reason};
 ghost use Rattle.nts_text.specs.Tokens.{IsInside};
-ghost use Rattle.nts_text.specs.Resolution.{alias_sorts, argument_sorts, sort_of, role_of, IsDeclared, IsMeaningOf, IsNoVariable, AreMeanings, AreSorted};
+ghost use Rattle.nts_text.specs.Resolution.{argument_sorts, sort_of, role_of, IsDeclared, IsMeaningOf, IsNoVariable, AreMeanings, AreSorted};
 ghost use Rattle.nts_text.specs.declared.names.Scope.{Scope};
 ghost use Rattle.nts_text.specs.declared.refusals.TextError.TheVariants.{Refused};
 ghost use Rattle.nts_text.specs.declared.refusals.Refusal.TheVariants.{AliasIsRigid, NameDeclaredTwice, ParameterInAClause, UnknownName, VariableInAnEnvironment, WrongArguments};
 
+use crate::arguments::want_arguments;
 use crate::known::{
     allows_parameter, allows_variable, declared, named_type, normalized, predicate, refused,
 };
@@ -362,55 +363,6 @@ impl Reading<'_> {
             // No text is a const, and no line has nodes in other places.
             _ => refused(Refusal::WrongArguments),
         }
-    }
-}
-
-/// The sorts on the sides of a colon.
-const TYPE_AND_REGION: [Sort; 2] = [Sort::Ty, Sort::Region];
-
-const TWO_REGIONS: [Sort; 2] = [Sort::Region, Sort::Region];
-
-/// Adds sorts to those that are wanted, the first one last.
-fn want_all(wanted: &mut Vec<Sort>, sorts: &[Sort]) -> Result<(), AllocError>
-    ensures { OnOk result (wanted.new.items ≡ wanted.old.items ++ reverse sorts.now) }
-{
-    let mut at = sorts.len();
-    while at > 0 {
-        at -= 1;
-        wanted.push(sorts[at])?;
-    }
-    Ok(())
-}
-
-/// The sorts of an alias's arguments.
-fn alias_sorts(names: &NameTable, number: usize) -> &[Sort]
-    requires { number < vec_len names.now.aliases }
-    ensures { result.now ≡ alias_sorts names.now number }
-{
-    &names.aliases[number].sorts
-}
-
-/// Adds the sorts of a node's arguments to those that are wanted, the first one last.
-fn want_arguments(
-    wanted: &mut Vec<Sort>,
-    names: &NameTable,
-    node: Resolved,
-) -> Result<(), AllocError>
-    requires { IsDeclared names.now node }
-    ensures { OnOk result (wanted.new.items ≡ wanted.old.items ++ reverse
-        (argument_sorts names.now node)) }
-{
-    match node {
-        Resolved::Trait { number, .. } => want_all(wanted, &names.traits[number].sorts),
-        Resolved::Ctor { number, .. } => want_all(wanted, &names.types[number].sorts),
-        Resolved::Alias { number, .. } => want_all(wanted, alias_sorts(names, number)),
-        Resolved::Normalizes { number, .. } => {
-            wanted.push(Sort::Ty)?;
-            want_all(wanted, alias_sorts(names, number))
-        }
-        Resolved::TypeOutlives => want_all(wanted, &TYPE_AND_REGION),
-        Resolved::RegionOutlives => want_all(wanted, &TWO_REGIONS),
-        _ => Ok(()),
     }
 }
 

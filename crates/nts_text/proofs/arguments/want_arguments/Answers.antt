@@ -2,7 +2,7 @@ use Rattle.std.proofs.Common.{◌≡◌, ◌++◌, ◌∷◌, [], reverse, OnOk,
 use Rattle.nts_model.specs.declared.labels.Sort.TheVariants.{Ty}
 use Rattle.nts_text.specs.Resolution.{argument_sorts}
 use Rattle.nts_text.proofs.SortLemmas.{wanted_with}
-use Rattle.nts_text.proofs.resolver.want_arguments.Goals as goal
+use Rattle.nts_text.proofs.arguments.want_arguments.Goals as goal
 
 -- the value of an alias is wanted behind its arguments
 pub returns-in_ok-push-in-Normalizes : goal.returns-in_ok-push-in-Normalizes
