@@ -14,13 +14,11 @@ use indexmap::IndexSet;
 use itoa::Buffer;
 use nts_certainty::{Certainty, MaybeCause};
 use nts_delegate::Reason;
-use nts_model::{
-    BoundVarIndexKind, Constant, FreeRegion, IntTy, Label, Leaf, Sort, TyHead, UintTy, VariableKind,
-};
+use nts_model::{BoundVarIndexKind, Constant, FreeRegion, Label, Leaf, Sort, TyHead, VariableKind};
 use nts_store::NodeId;
 use nts_terms::{BoundVars, ClauseKind, Cx, Goal, PredicateKind, TraitRef};
-use nts_text::{NameTable, Scope, Signature};
-use nts_wording::{LineVariables, Stop, put_answer};
+use nts_text::{NameTable, Scope};
+use nts_wording::{LineVariables, Stop, int_name, put_answer, spelling, type_name, uint_name};
 use std::alloc::{AllocError, Global};
 use std::io::Write;
 
@@ -219,7 +217,7 @@ impl Wording<'_> {
         ensures begins { Begins (W.contents output.old) (W.contents output.new) }
     {
         let names = self.names;
-        self.write(name_of(&names.traits, trait_ref.def_id.number))?;
+        self.write(type_name(&names.traits, trait_ref.def_id.number))?;
         let mut pieces = Vec::new(self.cx.alloc);
         self.open(trait_ref.args.node, &mut pieces)?;
         self.all_pieces(output, &mut pieces)
@@ -295,11 +293,11 @@ impl Wording<'_> {
             Label::Ty(TyHead::Uint(uint)) => self.write(uint_name(uint)),
             Label::Ty(TyHead::Ctor(number)) => {
                 let names = self.names;
-                self.declared(name_of(&names.types, number), term, pieces)
+                self.declared(type_name(&names.types, number), term, pieces)
             }
             Label::Ty(TyHead::Alias(number)) => {
                 let names = self.names;
-                self.declared(name_of(&names.aliases, number), term, pieces)
+                self.declared(type_name(&names.aliases, number), term, pieces)
             }
             _ => self.write(b"_"),
         }
@@ -462,43 +460,5 @@ fn doubt_words(cause: MaybeCause) -> &'static [u8]
     match cause {
         MaybeCause::Ambiguity => b"maybe ambiguity",
         MaybeCause::Overflow { .. } => b"maybe overflow",
-    }
-}
-
-/// The name with this number.
-fn spelling(names: &IndexSet<Vec<u8>>, number: usize) -> Option<&[u8]> {
-    match names.get_index(number) {
-        Some(name) => Some(name.as_slice()),
-        None => None,
-    }
-}
-
-/// The name of a declared type, trait or alias.
-fn name_of(declared: &[Signature], number: usize) -> &[u8] {
-    match declared.get(number) {
-        Some(signature) => &signature.name,
-        None => b"",
-    }
-}
-
-fn int_name(int: IntTy) -> &'static [u8] {
-    match int {
-        IntTy::I8 => b"i8",
-        IntTy::I16 => b"i16",
-        IntTy::I32 => b"i32",
-        IntTy::I64 => b"i64",
-        IntTy::I128 => b"i128",
-        IntTy::Isize => b"isize",
-    }
-}
-
-fn uint_name(uint: UintTy) -> &'static [u8] {
-    match uint {
-        UintTy::U8 => b"u8",
-        UintTy::U16 => b"u16",
-        UintTy::U32 => b"u32",
-        UintTy::U64 => b"u64",
-        UintTy::U128 => b"u128",
-        UintTy::Usize => b"usize",
     }
 }

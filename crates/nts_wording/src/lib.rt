@@ -22,3 +22,4 @@ pub use printer::write_answer;
 pub use sentences::{clause_of, environment_of, goal_of, norm_clause_of};
 pub use status::{Status, Stop};
 pub use variables::LineVariables;
+pub use words::{int_name, spelling, type_name, uint_name};

@@ -48,7 +48,7 @@ pub fn value_at(values: &[GenericArg], place: usize) -> Option<NodeId>
     Some(values.get(place)?.node)
 }
 
-/// The name with this number.
+/// The name with this number, if there is one.
 pub fn spelling(names: &IndexSet<Vec<u8>>, number: usize) -> Option<&[u8]>
     ensures { option_copied result ≡ slice_get (map (λ v. v.items) names.now.keys) number }
 {
@@ -67,7 +67,7 @@ pub fn is_region_leaf(leaf: Leaf) -> bool
     )
 }
 
-/// The name of a declared type or alias.
+/// The name of what is declared with this number, and no text where nothing is.
 pub fn type_name(declared: &[Signature], number: usize) -> &[u8]
     ensures { result.now ≡ type_name declared.now number }
 {
@@ -87,6 +87,7 @@ pub fn relation_word(relation: Relation) -> &'static [u8]
     }
 }
 
+/// The name of a signed integer type.
 pub fn int_name(int: IntTy) -> &'static [u8]
     ensures { result.now ≡ word_of_int int }
 {
@@ -100,6 +101,7 @@ pub fn int_name(int: IntTy) -> &'static [u8]
     }
 }
 
+/// The name of an unsigned integer type.
 pub fn uint_name(uint: UintTy) -> &'static [u8]
     ensures { result.now ≡ word_of_uint uint }
 {
