@@ -59,6 +59,10 @@ pub fn collect(
     ensures { OnOk result (leaves.new ≡ seen (stays_where staying) leaves.old
         (tree_at nodes.now t)) }
 {
+    // Many terms have no leaf, and then nothing is allocated for a walk.
+    if !nodes.flags(t).has_leaf {
+        return Ok(());
+    }
     let mut finished = IndexSet::new(alloc);
     let mut tasks = Vec::new(alloc);
     walk(nodes, staying, leaves, &mut finished, &mut tasks, t)

@@ -91,7 +91,12 @@ pub fn numbered<T: Stored>(
     ensures tree { IfOk result (λ r. tree_at nodes.new (T.id r) ≡ replace (numbered_leaf
         (stays_where staying) leaves.now) (tree_at nodes.old (T.id x))) }
 {
+    let node = x.node();
+    // Many terms have no leaf, and then nothing is allocated for a walk.
+    if !nodes.flags(node).has_leaf {
+        return Ok(x);
+    }
     let numberer = Numberer { leaves, staying };
-    let node = replace(alloc, nodes, &numberer, x.node())?;
+    let node = replace(alloc, nodes, &numberer, node)?;
     Ok(T::from_node(node))
 }

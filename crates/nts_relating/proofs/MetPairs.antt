@@ -1,6 +1,6 @@
 -- Pairs that a call of relating met before may be passed over.
-use Rattle.std.proofs.Common.{◌≡◌, ℕ, ◌+◌, ◌<◌, ◌≤◌, Bool, true, false, List, [], ◌∷◌, ◌++◌, None, refl, sym, ap, ◌∙◌, subst, arith, rules}
-use Rattle.std.specs.Prelude.{IsTrue, ◌↔◌, ◌&&◌}
+use Rattle.std.proofs.Common.{◌≡◌, ◌⊎◌, inl, inr, ℕ, ◌+◌, ◌<◌, ◌≤◌, Bool, true, false, List, [], ◌∷◌, ◌++◌, None, refl, sym, ap, ◌∙◌, subst, arith, rules}
+use Rattle.std.specs.Prelude.{IsTrue, ◌↔◌, ◌&&◌, not}
 use Rattle.std.specs.List.{list_any}
 use Rattle.nts_model.specs.declared.labels.Label.{Label}
 use Rattle.nts_model.specs.Terms.Trees.{Tree, node, size, children, variable_of}
@@ -26,14 +26,15 @@ use Rattle.nts_unify.specs.Entries.{Entries}
 use Rattle.nts_unify.specs.Reading.{content_of, IsLawful}
 use Rattle.nts_unify.specs.Changing.{IsLater, is_free_region}
 use Rattle.nts_relating.specs.Met.{OnenessJudge, of_world, of_table, IsJudgeOf, judged_size, JudgesOne, OneBelow, IsOneAfter, AreOneAfter}
-use Rattle.nts_relating.specs.Relating.{IsOpen, IsClosedHead, VariablesRelate, sides_at, all_sides_at, Pushed, IsValid, IsMemo}
+use Rattle.nts_relating.specs.Relating.{IsOpen, IsClosedHead, VariablesRelate, sides_at, all_sides_at, Pushed, IsValid, IsMemo, IsNoted}
 use Rattle.nts_unify.proofs.Keeping.{Knows-later, IsLater-refl}
 use Rattle.nts_relating.proofs.GenLemmas.{IsFair, unchanged}
 use Rattle.nts_relating.proofs.Naming.{lawful_sides, alone_label}
 use Rattle.nts_model.proofs.Tables.Bringing.{brings-of, brings-refl}
 use Rattle.nts_relating.proofs.Plain.{plain_refl}
-use Rattle.nts_relating.proofs.PairLemmas.{Stepped, PairsBring-last, last_pair, all_sides_at-push, all_sides_at-extended, ArePairsIn-push, ArePairsIn-extended, Equates-push, Equates-front, AllAlike-push, total-last, not_infer, variables_related, variable_same}
+use Rattle.nts_relating.proofs.PairLemmas.{Stepped, PairsBring-last, last_pair, all_sides_at-push, all_sides_at-extended, ArePairsIn-push, ArePairsIn-front, ArePairsIn-extended, Equates-push, Equates-front, AllAlike-push, total-last, not_infer, variables_related, variable_same}
 use Rattle.nts_store.proofs.Equal.{same_id}
+use Rattle.nts_unify.proofs.Tests.{is_true, is_false}
 
 -- nodes that are no variables
 judged-node : (j : OnenessJudge) (l : Label) (x : Tree) → variable_of l ≡ None → judged_size j (node l x) ≡ judged_size j x + 1
@@ -207,6 +208,28 @@ met_keys ms p h = rw h refl
 
 pub new_keys : (ms : List Pair) (p : Pair) → list_any (pair_eq.ghosts.eq p) ms ≡ false → insert_key pair_eq.ghosts.eq ms p ≡ ms ++ p ∷ []
 new_keys ms p h = rw h refl
+
+-- what the table of pairs says of one that is noted in it
+pub noted : (ms ns : List Pair) (p : Pair) (is_new : Bool) → is_new ≡ not (list_any (pair_eq.ghosts.eq p) ms) → ns ≡ insert_key pair_eq.ghosts.eq ms p → IsNoted ms ns p is_new
+noted ms ns p is_new added keys = record {
+  known = λ f. (let found = is_true _ _ added f in (found, keys ∙ met_keys ms p found));
+  new = λ t. inr (keys ∙ new_keys ms p (is_false _ _ added t));
+}
+
+-- a pair that is left out
+front_met : (c : Content) (left ps : List (Tree × Tree)) (p : Tree × Tree) → AreOneAfter c left (ps ++ p ∷ []) → AreOneAfter c left ps
+front_met c left [] p h = tt
+front_met c left (q ∷ ps) p h = (h.0, front_met c left ps p h.1)
+
+pub memo_noted : (ts : List Tree) (e : Entries) (qs ms ns : List Pair) (p : Pair) → (ns ≡ ms) ⊎ (ns ≡ ms ++ p ∷ []) → IsMemo ts e qs (ms ++ p ∷ []) → IsMemo ts e qs ns
+memo_noted ts e qs ms ns p (inl same) o =
+    let c = content_of ts e in
+    let met : AreOneAfter c (all_sides_at ts qs) (all_sides_at ts ms ++ sides_at ts p ∷ []) = rw (all_sides_at-push ts ms p) at o.met in
+    rw same (record {
+      within = (ArePairsIn-front ts ms p o.within).0;
+      met = front_met c (all_sides_at ts qs) (all_sides_at ts ms) (sides_at ts p) met;
+    })
+memo_noted ts e qs ms ns p (inr longer) o = rw longer o
 
 -- a pair that was met is passed over
 pub record Passed (ts : List Tree) (e : Entries) (ps ms : List Pair) (p : Pair) : Type 0 where

@@ -56,7 +56,7 @@ pub ArePairsIn-push : (ts : List Tree) (ps : List Pair) (p : Pair) → ArePairsI
 ArePairsIn-push ts [] p h l r = (l, r, tt)
 ArePairsIn-push ts (q ∷ ps) p h l r = (h.0, h.1, ArePairsIn-push ts ps p h.2 l r)
 
-ArePairsIn-front : (ts : List Tree) (ps : List Pair) (p : Pair) → ArePairsIn ts (ps ++ p ∷ []) → ArePairsIn ts ps × IsIn ts p.left × IsIn ts p.right
+pub ArePairsIn-front : (ts : List Tree) (ps : List Pair) (p : Pair) → ArePairsIn ts (ps ++ p ∷ []) → ArePairsIn ts ps × IsIn ts p.left × IsIn ts p.right
 ArePairsIn-front ts [] p h = (tt, h.0, h.1)
 ArePairsIn-front ts (q ∷ ps) p h = let i = ArePairsIn-front ts ps p h.2 in ((h.0, h.1, i.0), i.1, i.2)
 

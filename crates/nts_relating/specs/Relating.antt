@@ -1,5 +1,6 @@
 -- What the steps of relating do to a table.
-use Rattle.std.specs.Prelude.{◌≡◌, ◌≢◌, ℕ, ◌+◌, ◌≤◌, ◌<◌, List, [], ◌∷◌, Option, Some, None, Bool, true, false}
+use Rattle.std.specs.Prelude.{◌≡◌, ◌≢◌, ◌⊎◌, ℕ, ◌+◌, ◌≤◌, ◌<◌, List, [], ◌∷◌, ◌++◌, Option, Some, None, Bool, true, false}
+use Rattle.std.specs.List.{list_any}
 use Rattle.nts_model.specs.declared.labels.VariableKind.{VariableKind}
 use Rattle.nts_model.specs.declared.labels.VariableKind.TheVariants as kind
 use Rattle.nts_model.specs.declared.labels.Sort.TheVariants as sort
@@ -22,6 +23,7 @@ use Rattle.nts_store.specs.declared.nodes.NodeId.{NodeId}
 use Rattle.nts_store.specs.declared.type_flags.TypeFlags.{TypeFlags}
 use Rattle.nts_store.specs.Growth.{tree_at, IsIn}
 use Rattle.nts_relating.specs.declared.relate.Pair.{Pair}
+use Rattle.nts_relating.specs.contracts.relate.PairPartialEq.TheImpl as pair_eq
 use Rattle.nts_relating.specs.declared.relate.Head.{Head}
 use Rattle.nts_relating.specs.declared.relate.Head.TheVariants.{Open, Closed}
 use Rattle.nts_unify.specs.Entries.{Entries}
@@ -198,6 +200,11 @@ pub record IsValid (ts : List Tree) (e : Entries) (ps : List Pair) : Type 0 wher
 pub record IsMemo (ts : List Tree) (e : Entries) (ps ms : List Pair) : Type 0 where
   pub within : ArePairsIn ts ms
   pub met : AreOneAfter (content_of ts e) (all_sides_at ts ps) (all_sides_at ts ms)
+
+-- whether a pair is new among those that were met. One that is new is noted, or left out
+pub record IsNoted (ms ns : List Pair) (p : Pair) (is_new : Bool) : Type 0 where
+  pub known : is_new ≡ false → (list_any (pair_eq.ghosts.eq p) ms ≡ true) × (ns ≡ ms)
+  pub new : is_new ≡ true → (ns ≡ ms) ⊎ (ns ≡ ms ++ p ∷ [])
 
 -- two variables are one: they were joined, or one got the other as its value. No tree has more closed aliases, or fewer
 pub record AreMadeOne (c d : Content) (x y : ℕ) : Type 0 where

@@ -10,7 +10,7 @@ ghost use Rattle.nts_unify.specs.Entries.{Entries};
 ghost use Rattle.nts_unify.specs.Reading.{content_of, IsLawful, LinksDescend};
 ghost use Rattle.nts_unify.specs.Changing.{region_variable, is_free_region, IsLater};
 ghost use Rattle.nts_unify.specs.Joining.{IsBindable};
-ghost use Rattle.nts_relating.specs.Relating.{IsHeadOfTree, IsClosedHead, IsRegionOf, RegionsRelate, IsSet, Forbids, KeepsApart, AreMadeOne, VariablesRelate, CanTake, IsValid, IsPairStep, IsPairRun, PairsBring, IsMemo, IsPlainIn, KeepsPlain, Pushed, all_sides_at};
+ghost use Rattle.nts_relating.specs.Relating.{IsHeadOfTree, IsClosedHead, IsRegionOf, RegionsRelate, IsSet, Forbids, KeepsApart, AreMadeOne, VariablesRelate, CanTake, IsValid, IsPairStep, IsPairRun, PairsBring, IsMemo, IsNoted, IsPlainIn, KeepsPlain, Pushed, all_sides_at};
 ghost use Rattle.nts_store.specs.declared.fault.EvalError.TheVariants.{NoSolution};
 ghost use Rattle.nts_unify.specs.Entries.{KeepsHidden};
 
@@ -23,7 +23,7 @@ use nts_unify::{
     Constraint, InferCtxtInner, State, Variable, fits, infer_number, is_same, is_same_kind, join,
     join_regions, names_free_region, region_number, takes_variable,
 };
-use std::alloc::Global;
+use std::alloc::{AllocError, Global};
 
 /// Two terms that are to be equal.
 #[derive(Clone, Copy, PartialEq, Eq, Hash)]
@@ -258,6 +258,18 @@ fn push_children(
     Ok(())
 }
 
+/// Notes a pair whose children are to be related, and says whether it was not met before.
+///
+/// While no other pair is left, one can't come again, so it costs no memory.
+fn note(pairs: &[Pair], met: &mut IndexSet<Pair>, pair: Pair) -> Result<bool, AllocError>
+    ensures { IfOk result (λ is_new. IsNoted met.old.keys met.new.keys pair is_new) }
+{
+    if pairs.is_empty() {
+        return Ok(true);
+    }
+    Ok(met.insert(pair)?)
+}
+
 /// Relates two nodes that are no inference variables: two free regions, or one label twice, and then
 /// the children are left, once in a call.
 fn relate_heads(
@@ -307,7 +319,7 @@ fn relate_heads(
     }
     // What was met before is one as soon as the pairs left are: its children are among those, or were
     // made one. So a pair that the terms share is not related once for each of its occurrences.
-    if !met.insert(Pair { left: a, right: b })? {
+    if !note(pairs, met, Pair { left: a, right: b })? {
         return Ok(());
     }
     push_children(nodes, pairs, a, b)?;

@@ -302,6 +302,10 @@ pub fn generalize(
         Blocks (content_of nodes.old table.old.entries) target.variable target.universe
         target.binders (tree_at nodes.old t) }
 {
+    // Many terms are their own values, and then nothing is allocated for a walk.
+    if is_settled(nodes.flags(t), target.binders) {
+        return Ok(t);
+    }
     let root = Part {
         term: t,
         binders: target.binders,

@@ -1,4 +1,4 @@
-use Rattle.std.proofs.Common.{◌≡◌, true, false, sym, ap, ◌∙◌}
+use Rattle.std.proofs.Common.{◌≡◌, ◌++◌, ◌∷◌, [], true, false, refl, sym, ap, ◌∙◌}
 use Rattle.std.specs.Prelude.{get_or}
 use Rattle.nts_model.specs.Terms.Trees.{empty}
 use Rattle.nts_model.specs.Tables.Equations.{AreRelated}
@@ -10,8 +10,7 @@ use Rattle.nts_unify.proofs.Keeping.{KeepsKnowing-refl, IsLater-refl}
 use Rattle.nts_model.proofs.Tables.Bringing.{brings-refl, brings-of}
 use Rattle.nts_relating.proofs.RegionLemmas.{region_of_term}
 use Rattle.nts_relating.proofs.PairLemmas.{Stepped, last_pair, step_kept, step_pushed, heads_same, heads_regions, regions_bring}
-use Rattle.nts_relating.proofs.MetPairs.{Passed, memo_done, memo_pushed, passed_met, met_keys, new_keys}
-use Rattle.nts_unify.proofs.Tests.{is_true, is_false}
+use Rattle.nts_relating.proofs.MetPairs.{Passed, memo_done, memo_pushed, memo_noted, passed_met}
 use Rattle.nts_relating.proofs.RefusalLemmas.{refuse_heads}
 use Rattle.nts_unify.proofs.NodeLemmas.{true_false}
 use Rattle.nts_relating.proofs.relate.relate_heads.Goals as goal
@@ -110,7 +109,7 @@ returns-then-left_count-right_count-clause-no c = λ q.
 -- the pair was met before
 passed : (c : goal.Then-not-branch) → Passed c.args.nodes.now c.args.table.now.entries c.args.pairs.now.items c.args.met.now.keys c.args.pair
 passed c =
-    let found = is_true _ _ c.in_ok-insert.ensures.added c.if-not-branch.true in
+    let found = (c.in_ok-note.ensures.known c.if-not-branch.true).0 in
     passed_met c.args.nodes.now c.args.table.now.entries c.args.pairs.now.items c.args.met.now.keys c.args.pair c.args.a c.args.b c.requires.valid c.requires.left c.requires.right found c.requires.memo
 
 pub returns-then-not-branch-clause-valid : goal.returns-then-not-branch-clause-valid
@@ -121,11 +120,9 @@ returns-then-not-branch-clause-step c = (passed c).stepped.step
 
 pub returns-then-not-branch-clause-memo : goal.returns-then-not-branch-clause-memo
 returns-then-not-branch-clause-memo c =
-    let found = is_true _ _ c.in_ok-insert.ensures.added c.if-not-branch.true in
-    rw (c.in_ok-insert.ensures.keys, met_keys c.args.met.now.keys (record { left = c.args.a; right = c.args.b }) found) (passed c).memo
+    rw (c.in_ok-note.ensures.known c.if-not-branch.true).1 (passed c).memo
 
 pub returns-clause-memo : goal.returns-clause-memo
 returns-clause-memo c =
-    let lacks = is_false _ _ c.in_ok-insert.ensures.added c.if-not-branch.false in
-    memo_pushed c.args.nodes.now c.args.table.now.entries c.args.pairs.now.items c.push_children.new.pairs.items c.args.met.now.keys c.insert.new.self.keys c.args.pair c.args.a c.args.b c.label-left.result c.label-right.result c.requires.valid c.requires.left_in c.requires.right_in c.requires.left c.requires.right c.label-left.ensures.is c.label-right.ensures.is (equal c) (not_free c) c.in_ok-push_children.ensures.pushed
-    (c.in_ok-insert.ensures.keys ∙ new_keys c.args.met.now.keys (record { left = c.args.a; right = c.args.b }) lacks) c.requires.memo
+    memo_noted c.args.nodes.now c.args.table.now.entries c.push_children.new.pairs.items c.args.met.now.keys c.note.new.met.keys (record { left = c.args.a; right = c.args.b }) (c.in_ok-note.ensures.new c.if-not-branch.false)
+    (memo_pushed c.args.nodes.now c.args.table.now.entries c.args.pairs.now.items c.push_children.new.pairs.items c.args.met.now.keys (c.args.met.now.keys ++ record { left = c.args.a; right = c.args.b } ∷ []) c.args.pair c.args.a c.args.b c.label-left.result c.label-right.result c.requires.valid c.requires.left_in c.requires.right_in c.requires.left c.requires.right c.label-left.ensures.is c.label-right.ensures.is (equal c) (not_free c) c.in_ok-push_children.ensures.pushed refl c.requires.memo)

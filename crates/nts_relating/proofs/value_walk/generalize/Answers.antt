@@ -1,12 +1,19 @@
 use Rattle.std.proofs.Common.{◌≡◌, ◌++◌, ◌∷◌, [], refl, ◌∙◌, rules}
 use Rattle.nts_store.proofs.Growing.{Extends-refl, Extends-trans}
 use Rattle.nts_relating.specs.declared.value_walk.Task.TheVariants as task
+use Rattle.nts_store.specs.Growth.{tree_at}
+use Rattle.nts_unify.specs.Reading.{content_of}
 use Rattle.nts_relating.specs.Parts.{made_at}
+use Rattle.nts_relating.proofs.Naming.{settled_value}
 use Rattle.nts_relating.proofs.PairLemmas.{err_of}
 use Rattle.nts_relating.proofs.ValueParts.{WalkGrows-refl}
 use Rattle.nts_relating.proofs.ValueTurns.{walk_start, walk_end, walk_grows, walk_blocks}
 use Rattle.nts_relating.proofs.value_walk.generalize.Goals as goal
 use Rattle.nts_unify.proofs.Keeping.{KeepsHidden-refl, KeepsHidden-trans}
+
+pub returns-then-is_settled-clause-generalized : goal.returns-then-is_settled-clause-generalized
+returns-then-is_settled-clause-generalized c =
+    settled_value (content_of c.args.nodes.now c.args.table.now.entries) c.args.target.variable c.args.target.universe c.args.target.binders (tree_at c.args.nodes.now c.args.t) _ c.requires.lawful.sound c.requires.knows c.flags.ensures (c.is_settled.ensures c.if-is_settled.true)
 
 pub loop-task-init : goal.loop-task-init
 loop-task-init c =
