@@ -5,6 +5,7 @@ ghost use Rattle.nts_store.specs.Growth.{tree_at};
 ghost use Rattle.nts_terms.specs.Rest.{Grows};
 
 use crate::delegate::{FetchEligibleAssocItemResponse, GoalHandler};
+use crate::offer::joined;
 use nts_candidates::CandidateData;
 use nts_store::{EvalError, Fault};
 use nts_table::InferCtxt;
@@ -36,10 +37,9 @@ impl<A: GoalHandler + Drop, B: GoalHandler + Drop> GoalHandler for Both<A, B> {
         mode: &TypingMode,
         goal: Goal,
     ) -> Result<Vec<CandidateData>, Fault> {
-        let mut found = self.first.candidates(cx, mode, goal)?;
-        let mut more = self.second.candidates(cx, mode, goal)?;
-        found.append(&mut more)?;
-        Ok(found)
+        let found = self.first.candidates(cx, mode, goal)?;
+        let more = self.second.candidates(cx, mode, goal)?;
+        Ok(joined(found, more)?)
     }
 
     fn relevant_candidates(
@@ -48,10 +48,9 @@ impl<A: GoalHandler + Drop, B: GoalHandler + Drop> GoalHandler for Both<A, B> {
         mode: &TypingMode,
         goal: Goal,
     ) -> Result<Vec<CandidateData>, Fault> {
-        let mut found = self.first.relevant_candidates(cx, mode, goal)?;
-        let mut more = self.second.relevant_candidates(cx, mode, goal)?;
-        found.append(&mut more)?;
-        Ok(found)
+        let found = self.first.relevant_candidates(cx, mode, goal)?;
+        let more = self.second.relevant_candidates(cx, mode, goal)?;
+        Ok(joined(found, more)?)
     }
 
     fn trait_is_coinductive(&self, id: TraitId) -> bool {

@@ -17,7 +17,7 @@ ghost use Rattle.nts_delegate.specs.Relevant.{built_by_label, first_built_by, Le
 use crate::alias_table::AliasTable;
 use crate::delegate::GoalHandler;
 use crate::head_index::HeadIndex;
-use crate::offer::offer_of;
+use crate::offer::{joined, offer_of};
 use nts_candidates::CandidateData;
 use nts_model::{Label, Sort, TyHead};
 use nts_store::Fault;
@@ -195,10 +195,9 @@ impl GoalHandler for Clauses {
         ensures memory { IsOkUnless result Fault.Memory }
     {
         let _ = mode;
-        let mut found = self.offers_of_alias(cx, goal)?;
-        let mut more = self.offers(cx, goal)?;
-        found.append(&mut more)?;
-        Ok(found)
+        let found = self.offers_of_alias(cx, goal)?;
+        let more = self.offers(cx, goal)?;
+        Ok(joined(found, more)?)
     }
 
     fn relevant_candidates(
@@ -218,10 +217,9 @@ impl GoalHandler for Clauses {
         ensures memory { IsOkUnless result Fault.Memory }
     {
         let _ = mode;
-        let mut found = self.offers_of_alias(cx, goal)?;
-        let mut more = self.relevant_offers(cx, goal)?;
-        found.append(&mut more)?;
-        Ok(found)
+        let found = self.offers_of_alias(cx, goal)?;
+        let more = self.relevant_offers(cx, goal)?;
+        Ok(joined(found, more)?)
     }
 
     fn trait_is_coinductive(&self, id: TraitId) -> bool
@@ -352,8 +350,8 @@ fn offers_at(
     ensures candidates { IfOk result (λ cs. AreCandidates cx.now.nodes goal cs.items) }
     ensures memory { IsOkUnless result Fault.Memory }
 {
-    let mut found = Vec::new(alloc);
     let places = of_trait.heads.places_of(alloc, head)?;
+    let mut found = Vec::with_capacity(alloc, places.len())?;
     for place in &places {
         let clause = &of_trait.clauses[*place];
         if trait_ref.args.len(cx) == clause.head.len(cx) {

@@ -1,5 +1,5 @@
 //! What a clause offers.
-ghost use Rattle.std.specs.Prelude.{◌≡◌, map, IfOk, IsOkUnless};
+ghost use Rattle.std.specs.Prelude.{◌≡◌, ◌++◌, map, IfOk, IsOkUnless};
 ghost use Rattle.nts_model.specs.Terms.Trees.{row_length, children, IsRow};
 ghost use Rattle.nts_store.specs.Growth.{tree_at};
 ghost use Rattle.nts_terms.specs.Handles.{HoldsArgs};
@@ -57,8 +57,9 @@ pub fn pairs_of(
         (children (tree_at cx.now.nodes args.node))
         (children (tree_at cx.now.nodes head.node)) qs.items) }
 {
-    let mut equations = Vec::new(alloc);
-    for i in 0..args.len(cx) {
+    let count = args.len(cx);
+    let mut equations = Vec::with_capacity(alloc, count)?;
+    for i in 0..count {
         equations.push(Equation {
             kind: EquationKind::Related,
             lhs: args.get(cx, i),
@@ -85,4 +86,20 @@ pub(crate) fn asked_of(
             },
         })
         .collect(alloc)
+}
+
+/// The candidates of two handlers, in order. The first offers mostly none, and then the list of the second is the answer.
+pub(crate) fn joined(
+    first: Vec<CandidateData>,
+    second: Vec<CandidateData>,
+) -> Result<Vec<CandidateData>, AllocError>
+    ensures { IfOk result (λ all. all.items ≡ first.items ++ second.items) }
+{
+    if first.is_empty() {
+        return Ok(second);
+    }
+    let mut all = first;
+    let mut more = second;
+    all.append(&mut more)?;
+    Ok(all)
 }

@@ -11,8 +11,8 @@ use Rattle.nts_delegate.proofs.clauses.offers_at.Goals as goal
 pub loop-place-init : goal.loop-place-init
 loop-place-init c =
     let clauses = c.args.of_trait.now.clauses.items in
-    begins_at c.args.cx.now.nodes c.args.goal (tree_at c.args.cx.now.nodes c.args.trait_ref.args.node) c.args.head clauses c.new-found.result.items c.deref-place-items.result.now
-    (c.deref-place-items.ensures.value ∙ c.in_ok-places.ensures (map (head_of_clause c.args.cx.now.nodes) clauses) c.requires.indexed) c.new-found.ensures.items
+    begins_at c.args.cx.now.nodes c.args.goal (tree_at c.args.cx.now.nodes c.args.trait_ref.args.node) c.args.head clauses c.in_ok-found.found.items c.deref-place-items.result.now
+    (c.deref-place-items.ensures.value ∙ c.in_ok-places.ensures (map (head_of_clause c.args.cx.now.nodes) clauses) c.requires.indexed) c.in_ok-found.ensures.items
 
 pub index-clause-requires : goal.index-clause-requires
 index-clause-requires c =
@@ -22,8 +22,8 @@ index-clause-requires c =
     let long = c.args.of_trait.now.clauses.ok.0 in
     omega (arith, below, long)
 
-pub len-requires-in-loop-place : goal.len-requires-in-loop-place
-len-requires-in-loop-place c =
+pub len-requires-in-loop-place-2 : goal.len-requires-in-loop-place-2
+len-requires-in-loop-place-2 c =
     let args = tree_at c.args.cx.now.nodes c.args.trait_ref.args.node in
     let next = next_at c.args.cx.now.nodes c.args.goal args c.args.head c.requires.first c.args.of_trait.now.clauses.items c.loop-place.found.items c.deref-place-items.result.now c.loop-place.place-index c.loop-place-test.true c.loop-place.invariant in
     (held_there c.args.cx.now.nodes c.args.goal args next c.index-clause.result.now c.requires.clauses c.index-clause.ensures).head_holds
@@ -46,12 +46,12 @@ loop-place-preserved c =
     let closed = goal_arguments _ c.requires.goal c.requires.asked in
     elim c.if-len.branch [
       | then-len+in_ok-offer_of+in_ok-push w ↦
-          let long : row_length (children (tree_at c.args.cx.now.nodes c.args.trait_ref.args.node)) ≡ row_length (children (tree_at c.args.cx.now.nodes c.index-clause.result.now.head.node)) = sym c.len.ensures.count ∙ w.if-len.true ∙ c.len-in-loop-place.ensures.count in
+          let long : row_length (children (tree_at c.args.cx.now.nodes c.args.trait_ref.args.node)) ≡ row_length (children (tree_at c.args.cx.now.nodes c.index-clause.result.now.head.node)) = sym c.len-in-loop-place.ensures.count ∙ w.if-len.true ∙ c.len-in-loop-place-2.ensures.count in
           goes_on_by ts c.args.goal args next clause c.if-len.found.items there
           (found_offer ts c.args.goal args next.done clause c.loop-place.found.items c.if-len.found.items w.in_ok-offer_of.field-0 next.found (eq-eqb _ _ long) c.requires.goal holds part closed w.in_ok-offer_of.ensures.offer (ap (λ v. v.items) w.found-is ∙ w.in_ok-push.ensures.items))
       | else-len w ↦
           goes_on_by ts c.args.goal args next clause c.if-len.found.items there
-          (found_untaken ts c.args.goal args next.done clause c.if-len.found.items (rw (ap (λ v. v.items) w.found-is) next.found) (not_equal _ _ (λ e. w.if-len.false (c.len.ensures.count ∙ e ∙ sym c.len-in-loop-place.ensures.count))))
+          (found_untaken ts c.args.goal args next.done clause c.if-len.found.items (rw (ap (λ v. v.items) w.found-is) next.found) (not_equal _ _ (λ e. w.if-len.false (c.len-in-loop-place.ensures.count ∙ e ∙ sym c.len-in-loop-place-2.ensures.count))))
     ]
 
 pub returns-clause-offered : goal.returns-clause-offered

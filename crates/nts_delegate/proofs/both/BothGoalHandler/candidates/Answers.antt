@@ -8,7 +8,7 @@ pub returns-clause-candidates : goal.returns-clause-candidates
 returns-clause-candidates g c =
     let e = c.candidates-2.ensures.grows.extends in
     let there = HoldsGoal-kept c.requires.goal.holds c.candidates.ensures.grows.extends in
-    rw c.in_ok-append.ensures.items (AreCandidates-append _ _ _ _ (AreCandidates-kept c.in_ok-found.found.items there e c.in_ok-found.ensures.candidates) c.in_ok-more.ensures.candidates)
+    rw c.in_ok-joined.ensures (AreCandidates-append _ _ _ _ (AreCandidates-kept c.in_ok-found.found.items there e c.in_ok-found.ensures.candidates) c.in_ok-more.ensures.candidates)
 
 pub returns-clause-offered : goal.returns-clause-offered
 returns-clause-offered g c =
@@ -22,4 +22,4 @@ returns-clause-offered g c =
     let offers = means.offers (mode_of c.args.mode.now) (tree_at c.candidates-2.new.cx.nodes c.args.goal.param_env.node) (tree_at c.candidates-2.new.cx.nodes c.args.goal.predicate.node) in
     let asked = ap (λ x. (g.A.GoalHandler.handler c.candidates.new.cx.nodes first).offers (mode_of c.args.mode.now) x (tree_at c.candidates-2.new.cx.nodes c.args.goal.predicate.node)) s.env in
     let said = ap (λ x. (g.A.GoalHandler.handler c.candidates.new.cx.nodes first).offers (mode_of c.args.mode.now) (tree_at c.candidates.new.cx.nodes c.args.goal.param_env.node) x) s.predicate in
-    rw c.in_ok-append.ensures.items (both_offered _ _ c.args.goal _ _ _ _ _ e c.in_ok-found.ensures.candidates c.in_ok-found.ensures.offered (offers ∙ asked ∙ said) c.in_ok-more.ensures.offered)
+    rw c.in_ok-joined.ensures (both_offered _ _ c.args.goal _ _ _ _ _ e c.in_ok-found.ensures.candidates c.in_ok-found.ensures.offered (offers ∙ asked ∙ said) c.in_ok-more.ensures.offered)

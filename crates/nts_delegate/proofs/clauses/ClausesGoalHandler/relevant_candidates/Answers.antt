@@ -11,8 +11,8 @@ relevant_offers-requires-clause-ready c =
 
 pub returns-clause-candidates : goal.returns-clause-candidates
 returns-clause-candidates c =
-    rw c.in_ok-append.ensures.items (AreCandidates-append c.offers_of_alias.new.cx.nodes c.args.goal c.in_ok-found.found.items c.in_ok-more.more.items c.in_ok-found.ensures.candidates c.in_ok-more.ensures.candidates)
+    rw c.in_ok-joined.ensures (AreCandidates-append c.offers_of_alias.new.cx.nodes c.args.goal c.in_ok-found.found.items c.in_ok-more.more.items c.in_ok-found.ensures.candidates c.in_ok-more.ensures.candidates)
 
 pub returns-clause-offered : goal.returns-clause-offered
 returns-clause-offered c =
-    rw (c.in_ok-append.ensures.items, map-append (candidate_of c.offers_of_alias.new.cx.nodes) c.in_ok-found.found.items c.in_ok-more.more.items) (LeavesOut-append (same_offered _ _ c.in_ok-found.ensures.offered) c.in_ok-more.ensures.offered)
+    rw (c.in_ok-joined.ensures, map-append (candidate_of c.offers_of_alias.new.cx.nodes) c.in_ok-found.found.items c.in_ok-more.more.items) (LeavesOut-append (same_offered _ _ c.in_ok-found.ensures.offered) c.in_ok-more.ensures.offered)
