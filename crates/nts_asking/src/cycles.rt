@@ -45,7 +45,7 @@ pub fn unchanged_answer(
 }
 
 /// The positions of an input, in order, as values.
-fn identity_answer(
+pub(crate) fn identity_answer(
     cx: &mut Cx,
     input: &CanonicalInput,
     certainty: Certainty,

@@ -9,7 +9,7 @@ ghost use Rattle.nts_meaning.specs.nts_search.specs.Searching.{HoldsAnswer, IsSt
 ghost use Rattle.nts_meaning.specs.Answering.{IsQueryInput};
 ghost use Rattle.nts_meaning.specs.Rounds.{IsFirstRound, IsTakenOff, EndsWith, IsBoxed};
 
-use crate::cycles::{answer_of, unchanged_answer};
+use crate::cycles::{answer_of, identity_answer};
 use nts_canonical::CanonicalInput;
 use nts_certainty::{Certainty, PathKind};
 use nts_meaning::nts_response::CanonicalResponse;
@@ -27,10 +27,10 @@ pub fn first_round(cx: &mut Cx, input: Box<CanonicalInput>) -> Result<Box<Round>
     ensures grows { Grows cx.old cx.new }
     ensures memory { IsOkUnless result Fault.Memory }
 {
-    let answer = unchanged_answer(cx, &input, Certainty::Yes)?;
+    let answer = identity_answer(cx, &input, Certainty::Yes)?;
     let asked = Round {
         input: Box::into_inner(input),
-        provisional: Some(Box::into_inner(answer)),
+        provisional: Some(answer),
     };
     let asked = Box::new(cx.alloc, asked)?;
     Ok(asked)
