@@ -1,2 +1,3 @@
 pub mod Replacing
+pub mod Small
 pub mod Walking

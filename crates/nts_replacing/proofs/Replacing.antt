@@ -240,7 +240,7 @@ module _ (C : Tree → Type 0) (f : Tree → Tree) where
         rw (laws.of_more a b, laws.kind a w.0) (h.0, AllFit-image p b h.1 w.1)
     AllFit-image p (node l c) h k = absurd h
 
-    Meets-image : (s : Shape) (c : Tree) → Meets s c → C c → Meets s (f c)
+    pub Meets-image : (s : Shape) (c : Tree) → Meets s c → C c → Meets s (f c)
     Meets-image (in_order ps) c h k = HavePlaces-image ps c h k
     Meets-image (each p) c h k = AllFit-image p c h k
 

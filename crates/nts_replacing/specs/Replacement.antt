@@ -15,6 +15,10 @@ GoesDown covers image t empty = ⊥
 GoesDown covers image t (more a b) = ⊥
 GoesDown covers image t (node l c) = (image t ≡ node l (image c)) × covers c
 
+-- the term stands for the image of the tree
+abbrev pub IsImage : (Tree → Tree) → Tree → List Tree → NodeId → Type 0
+IsImage image t ts r = IsIn ts r × (tree_at ts r ≡ image t)
+
 -- what the step says of a tree, by the store after it
 abbrev pub IsStep : (Tree → Type 0) → (Tree → Tree) → List Tree → Tree → Step → Type 0
 IsStep covers image ts t (step.Done r) = IsIn ts r × (tree_at ts r ≡ image t)

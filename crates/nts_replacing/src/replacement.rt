@@ -1,9 +1,9 @@
 //! One walk that replaces parts of a term, for all kinds of replacement.
-ghost use Rattle.std.specs.Prelude.{◌≡◌, ◌++◌, ◌∷◌, [], ℕ, List, None, nat_eq, IfOk, OnOk};
+ghost use Rattle.std.specs.Prelude.{◌≡◌, ◌++◌, ◌∷◌, [], ℕ, List, None, nat_eq, IfOk, IfSome, OnOk};
 ghost use Rattle.std.specs.HashMap.{get};
 ghost use Rattle.nts_store.specs.nts_model.specs.Terms.Trees.{Tree, empty, more, kind_of};
 ghost use Rattle.nts_store.specs.Growth.{tree_at, IsIn, Extends};
-ghost use Rattle.nts_replacing.specs.Replacement.{IsStep, jobs, TasksIn, building, IsFormedNode, MayHold};
+ghost use Rattle.nts_replacing.specs.Replacement.{IsStep, IsImage, jobs, TasksIn, building, IsFormedNode, MayHold};
 
 use nts_store::nts_model::Label;
 use nts_store::{NodeId, Nodes};
@@ -81,10 +81,54 @@ pub fn replace<R: Replacer>(
     ensures tree { IfOk result (λ r. tree_at nodes.new r ≡ R.image
         (R.meaning nodes.old replacer.now) (tree_at nodes.old t)) }
 {
+    if let Some(result) = replace_small(nodes, replacer, t, SMALL)? {
+        return Ok(result);
+    }
     let mut tasks = Vec::new(alloc);
     let mut found = Vec::new(alloc);
     let mut known = HashMap::new(alloc);
     walk(nodes, replacer, t, &mut tasks, &mut found, &mut known)
+}
+
+/// So deep a term is replaced without a walk.
+const SMALL: usize = 6;
+
+/// What stands for a term, if it is found by going down no deeper than this, through nodes of one child or two. Most terms are so
+/// small, and need no lists of what is left to do.
+fn replace_small<R: Replacer>(
+    nodes: &mut Nodes,
+    replacer: &R,
+    t: NodeId,
+    depth: usize,
+) -> Result<Option<NodeId>, AllocError>
+    requires within { IsIn nodes.old t }
+    requires ready { R.ready nodes.old replacer.now }
+    requires covers { R.covers (R.meaning nodes.old replacer.now) (tree_at nodes.old t) }
+    ensures extends { Extends nodes.old nodes.new }
+    ensures made { IfOk result (λ o. IfSome o (IsImage
+        (R.image (R.meaning nodes.old replacer.now)) (tree_at nodes.old t) nodes.new)) }
+{
+    let node = match replacer.step(nodes, t)? {
+        Step::Done(result) => return Ok(Some(result)),
+        Step::Down(node) => node,
+    };
+    let count = nodes.child_count(node);
+    if depth == 0 || count == 0 || count > 2 {
+        return Ok(None);
+    }
+    let label = nodes.label(node);
+    let first = nodes.child(node, 0);
+    let Some(first) = replace_small(nodes, replacer, first, depth - 1)? else {
+        return Ok(None);
+    };
+    if count == 1 {
+        return Ok(Some(nodes.make(label, &[first])?));
+    }
+    let second = nodes.child(node, 1);
+    let Some(second) = replace_small(nodes, replacer, second, depth - 1)? else {
+        return Ok(None);
+    };
+    Ok(Some(nodes.make(label, &[first, second])?))
 }
 
 /// Replaces the parts of a term, with nothing to do, found or known yet.
