@@ -147,3 +147,25 @@ all_taken xs ys taken zs i j m h k =
     let none = subst (λ l. AreMerged [] l m.left) (none_at ys j k) here in
     let end : m.left ≡ [] = none.both ∙ none_first none.head none.first none.heads none.built none.blanket in
     sym (m.all ∙ ap (λ l. taken ++ l) end ∙ append-nil taken)
+
+-- where nothing is not built, or nothing is built by the head, the places of both kinds are those of one
+pub no_blanket : (k : TyHead) (n : ℕ) (hs : List (Option TyHead)) → places_from is_blanket n hs ≡ [] → places_from (may_be_built_by k) n hs ≡ places_from (is_built_by k) n hs
+no_blanket k n [] e = refl
+no_blanket k n (None ∷ hs) e = cc
+no_blanket k n (Some h ∷ hs) e = by_case (same_head h k) (no_blanket k (suc n) hs e)
+  where
+    by_case : (b : Bool) → places_from (may_be_built_by k) (suc n) hs ≡ places_from (is_built_by k) (suc n) hs
+        → cond (b || false) (n ∷ places_from (may_be_built_by k) (suc n) hs) (places_from (may_be_built_by k) (suc n) hs) ≡ cond b (n ∷ places_from (is_built_by k) (suc n) hs) (places_from (is_built_by k) (suc n) hs)
+    by_case true q = ap (λ z. n ∷ z) q
+    by_case false q = q
+
+pub no_built : (k : TyHead) (n : ℕ) (hs : List (Option TyHead)) → places_from (is_built_by k) n hs ≡ [] → places_from (may_be_built_by k) n hs ≡ places_from is_blanket n hs
+no_built k n [] e = refl
+no_built k n (None ∷ hs) e = ap (λ z. n ∷ z) (no_built k (suc n) hs e)
+no_built k n (Some h ∷ hs) e = by_case (same_head h k) e (no_built k (suc n) hs)
+  where
+    by_case : (b : Bool) → cond b (n ∷ places_from (is_built_by k) (suc n) hs) (places_from (is_built_by k) (suc n) hs) ≡ []
+        → (places_from (is_built_by k) (suc n) hs ≡ [] → places_from (may_be_built_by k) (suc n) hs ≡ places_from is_blanket (suc n) hs)
+        → cond (b || false) (n ∷ places_from (may_be_built_by k) (suc n) hs) (places_from (may_be_built_by k) (suc n) hs) ≡ places_from is_blanket (suc n) hs
+    by_case true q later = cc
+    by_case false q later = later q

@@ -10,7 +10,7 @@ ghost use Rattle.nts_model.specs.declared.labels.TyHead.{TyHead};
 ghost use Rattle.nts_delegate.specs.Candidates.{IsAskedIn, AreCandidates};
 ghost use Rattle.nts_delegate.specs.ClauseHandlers.{clause_tree, offers_of_clauses};
 ghost use Rattle.nts_delegate.specs.Clauses.{head_of_clause, AreClauses, IsIndexed};
-ghost use Rattle.nts_delegate.specs.Places.{IsIndexOf};
+ghost use Rattle.nts_delegate.specs.Places.{IsIndexOf, may_be_built_by, places_from};
 ghost use Rattle.nts_candidates.specs.Offered.{candidates_of};
 ghost use Rattle.nts_delegate.specs.Relevant.{built_by_label, first_built_by, LeavesOut};
 
@@ -350,9 +350,43 @@ fn offers_at(
     ensures candidates { IfOk result (λ cs. AreCandidates cx.now.nodes goal cs.items) }
     ensures memory { IsOkUnless result Fault.Memory }
 {
-    let places = of_trait.heads.places_of(alloc, head)?;
+    match of_trait.heads.listed_places_of(head) {
+        Some(places) => offers_from(alloc, cx, of_trait, head, places, goal, trait_ref),
+        None => {
+            let places = of_trait.heads.places_of(alloc, head)?;
+            offers_from(alloc, cx, of_trait, head, &places, goal, trait_ref)
+        }
+    }
+}
+
+/// What the clauses at these places offer, if they take as many arguments.
+fn offers_from(
+    alloc: Global,
+    cx: &Cx,
+    of_trait: &TraitClauses,
+    head: TyHead,
+    places: &[usize],
+    goal: Goal,
+    trait_ref: TraitRef,
+) -> Result<Vec<CandidateData>, Fault>
+    requires clauses { AreClauses cx.now.nodes of_trait.now.clauses.items }
+    requires places { places.now ≡ places_from (may_be_built_by head) 0
+        (map (head_of_clause cx.now.nodes) of_trait.now.clauses.items) }
+    requires goal { IsAskedIn cx.now.nodes goal }
+    requires args { HoldsArgs cx.now.nodes trait_ref.args }
+    requires asked { trait_of (tree_at cx.now.nodes goal.predicate.node) ≡ read_trait cx.now.nodes
+        (Some trait_ref) }
+    requires first { first_built_by (children (tree_at cx.now.nodes trait_ref.args.node)) ≡ Some
+        head }
+    ensures offered { IfOk result (λ cs. LeavesOut (offers_of_clauses (tree_at cx.now.nodes
+        goal.param_env.node) (children (tree_at cx.now.nodes trait_ref.args.node))
+        (map (clause_tree cx.now.nodes) of_trait.now.clauses.items))
+        (candidates_of cx.now.nodes cs.items)) }
+    ensures candidates { IfOk result (λ cs. AreCandidates cx.now.nodes goal cs.items) }
+    ensures memory { IsOkUnless result Fault.Memory }
+{
     let mut found = Vec::with_capacity(alloc, places.len())?;
-    for place in &places {
+    for place in places {
         let clause = &of_trait.clauses[*place];
         if trait_ref.args.len(cx) == clause.head.len(cx) {
             found.push(offer_of(alloc, cx, clause, goal, trait_ref.args)?)?;

@@ -1,5 +1,5 @@
 //! An index of a list by what the types that stand in it are built by.
-ghost use Rattle.std.specs.Prelude.{◌≡◌, ◌⊎◌, ℕ, ◌<◌, ◌≤◌, ◌++◌, ◌∷◌, [], false, List, Option, length, slice_index, IsTrue, IfOk, OnOk, OnErr, if◌then◌else◌};
+ghost use Rattle.std.specs.Prelude.{◌≡◌, ◌⊎◌, ℕ, ◌<◌, ◌≤◌, ◌++◌, ◌∷◌, [], false, List, Option, length, slice_index, IsTrue, IfOk, IfSome, OnOk, OnErr, if◌then◌else◌};
 ghost use Rattle.nts_model.specs.declared.labels.TyHead.{TyHead};
 ghost use Rattle.nts_delegate.specs.Places.{same_head, may_be_built_by, places_at, places_from, AreMerged, IsIndexOf};
 
@@ -48,15 +48,37 @@ impl HeadIndex {
         }
     }
 
-    /// The places, in order, of the types that are built by this and of those that are not built.
+    /// The places, in order, of the types that are built by this.
+    fn built_by(&self, head: TyHead) -> &[usize]
+        ensures { result.now ≡ places_at self.now.by_head head }
+    {
+        match self.by_head.get(&head) {
+            Some(places) => places,
+            None => &[],
+        }
+    }
+
+    /// The places, in order, of the types that are built by this and of those that are not built, if all stand in one list.
+    pub fn listed_places_of(&self, head: TyHead) -> Option<&[usize]>
+        ensures { (hs : List (Option TyHead)) → IsIndexOf self.now hs →
+            IfSome result (λ places. places.now ≡ places_from (may_be_built_by head) 0 hs) }
+    {
+        let built = self.built_by(head);
+        if self.blanket.is_empty() {
+            return Some(built);
+        }
+        if built.is_empty() {
+            return Some(&self.blanket);
+        }
+        None
+    }
+
+    /// The same places in a list of their own.
     pub fn places_of(&self, alloc: Global, head: TyHead) -> Result<Vec<usize>, AllocError>
         ensures { (hs : List (Option TyHead)) → IsIndexOf self.now hs →
             IfOk result (λ places. places.items ≡ places_from (may_be_built_by head) 0 hs) }
     {
-        let built: &[usize] = match self.by_head.get(&head) {
-            Some(places) => places,
-            None => &[],
-        };
+        let built = self.built_by(head);
         merged(alloc, built, &self.blanket)
     }
 }
