@@ -3,3 +3,4 @@ pub mod Asking
 pub mod KeptStalled
 mod StalledExamples
 mod StillStalledExamples
+pub mod TwoChildren

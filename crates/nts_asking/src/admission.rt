@@ -36,10 +36,7 @@ impl LabelTest for NoInternalPredicate {
     ghost passes = { λ s l. is_internal l ≡ false };
 
     fn test(&self, label: Label) -> bool {
-        !matches!(
-            label,
-            Label::Predicate(PredicateHead::ConstEquate | PredicateHead::NormalizesTo(_))
-        )
+        !names_internal(label)
     }
 }
 
@@ -62,7 +59,49 @@ pub fn is_asked(cx: &Cx, t: NodeId) -> Result<bool, AllocError>
     ensures { IfOk result (λ b. IsTrue b ↔ (any_label is_internal
         (tree_at cx.now.nodes t) ≡ false)) }
 {
+    let label = cx.nodes.label(t);
+    if cx.nodes.child_count(t) != 2 || names_internal(label) {
+        return has_no_internal(cx, t);
+    }
+    // A binder, and what stands under it.
+    if !has_no_internal(cx, cx.nodes.child(t, 0))? {
+        return Ok(false);
+    }
+    let below = below_only_children(cx, cx.nodes.child(t, 1));
+    has_no_internal(cx, below)
+}
+
+/// Whether no part of a term is a predicate that only an evaluation asks.
+fn has_no_internal(cx: &Cx, t: NodeId) -> Result<bool, AllocError>
+    requires { IsIn cx.now.nodes t }
+    ensures { IfOk result (λ b. IsTrue b ↔ (any_label is_internal
+        (tree_at cx.now.nodes t) ≡ false)) }
+{
     all_labels(cx.alloc, &cx.nodes, t, &NoInternalPredicate)
+}
+
+fn names_internal(label: Label) -> bool
+    ensures { result ≡ is_internal label }
+{
+    matches!(
+        label,
+        Label::Predicate(PredicateHead::ConstEquate | PredicateHead::NormalizesTo(_))
+    )
+}
+
+/// The first node on the way down from a term that has more children than one, or none, or may not be asked. The way there needs no
+/// list of what is left to be seen.
+fn below_only_children(cx: &Cx, t: NodeId) -> NodeId
+    requires { IsIn cx.now.nodes t }
+    ensures within { IsIn cx.now.nodes result }
+    ensures same { any_label is_internal (tree_at cx.now.nodes t) ≡ any_label is_internal
+        (tree_at cx.now.nodes result) }
+{
+    let mut term = t;
+    'down: while cx.nodes.child_count(term) == 1 && !names_internal(cx.nodes.label(term)) {
+        term = cx.nodes.child(term, 0);
+    }
+    term
 }
 
 /// Whether an environment, resolved, has no type variable.
