@@ -1,5 +1,5 @@
 -- Nodes of one child, or of two, whose children are replaced.
-use Rattle.std.proofs.Common.{◌≡◌, ℕ, zero, suc, ◌+◌, ◌<◌, refl, sym, ap, subst, ◌∙◌, arith}
+use Rattle.std.proofs.Common.{◌≡◌, ℕ, zero, suc, ◌<◌, refl, sym, ap, subst, ◌∙◌, arith}
 use Rattle.nts_store.specs.nts_model.specs.declared.labels.Label.{Label}
 use Rattle.nts_store.specs.nts_model.specs.Terms.Trees.{Tree, empty, more, node, children, row_length, row_at, IsRow, shape, Meets}
 use Rattle.nts_replacing.specs.Replacement.{GoesDown}

@@ -1,7 +1,6 @@
-use Rattle.std.proofs.Common.{◌≡◌, drop, map, ap, sym, ◌∙◌, arith, eq-eqb}
+use Rattle.std.proofs.Common.{◌≡◌, drop, ap, sym, ◌∙◌, arith, eq-eqb}
 use Rattle.nts_model.specs.Terms.Trees.{children, row_length}
 use Rattle.nts_store.specs.Growth.{tree_at}
-use Rattle.nts_delegate.specs.Clauses.{head_of_clause}
 use Rattle.nts_delegate.proofs.Found.{found_offer, found_untaken, next_at, clause_there, held_there, goes_on_by, begins_at, all_found}
 use Rattle.nts_delegate.proofs.Merging.{none_at}
 use Rattle.nts_delegate.proofs.Offering.{is_part, goal_arguments, not_equal}

@@ -1,9 +1,9 @@
 use Rattle.std.proofs.Common.{◌≡◌, ◌∙◌, ◌<◌, arith}
 use Rattle.nts_store.specs.nts_model.specs.Terms.Trees.{children, row_length, row_at}
-use Rattle.nts_store.specs.Growth.{tree_at, Extends}
+use Rattle.nts_store.specs.Growth.{tree_at}
 use Rattle.nts_store.proofs.Growing.{Extends-trans}
 use Rattle.nts_replacing.specs.declared.replacement.Step.TheVariants as step
-use Rattle.nts_replacing.specs.Replacement.{IsStep, IsImage}
+use Rattle.nts_replacing.specs.Replacement.{IsStep}
 use Rattle.nts_replacing.proofs.Replacing.{AreLaws}
 use Rattle.nts_replacing.proofs.Small.{covers_child, over_one, over_two}
 use Rattle.nts_replacing.proofs.replacement.+replace_small.Given.{Over}

@@ -1,4 +1,4 @@
-use Rattle.std.proofs.Common.{◌≡◌, [], length, sym, ◌∙◌, arith, eqb-true}
+use Rattle.std.proofs.Common.{◌≡◌, length, sym, ◌∙◌, arith, eqb-true}
 use Rattle.std.proofs.lemmas.List.{nil_from_length}
 use Rattle.nts_delegate.proofs.Merging.{no_blanket, no_built}
 use Rattle.nts_delegate.proofs.head_index.HeadIndex.listed_places_of.Goals as goal
