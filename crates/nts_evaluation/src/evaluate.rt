@@ -588,6 +588,8 @@ fn try_candidate<H: GoalHandler>(
     };
     record_constraints(table, cx, trial, &candidate.region_constraints)?;
     let mut goals = trial.added_goals(table, cx, &candidate.goals)?;
+    // They are not kept while the goals below are asked.
+    drop(values);
     cx.terms_are_formed();
     let mut last_steps = 0;
     let certainty = try_evaluate_goals(
