@@ -22,7 +22,7 @@ use Rattle.nts_model.proofs.Terms.Listed.{map-map}
 use Rattle.nts_theory.specs.Refutation.Refutation.{IsCarrying}
 use Rattle.nts_theory.proofs.Refutation.Carriers.{moved, moved_carrying, moved_low, moved_original, instance_by, leaf_named}
 use Rattle.nts_theory.proofs.Refutation.Carrying.{names_replaced, value_instance}
-use Rattle.nts_theory.proofs.Refutation.Entering.{IsBegun, entered}
+use Rattle.nts_theory.proofs.Refutation.Entering.{IsBegun, entered_at}
 use Rattle.nts_theory.proofs.Refutation.Freshening.{knows_leaf}
 use Rattle.nts_decisions.specs.Facts.{IsAskedAs}
 use Rattle.nts_decisions.proofs.BlurredWorlds.{merged, merged_blurred, blurred_world, solves_blurred, region_is_blurred}
@@ -136,8 +136,7 @@ module _ (c : Content) (w : World) (solves : Solves c w) (i : Input) (from : IsA
   pub entered_merged : (q : Content) (qs : List Tree) → IsBegun (canonical_of i) q qs → MergedWorld q qs asked_trees
   entered_merged q qs b =
       let always : Truth = λ x y. true in
-      let proves : Tree → Tree → Type 0 = λ x y. Unit {0} in
-      let e = entered always proves (canonical_of i) q qs asked_trees b (record { values = asked_values; proved = tt }) in
+      let e = entered_at always (canonical_of i) q qs asked_trees b asked_values in
       record {
         world = e.world;
         solves = (let s = e.solution in s.solves);

@@ -264,7 +264,7 @@ module _ (Q : Queries) (h : Handler) (law : IsLawfulHandler h) (mode : Mode) (ti
 
   query_never_refutes : Refutes Q h mode q e' g' (map leaf_tree u) → ⊥
   query_never_refutes (is_denied d) = trait_not_denied h.judges g' is_trait (subst (λ z. IsDenied h.judges (statement_of z)) same_goal d)
-  query_never_refutes (own_fails y own fails) = trait_has_no_way h.judges e' g' y is_trait (subst (λ z. HasOwnWay h.judges e' z y) same_goal own.way)
+  query_never_refutes (own_fails y own one fails) = trait_has_no_way h.judges e' g' y is_trait (subst (λ z. HasOwnWay h.judges e' z y) same_goal own.way)
   query_never_refutes (is_no_subtype outside n) = trait_says_no_subtype g' n.left n.right is_trait (subst (λ z. IsSubtyping z n.left n.right) same_goal n.is)
   query_never_refutes (subtype_refused ps met outside l refused) = trait_says_no_subtype g' l.left l.right is_trait (subst (λ z. IsSubtyping z l.left l.right) same_goal l.is)
   query_never_refutes (aliases_fail outside ready all) = no_alias_here ready
@@ -310,9 +310,9 @@ module _ (Q : Queries) (h : Handler) (law : IsLawfulHandler h) (mode : Mode) (ti
       let all : (let x = r.findings in x.values ≡ positions_from 0 ks) = ap (λ (z : Response). (let y = z.findings in y.values)) says in
       let kinds : r.kinds ≡ ks = ap (λ (z : Response). z.kinds) says in
       identity_merged ks r ts query.numbered (nothing_is_identity ks r says) (ap (length {A = Tree}) all ∙ positions_long 0 ks) (subst (AllAgree ks) (sym kinds) (agree_themselves ks)) values values_same
-  tells_contained v (tells_outlives y o r) = absurd (outlives_nothing y (subst (λ z. IsOutlives z y) same_goal o))
+  tells_contained v (tells_outlives y o none r) = absurd (outlives_nothing y (subst (λ z. IsOutlives z y) same_goal o))
   tells_contained v (tells_affirmed a sure says) = absurd (trait_not_affirmed h.judges e' g' is_trait (subst (SaysAffirmed h.judges e') same_goal a))
-  tells_contained v (tells_own y own reply) = absurd (trait_has_no_way h.judges e' g' y is_trait (subst (λ z. HasOwnWay h.judges e' z y) same_goal own.way))
+  tells_contained v (tells_own y own one reply) = absurd (trait_has_no_way h.judges e' g' y is_trait (subst (λ z. HasOwnWay h.judges e' z y) same_goal own.way))
   tells_contained v (tells_subtype ps met found outside l reach is says) = absurd (trait_says_no_subtype g' l.left l.right is_trait (subst (λ z. IsSubtyping z l.left l.right) same_goal l.is))
   tells_contained v (tells_alias vs outside ready all stands) = absurd (no_alias_here ready)
   tells_contained v (tells_normal ps met found outside l reach is says) = absurd (no_way_here l)

@@ -20,7 +20,7 @@ use Rattle.nts_theory.proofs.Examples.InputExamples.{no_clauses as nowhere}
 use Rattle.nts_theory.proofs.Examples.ProofExamples.{auto_list}
 use Rattle.nts_theory.proofs.Examples.RefutationExamples.{without_rules, list_type, fact_only, all_true, all_true_is_fair, auto_of}
 use Rattle.nts_theory.proofs.Examples.SolutionExamples.{other_type, other_is_unsolved, fact_is_solved, same_table_keeps, list_is_lost, variable, question, answer, list_contains_each, other_does_not_contain, question_is_solved, question_without_rules}
-use Rattle.nts_evaluation.specs.Solutions.{IsCoherenceOf, HasNoSolutionUnder, KeepsSolutionsUnder, ContainsEach, HasNoInputSolution, IsAllGood}
+use Rattle.nts_evaluation.specs.Solutions.{IsCoherence, HasNoSolutionUnder, KeepsSolutionsUnder, ContainsEach, HasNoInputSolution, IsAllGood}
 
 -- a store with the empty environment, the goals Auto of List, of another type, and of a variable, and that other type
 abbrev store : List Tree
@@ -40,12 +40,12 @@ table_with vs order =
 abbrev type_variable : State → Variable
 type_variable s = record { kind = kind.Ty; universe = 0; state = s; sub_link = None }
 
--- coherence without rules, and another mode
-coherence_without_rules : IsCoherenceOf without_rules modes.Coherence
-coherence_without_rules = record { in_coherence = refl; no_aliases = record { none = λ a i k. i } }
+-- coherence, and another mode
+coherence_is_one : IsCoherence modes.Coherence
+coherence_is_one = refl
 
-other_modes_are_not : IsCoherenceOf without_rules modes.PostAnalysis → ⊥
-other_modes_are_not h = (let e = h.in_coherence in cc e)
+another_mode_is_none : IsCoherence modes.PostAnalysis → ⊥
+another_mode_is_none h = cc h
 
 -- where the only rule is impl Auto(List), Auto of another type has no solution, and Auto of List is not without one
 other_has_none : HasNoSolutionUnder fact_only store (table_with [] []) (goal_at 2)

@@ -127,9 +127,9 @@ module _ {a b : List Tree} {t u : Table} {g o : Goal} (posed : IsPosed a t g) (o
 
   pub own_says : AreFormed b → (h : Ruling) (mode : TypingMode) (qs : List GenericArg) (e : List Tree) (r : Canonical Response) → trees_of b qs ≡ trees_of a qs → OwnTold h mode b u o qs e r → IsTold h mode a t g qs e r
   own_says formed h mode qs e r same (inl (affirmed, sure, response)) = affirmed_told posed opens up h mode qs e r same affirmed sure response
-  own_says formed h mode qs e r same (inr (inl (y, way, reply))) = own_told posed opens up there formed h mode qs e r y same way reply
+  own_says formed h mode qs e r same (inr (inl (y, way, plain, reply))) = own_told posed opens up there formed h mode qs e r y same way plain reply
   own_says formed h mode qs e r same (inr (inr (unsure, plain))) = nothing_through posed opens up h mode qs e r same unsure plain
 
   pub own_none : AreFormed b → (h : Ruling) (mode : TypingMode) (qs : List GenericArg) → OwnRefuted h mode b u o → IsRefuted h mode a t g qs
   own_none formed h mode qs (inl denied) = denied_refuted posed opens up h mode qs denied
-  own_none formed h mode qs (inr (y, way, fails)) = own_refuted posed opens up there formed h mode qs y way fails
+  own_none formed h mode qs (inr (y, way, plain, fails)) = own_refuted posed opens up there formed h mode qs y way plain fails

@@ -19,4 +19,4 @@ pub not_asked : {cx : Cx} {t : Table} {o : Option GoalStalledOn} {s : GoalStalle
 not_asked {cx} {t} {o} {s} h asked = (let again = rw h.0 at asked in again h.1)
 
 pub keeps_its_own : (h : Handler) (c : Content) (e g : Tree) → KeepsSolutionsOf h c c e g
-keeps_its_own h c e g = record { each = λ truth fair respects v w s p. (w, Agrees-refl (length c.slots) w, s) }
+keeps_its_own h c e g = record { each = λ truth fair respects v w s plain p. (w, Agrees-refl (length c.slots) w, s) }

@@ -7,7 +7,7 @@ use Rattle.nts_model.specs.Derivations.Rules.{Meaning, Mode, statement_of}
 use Rattle.nts_model.specs.Derivations.Handlers.{Handler, Candidate}
 use Rattle.nts_theory.specs.Affirming.{SaysAffirmed, IsDenied, HasOwnWay}
 use Rattle.nts_theory.specs.Telling.{IsResponseOf, IsPlainResponse, kind_for}
-use Rattle.nts_theory.specs.RelatingCandidates.{IsCutIn}
+use Rattle.nts_theory.specs.RelatingCandidates.{IsCutIn, HasPlainEquations}
 use Rattle.nts_meaning.specs.Telling.{Ruling, Replies, Fails}
 use Rattle.nts_model.specs.Derivations.Proofs.{Assumed, passed}
 use Rattle.nts_model.specs.Searching.Stacks.{IsDerivedFrom, HoldsCandidateFrom, assumptions}
@@ -171,14 +171,14 @@ HoldsOwn h m mode A a g c =
 abbrev pub OwnTold : Ruling → TypingMode → List Tree → Table → Goal → List GenericArg → List Tree → Canonical Response → Type 0
 OwnTold h mode a t g qs b r =
     SaysAffirmed (let m = h.handler in m.judges) (tree_at a g.param_env.node) (tree_at a g.predicate.node) × (is_yes r.value.certainty ≡ true) × IsResponseOf (content_of a t.entries) (trees_of a qs) (response_at b r)
-    ⊎ ((x : Candidate) × HasOwnWay (let m = h.handler in m.judges) (tree_at a g.param_env.node) (tree_at a g.predicate.node) x × Replies h (mode_of mode) (content_of a t.entries) (tree_at a g.param_env.node) (tree_at a g.predicate.node) (trees_of a qs) x (verdict_at b r))
+    ⊎ ((x : Candidate) × HasOwnWay (let m = h.handler in m.judges) (tree_at a g.param_env.node) (tree_at a g.predicate.node) x × HasPlainEquations x × Replies h (mode_of mode) (content_of a t.entries) (tree_at a g.param_env.node) (tree_at a g.predicate.node) (trees_of a qs) x (verdict_at b r))
     ⊎ (is_yes r.value.certainty ≡ false) × IsPlainResponse (content_of a t.entries) (trees_of a qs) (response_at b r)
 
 -- .. and why it has no solution: the handler denies it, or its own way fails
 abbrev pub OwnRefuted : Ruling → TypingMode → List Tree → Table → Goal → Type 0
 OwnRefuted h mode a t g =
     IsDenied (let m = h.handler in m.judges) (statement_of (tree_at a g.predicate.node))
-    ⊎ ((x : Candidate) × HasOwnWay (let m = h.handler in m.judges) (tree_at a g.param_env.node) (tree_at a g.predicate.node) x × Fails h (mode_of mode) (kind_for h.handler (tree_at a g.predicate.node)) (content_of a t.entries) (tree_at a g.param_env.node) x)
+    ⊎ ((x : Candidate) × HasOwnWay (let m = h.handler in m.judges) (tree_at a g.param_env.node) (tree_at a g.predicate.node) x × HasPlainEquations x × Fails h (mode_of mode) (kind_for h.handler (tree_at a g.predicate.node)) (content_of a t.entries) (tree_at a g.param_env.node) x)
 
 -- such a goal is answered
 pub record AnswersOwn (R : Rules) (a b : Cx) (g h : SearchGraph) (t : Table) (goal : Goal) (values : List GenericArg) (depth : ℕ) (r : Result (Box (Canonical Response)) EvalError) : Type 0 where

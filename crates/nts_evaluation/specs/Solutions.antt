@@ -7,7 +7,7 @@ use Rattle.nts_model.specs.Canonical.Inputs.{CanonicalInput as Form}
 use Rattle.nts_model.specs.Answers.Responses.{Response}
 use Rattle.nts_model.specs.Refutation.Containing.{Truth, AnswerContains, HasNoSolution}
 use Rattle.nts_model.specs.Derivations.Rules.{coherence}
-use Rattle.nts_theory.specs.Refutation.Refutation.{HasNoAliases, IsFair, RespectsLeaks, HasMetProof, HasNoSolutionIn, KeepsSolutionsOf}
+use Rattle.nts_theory.specs.Refutation.Refutation.{IsFair, RespectsLeaks, HasMetProof, HasNoSolutionIn, KeepsSolutionsOf}
 use Rattle.nts_certainty.specs.declared.certainty.Certainty.{Certainty}
 use Rattle.nts_certainty.specs.declared.certainty.Certainty.TheVariants as certainty
 use Rattle.nts_certainty.specs.declared.certainty.OpaqueTypesJank.TheVariants as jank
@@ -21,12 +21,12 @@ use Rattle.nts_table.specs.Tables.{Table}
 use Rattle.nts_meaning.specs.Telling.{Ruling}
 use Rattle.nts_meaning.specs.Meant.{EvaluatesUnder}
 
--- the mode is coherence, and no rule of the handler normalizes an alias
-pub record IsCoherenceOf (h : Handler) (mode : TypingMode) : Type 0 where
-  pub in_coherence : mode_of mode ≡ coherence
-  pub no_aliases : HasNoAliases h
+-- the mode is coherence
+abbrev pub IsCoherence : TypingMode → Type 0
+IsCoherence mode = mode_of mode ≡ coherence
 
--- no solution of the table has a settled proof of the goal whose region constraints are true
+-- no solution of the table in which no alias stands for the goal's variables has a plain proof of the goal whose region constraints are
+-- true
 abbrev pub HasNoSolutionUnder : Handler → List Tree → Table → Goal → Type 0
 HasNoSolutionUnder h ts t g = HasNoSolutionIn h (content_of ts t.entries) (tree_at ts g.param_env.node) (tree_at ts g.predicate.node)
 
@@ -34,8 +34,8 @@ HasNoSolutionUnder h ts t g = HasNoSolutionIn h (content_of ts t.entries) (tree_
 abbrev pub KeepsSolutionsUnder : Handler → List Tree → Table → List Tree → Table → Goal → Type 0
 KeepsSolutionsUnder h a t b u g = KeepsSolutionsOf h (content_of a t.entries) (content_of b u.entries) (tree_at a g.param_env.node) (tree_at a g.predicate.node)
 
--- an answer contains each solution of a canonical input: values for its positions with which its goal has a settled proof whose
--- region constraints are true. And the input has none
+-- an answer contains each solution of a canonical input: values for its positions, without aliases, with which its goal has a plain
+-- proof whose region constraints are true. And the input has none
 abbrev pub ContainsEach : Handler → Form → Response → Type 0
 ContainsEach h f r = (truth : Truth) → IsFair truth → RespectsLeaks h truth → (v : ℕ → List Variance) → AnswerContains truth (HasMetProof (meaning h v) truth) f r
 

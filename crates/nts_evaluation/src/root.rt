@@ -11,7 +11,7 @@ ghost use Rattle.nts_meaning.specs.Searching.{IsSearch, Searches};
 ghost use Rattle.nts_meaning.specs.Meant.{ruling_in, IsInputProved, IsQueryTold, IsQueryRefuted};
 ghost use Rattle.nts_canonical.specs.Forms.{form_of};
 ghost use Rattle.nts_response.specs.Forms.{response_at};
-ghost use Rattle.nts_evaluation.specs.Solutions.{IsCoherenceOf, ContainsEach, HasNoInputSolution};
+ghost use Rattle.nts_evaluation.specs.Solutions.{IsCoherence, ContainsEach, HasNoInputSolution};
 
 use crate::evaluate::search;
 use nts_canonical::CanonicalInput;
@@ -23,8 +23,8 @@ use nts_store::{EvalError, Fault};
 use nts_terms::Cx;
 
 /// Answers a canonical goal that a step of that kind asks, in a search whose stack is empty: at its root depth. `None` is no
-/// solution: each candidate failed. In coherence, where no rule normalizes an alias, the answer contains each solution of the
-/// input, and `None` says that it has none. A certain answer has a ranked proof of what it says of the input. Afterwards the stack is
+/// solution: each candidate failed. In coherence the answer contains each solution of the input in which no alias is a value,
+/// and `None` says that it has none. A certain answer has a ranked proof of what it says of the input. Afterwards the stack is
 /// empty again, no query took more rounds than the store's limit says, and the counts of the search did not fall.
 pub fn evaluate_input<H: GoalHandler>(
     graph: &mut SearchGraph,
@@ -47,10 +47,10 @@ pub fn evaluate_input<H: GoalHandler>(
         (mode_of input.typing_mode) cx.old.nodes input cx.new.nodes)) }
     ensures refuted { IfOk result (λ o. IsNone o → IsQueryRefuted
         (ruling_in H.handler cx.old handler.now) (mode_of input.typing_mode) cx.old.nodes input) }
-    ensures contains { (let h = H.handler cx.old.nodes handler.now in IsCoherenceOf h
+    ensures contains { (let h = H.handler cx.old.nodes handler.now in IsCoherence
         input.typing_mode → IfOk result (λ o. IfSome o (λ r. ContainsEach h
         (form_of cx.old.nodes input) (response_at cx.new.nodes r)))) }
-    ensures none { (let h = H.handler cx.old.nodes handler.now in IsCoherenceOf h
+    ensures none { (let h = H.handler cx.old.nodes handler.now in IsCoherence
         input.typing_mode → IfOk result (λ o. IsNone o → HasNoInputSolution h
         (form_of cx.old.nodes input))) }
 {

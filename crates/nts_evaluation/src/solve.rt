@@ -15,7 +15,7 @@ ghost use Rattle.nts_asking.specs.Stalled.{StillStalls, IsNotStalled};
 ghost use Rattle.nts_asking.specs.Stalling.{Keeps};
 ghost use Rattle.nts_evaluation.specs.Skipping.{IsSkipped};
 ghost use Rattle.nts_evaluation.specs.Deciding.{IsDeterminate, IsFact, IsOnlyFact, MayAnswer, IsAsDecided};
-ghost use Rattle.nts_evaluation.specs.Solutions.{IsCoherenceOf, HasNoSolutionUnder, KeepsSolutionsUnder};
+ghost use Rattle.nts_evaluation.specs.Solutions.{IsCoherence, HasNoSolutionUnder, KeepsSolutionsUnder};
 
 use crate::evaluate::evaluate_goal;
 use nts_asking::{
@@ -106,10 +106,9 @@ pub fn evaluate_root_goal<H: GoalHandler>(
         cx.old.declarations)) (mode_of table.old.mode) cx.new.nodes table.new goal)) }
     ensures refuted { result ≡ Err EvalError.NoSolution → IsRefusedUnder
         (ruling_in H.handler cx.old handler.now) table.old.mode cx.old.nodes table.old goal }
-    ensures none { result ≡ Err EvalError.NoSolution → IsCoherenceOf
-        (H.handler cx.old.nodes handler.now) table.old.mode → HasNoSolutionUnder
-        (H.handler cx.old.nodes handler.now) cx.old.nodes table.old goal }
-    ensures keeps { IsCoherenceOf (H.handler cx.old.nodes handler.now) table.old.mode →
+    ensures none { result ≡ Err EvalError.NoSolution → IsCoherence table.old.mode →
+        HasNoSolutionUnder (H.handler cx.old.nodes handler.now) cx.old.nodes table.old goal }
+    ensures keeps { IsCoherence table.old.mode →
         OnOk result (KeepsSolutionsUnder (H.handler cx.old.nodes handler.now) cx.old.nodes table.old
         cx.new.nodes table.new goal) }
     ensures decided { IsNotStalled cx.old table.old stalled_on → (b : Bool) → IsDeterminate

@@ -8,7 +8,7 @@ ghost use Rattle.nts_evaluation.specs.nts_meaning.specs.Evaluation.{IsAdmitted, 
 ghost use Rattle.nts_evaluation.specs.nts_meaning.specs.Meant.{rules_of, ruling_in, ruling_since, Always, IsRefusedUnder};
 ghost use Rattle.nts_certainty.specs.declared.certainty.Certainty.TheVariants as certainty;
 ghost use Rattle.nts_evaluation.specs.Deciding.{IsDeterminate, IsFact, IsOnlyFact, MayAnswer, IsAsDecided};
-ghost use Rattle.nts_evaluation.specs.Solutions.{IsCoherenceOf, HasNoSolutionUnder, WasEvaluated, IsAllGood};
+ghost use Rattle.nts_evaluation.specs.Solutions.{IsCoherence, HasNoSolutionUnder, WasEvaluated, IsAllGood};
 
 use nts_certainty::{Certainty, OpaqueTypesJank};
 use nts_delegate::GoalHandler;
@@ -18,8 +18,8 @@ use nts_table::InferCtxt;
 use nts_terms::{Cx, Goal};
 
 /// Whether a goal may hold, where goals may be nested so deep. It is false exactly where the goal has no solution: then each
-/// candidate failed, or no solution of the table grants what the others say. In coherence, where no alias is declared, no
-/// solution of the table has a settled proof of the goal then. A goal that a finite tree of goals decides, no higher than that
+/// candidate failed, or no solution of the table grants what the others say. In coherence no solution
+/// of the table, with no alias as a value, has a proof of the goal then. A goal that a finite tree of goals decides, no higher than that
 /// depth, gets true for a yes and false for a no. A goal with a fact does not get false, and gets true where no other candidate can
 /// be met. The table is as before. A fault is want of memory, or `Full` where a universe above the greatest is asked for.
 pub fn root_goal_may_hold_with_depth<H: GoalHandler>(
@@ -38,8 +38,7 @@ pub fn root_goal_may_hold_with_depth<H: GoalHandler>(
         (ruling_in H.handler cx.old handler.now) table.old.mode cx.old.nodes table.old goal c }
     ensures refuted { result ≡ Ok false → IsRefusedUnder
         (ruling_in H.handler cx.old handler.now) table.old.mode cx.old.nodes table.old goal }
-    ensures none { result ≡ Ok false → IsCoherenceOf
-        (H.handler cx.old.nodes handler.now) table.old.mode → HasNoSolutionUnder
+    ensures none { result ≡ Ok false → IsCoherence table.old.mode → HasNoSolutionUnder
         (H.handler cx.old.nodes handler.now) cx.old.nodes table.old goal }
     ensures decided { (b : Bool) → IsDeterminate (H.handler cx.old.nodes handler.now) table.old.mode
         cx.old.nodes table.old goal root_depth b → MayAnswer

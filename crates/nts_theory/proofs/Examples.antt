@@ -13,3 +13,4 @@ pub mod SubtypingExamples
 pub mod RecordingExamples
 pub mod RefutationExamples
 pub mod SolutionExamples
+pub mod PlainProofExamples

@@ -1,5 +1,4 @@
--- Which solutions an answer contains. The search rests on Choosing, OpenedProofs, and what these use of Freshening and Trying; all else
--- waits for refutation in coherence: no call promises it yet.
+-- Which solutions an answer contains: in coherence each answer contains each, and what is refused has none.
 pub mod Carrying
 pub mod AskingWorlds
 pub mod Answered
@@ -27,13 +26,13 @@ pub mod ReachedGoals
 pub mod Queried
 pub mod Apart
 pub mod PlainParts
+pub mod PlainTerms
 pub mod Begun
 pub mod Witnesses
 pub mod Refuted
 pub mod Tight
 pub mod Freshening
 pub mod OpenedGoals
-pub mod Probing
 pub mod Choosing
 pub mod Forcing
 pub mod OpenedProofs

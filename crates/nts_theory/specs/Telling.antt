@@ -35,7 +35,7 @@ use Rattle.nts_theory.specs.Affirming.{SaysAffirmed, IsDenied, HasOwnWay}
 use Rattle.nts_theory.specs.Outliving.{IsOutlives}
 use Rattle.nts_theory.specs.Subtyping.{LeavesPremises, IsNoSubtype}
 use Rattle.nts_theory.specs.Aliasing.{NormalizesSides, NormalizesLesser, IsLesserGoal}
-use Rattle.nts_theory.specs.RelatingCandidates.{IsCutIn, plain_part, Begins, IsUnrelated, HasTypesApart}
+use Rattle.nts_theory.specs.RelatingCandidates.{IsCutIn, HasPlainEquations, plain_part, Begins, IsUnrelated, HasTypesApart}
 use Rattle.nts_model.specs.Answers.Responses.{Findings, AreFindings, Response, response_of, IsResponseTo, Applies, RefusesResponse}
 
 -- a response, and whether it is certain
@@ -204,9 +204,9 @@ pub record SaysRecorded (x : Constraint) (c : Content) (e g : Tree) (qs : List T
 
 mutual
   -- what a goal is answered in a table, for these terms of an input of these kinds: nothing is told; or the verdict that stands
-  -- for those of the candidates for the goal; or, of a goal that something outlives a region, yes, where the table holds that; or,
-  -- of a goal that the handler affirms, yes, where the table is as before; or, of one that has one way by the engine, the verdict of that;
-  -- or, outside of coherence, of a goal that one type is a subtype of another, what the two, once related, and the goals that this
+  -- for those of the candidates for the goal; or, of a goal without aliases that something outlives a region, yes, where the table holds
+  -- that; or, of a goal that the handler affirms, yes, where the table is as before; or, of one that has one way by the engine, which
+  -- relates no aliases, the verdict of that; or, outside of coherence, of a goal that one type is a subtype of another, what the two, once related, and the goals that this
   -- left came to; of one about an alias the verdict that stands for those of the candidates; and of one that an alias is equal to a
   -- term, or the one a subtype of the other, what the goals came to that are left of it
   pub data Tells (Q : Queries) (h : Handler) (mode : Mode) : List PositionKind → Content → Tree → Tree → List Tree → Verdict → Type 0 where
@@ -214,11 +214,11 @@ mutual
     says_nothing : {ks : List PositionKind} {c : Content} {e g : Tree} {qs : List Tree} {v : Verdict} → SaysNothing ks v.response → Tells Q h mode ks c e g qs v
     tells_one : {ks : List PositionKind} {c : Content} {e g : Tree} {qs : List Tree} {v : Verdict} (vs : List Verdict) → IsReady c e g → Outcomes Q h mode (entered_table c g) e (opened_in c g) qs (h.offers mode e (opened_in c g)) vs → StandsForAll qs vs v
         → Tells Q h mode ks c e g qs v
-    tells_outlives : {ks : List PositionKind} {c : Content} {e g : Tree} {qs : List Tree} {v : Verdict} (x : Constraint) → IsOutlives (opened_in c g) x → SaysRecorded x (entered_table c g) e (opened_in c g) qs v
+    tells_outlives : {ks : List PositionKind} {c : Content} {e g : Tree} {qs : List Tree} {v : Verdict} (x : Constraint) → IsOutlives (opened_in c g) x → any_label is_alias (opened_in c g) ≡ false → SaysRecorded x (entered_table c g) e (opened_in c g) qs v
         → Tells Q h mode ks c e g qs v
     tells_affirmed : {ks : List PositionKind} {c : Content} {e g : Tree} {qs : List Tree} {v : Verdict} → SaysAffirmed h.judges e (opened_in c g) → v.is_yes ≡ true → IsResponseOf (entered_table c g) qs v.response
         → Tells Q h mode ks c e g qs v
-    tells_own : {ks : List PositionKind} {c : Content} {e g : Tree} {qs : List Tree} {v : Verdict} (x : Candidate) → IsOwnWayIn h c e g x → Replies Q h mode (entered_table c g) e (opened_in c g) qs x v → Tells Q h mode ks c e g qs v
+    tells_own : {ks : List PositionKind} {c : Content} {e g : Tree} {qs : List Tree} {v : Verdict} (x : Candidate) → IsOwnWayIn h c e g x → HasPlainEquations x → Replies Q h mode (entered_table c g) e (opened_in c g) qs x v → Tells Q h mode ks c e g qs v
     tells_subtype : {ks : List PositionKind} {c : Content} {e g : Tree} {qs : List Tree} {v : Verdict} (ps : List Premise) (met found : Content) → IsCutIn mode → LeavesPremises Q.variances (entered_table c g) met e (opened_in c g) ps
         → Reaches Q h mode ps met found → IsFound (entered_table c g) e (opened_in c g) found → SaysOf (entered_table c g) found qs v → Tells Q h mode ks c e g qs v
     tells_alias : {ks : List PositionKind} {c : Content} {e g : Tree} {qs : List Tree} {v : Verdict} (vs : List Verdict) → IsCutIn mode → IsAliasReady c e g → Outcomes Q h mode (entered_table c g) e (opened_in c g) qs (h.offers mode e (opened_in c g)) vs → StandsForAll qs vs v
@@ -232,7 +232,7 @@ mutual
   pub data Refutes (Q : Queries) (h : Handler) (mode : Mode) : Content → Tree → Tree → List Tree → Type 0 where
     all_fail : {c : Content} {e g : Tree} {qs : List Tree} → IsReady c e g → Outcomes Q h mode (entered_table c g) e (opened_in c g) qs (h.offers mode e (opened_in c g)) [] → Refutes Q h mode c e g qs
     is_denied : {c : Content} {e g : Tree} {qs : List Tree} → IsDenied h.judges (statement_of (opened_in c g)) → Refutes Q h mode c e g qs
-    own_fails : {c : Content} {e g : Tree} {qs : List Tree} (x : Candidate) → IsOwnWayIn h c e g x → Fails Q h mode (kind_for h (opened_in c g)) (entered_table c g) e x → Refutes Q h mode c e g qs
+    own_fails : {c : Content} {e g : Tree} {qs : List Tree} (x : Candidate) → IsOwnWayIn h c e g x → HasPlainEquations x → Fails Q h mode (kind_for h (opened_in c g)) (entered_table c g) e x → Refutes Q h mode c e g qs
     is_no_subtype : {c : Content} {e g : Tree} {qs : List Tree} → IsCutIn mode → IsNoSubtype Q.variances (entered_table c g) (opened_in c g) → Refutes Q h mode c e g qs
     subtype_refused : {c : Content} {e g : Tree} {qs : List Tree} (ps : List Premise) (met : Content) → IsCutIn mode → LeavesPremises Q.variances (entered_table c g) met e (opened_in c g) ps → RefusesOne Q h mode other_goal ps met → Refutes Q h mode c e g qs
     aliases_fail : {c : Content} {e g : Tree} {qs : List Tree} → IsCutIn mode → IsAliasReady c e g → Outcomes Q h mode (entered_table c g) e (opened_in c g) qs (h.offers mode e (opened_in c g)) [] → Refutes Q h mode c e g qs

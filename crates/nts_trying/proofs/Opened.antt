@@ -4,7 +4,7 @@ use Rattle.std.specs.Prelude.{if◌then◌else◌, Option, Some, None, IfSome, R
 use Rattle.nts_model.specs.Derivations.Proofs.{Assumed}
 use Rattle.nts_model.specs.Searching.Stacks.{IsProvedFrom, HoldsCandidateFrom}
 use Rattle.nts_model.specs.declared.labels.Label.{Label}
-use Rattle.nts_model.specs.Terms.Trees.{Tree, IsClosed, IsFormed}
+use Rattle.nts_model.specs.Terms.Trees.{Tree, any_label, is_alias, IsClosed, IsFormed}
 use Rattle.nts_model.specs.Tables.Contents.{Content, in_universe}
 use Rattle.nts_model.specs.Derivations.Related.{unbound, pair}
 use Rattle.nts_model.specs.Derivations.Rules.{opened, statement_of}
@@ -53,6 +53,7 @@ use Rattle.nts_meaning.proofs.Evaluating.{Knows-goes, offers-kept}
 use Rattle.nts_meaning.proofs.Running.{term_table}
 use Rattle.nts_meaning.specs.Telling.{Ruling, Outcomes, Replies, Fails, IsWay}
 use Rattle.nts_theory.specs.Telling.{IsPlainResponse, Verdict, kind_for, IsReady, IsAliasReady, IsAliasGoal, IsTraitGoal, StandsForAll, SaysRecorded, IsTermTable, IsResponseOf, IsOwnWayIn}
+use Rattle.nts_theory.specs.RelatingCandidates.{HasPlainEquations}
 use Rattle.nts_theory.specs.Affirming.{SaysAffirmed, IsDenied, HasOwnWay}
 use Rattle.nts_theory.proofs.Aliases.ByEngine.{IsClosedThere, affirmed_proved}
 use Rattle.nts_theory.proofs.Aliases.ByOwnWay.{own_way_proved}
@@ -187,7 +188,7 @@ module _ {a b : List Tree} {t u : Table} {g o : Goal} (posed : IsPosed a t g) (o
   outlives_told x says h mode qs e r same told ks =
       let y = constraint_at b x in
       let v = verdict_at e r in
-      tells_outlives y (subst (λ z. IsOutlives z y) opens.predicate (let i = says.is in i.says))
+      tells_outlives y (subst (λ z. IsOutlives z y) opens.predicate (let i = says.is in i.says)) (subst (λ z. any_label is_alias z ≡ false) opens.predicate (let i = says.is in i.no_alias))
       (subst (λ z. SaysRecorded y z (tree_at a g.param_env.node) (opened_in before (tree_at a g.predicate.node)) (trees_of a qs) v) opens.table
       (subst (λ z. SaysRecorded y there (tree_at a g.param_env.node) z (trees_of a qs) v) opens.predicate
       (subst (λ z. SaysRecorded y there z (tree_at b o.predicate.node) (trees_of a qs) v) environment_same (subst (λ z. SaysRecorded y there (tree_at b o.param_env.node) (tree_at b o.predicate.node) z v) same told))))
@@ -335,17 +336,17 @@ module _ {a b : List Tree} {t u : Table} {g o : Goal} (posed : IsPosed a t g) (o
       }
 
   pub own_told : IsPosed b u o → AreFormed b → (h : Ruling) (mode : TypingMode) (qs : List GenericArg) (e : List Tree) (r : Canonical Response) (x : Candidate) → trees_of b qs ≡ trees_of a qs → HasOwnWay (let m = h.handler in m.judges) (tree_at b o.param_env.node) (tree_at b o.predicate.node) x
-      → Replies h (mode_of mode) there (tree_at b o.param_env.node) (tree_at b o.predicate.node) (trees_of b qs) x (verdict_at e r) → IsTold h mode a t g qs e r
-  own_told p formed h mode qs e r x same way reply ks =
+      → HasPlainEquations x → Replies h (mode_of mode) there (tree_at b o.param_env.node) (tree_at b o.predicate.node) (trees_of b qs) x (verdict_at e r) → IsTold h mode a t g qs e r
+  own_told p formed h mode qs e r x same way plain reply ks =
       let v = verdict_at e r in
-      tells_own x (way_there h.handler x p formed way)
+      tells_own x (way_there h.handler x p formed way) plain
       (subst (λ z. Replies h (mode_of mode) z (tree_at a g.param_env.node) (opened_in before (tree_at a g.predicate.node)) (trees_of a qs) x v) opens.table
       (subst (λ z. Replies h (mode_of mode) there (tree_at a g.param_env.node) z (trees_of a qs) x v) opens.predicate
       (subst (λ z. Replies h (mode_of mode) there z (tree_at b o.predicate.node) (trees_of a qs) x v) environment_same (subst (λ z. Replies h (mode_of mode) there (tree_at b o.param_env.node) (tree_at b o.predicate.node) z x v) same reply))))
 
-  pub own_refuted : IsPosed b u o → AreFormed b → (h : Ruling) (mode : TypingMode) (qs : List GenericArg) (x : Candidate) → HasOwnWay (let m = h.handler in m.judges) (tree_at b o.param_env.node) (tree_at b o.predicate.node) x → Fails h (mode_of mode) (kind_for h.handler (tree_at b o.predicate.node)) there (tree_at b o.param_env.node) x → IsRefuted h mode a t g qs
-  own_refuted p formed h mode qs x way fails =
-      own_fails x (way_there h.handler x p formed way)
+  pub own_refuted : IsPosed b u o → AreFormed b → (h : Ruling) (mode : TypingMode) (qs : List GenericArg) (x : Candidate) → HasOwnWay (let m = h.handler in m.judges) (tree_at b o.param_env.node) (tree_at b o.predicate.node) x → HasPlainEquations x → Fails h (mode_of mode) (kind_for h.handler (tree_at b o.predicate.node)) there (tree_at b o.param_env.node) x → IsRefuted h mode a t g qs
+  own_refuted p formed h mode qs x way plain fails =
+      own_fails x (way_there h.handler x p formed way) plain
       (subst (λ z. Fails h (mode_of mode) (kind_for h.handler z) (entered_table before (tree_at a g.predicate.node)) (tree_at a g.param_env.node) x) opens.predicate
       (subst (λ z. Fails h (mode_of mode) (kind_for h.handler (tree_at b o.predicate.node)) z (tree_at a g.param_env.node) x) opens.table
       (subst (λ z. Fails h (mode_of mode) (kind_for h.handler (tree_at b o.predicate.node)) there z x) environment_same fails)))

@@ -11,7 +11,7 @@ use Rattle.nts_model.specs.declared.labels.FreeRegion.TheVariants as region
 use Rattle.nts_model.specs.declared.labels.Leaf.{Leaf}
 use Rattle.nts_model.specs.declared.labels.Leaf.TheVariants as leaf
 use Rattle.nts_model.specs.declared.labels.Label.{Label}
-use Rattle.nts_model.specs.Terms.Trees.{Tree, empty, sort_of_leaf, is_region_infer, IsFormed}
+use Rattle.nts_model.specs.Terms.Trees.{Tree, empty, sort_of_leaf, is_region_infer, is_alias, IsFormed}
 use Rattle.nts_model.specs.Tables.Contents.{Content, Recorded, universe_of, kind_at}
 use Rattle.nts_model.specs.Terms.Placeholders.{CanName, free_region_level, leaf_level_of, leaf_level}
 use Rattle.nts_model.specs.Tables.Levels.{NamesAll}
@@ -24,6 +24,17 @@ use Rattle.nts_model.specs.Derivations.Sequents.{Premise}
 use Rattle.nts_model.specs.Canonical.Numbered.{number}
 use Rattle.nts_model.specs.Canonical.Inputs.{CanonicalInput, PositionKind, type_variable, integer_variable, float_variable, const_variable, region_variable, placeholder}
 use Rattle.nts_model.specs.Answers.Responses.{Response, placeholder_tree}
+
+-- no aliases
+abbrev pub IsNoAlias : Label → Type 0
+IsNoAlias l = is_alias l ≡ false
+
+abbrev pub IsAliasFree : Tree → Type 0
+IsAliasFree t = AllLabels IsNoAlias t
+
+-- no alias stands in what the variables of the table are
+pub record IsPlainWorld (c : Content) (w : World) : Type 0 where
+  pub each : (n : ℕ) (k : VariableKind) → kind_at c n ≡ Some k → IsAliasFree (w.tree n)
 
 -- which types and regions outlive which regions
 abbrev pub Truth : Type 0
@@ -75,9 +86,10 @@ AreInputValues [] [] = Unit {0}
 AreInputValues (k ∷ ks) (t ∷ ts) = IsInputValue k t × AreInputValues ks ts
 AreInputValues ks ts = ⊥
 
--- a solution of a canonical input: values for its positions, with which its goal is proved
+-- a solution of a canonical input: values for its positions, without aliases, with which its goal is proved
 pub record IsSolutionOf (Proves : Tree → Tree → Type 0) (i : CanonicalInput) (vs : List Tree) : Type 0 where
   pub values : AreInputValues i.kinds vs
+  pub plain : (v : Tree) → Among vs v → IsAliasFree v
   pub proved : Proves (filled vs i.environment) (filled vs i.predicate)
 
 -- a value for a position of a response: a placeholder of the root is the input's value, another one stands for itself
@@ -103,11 +115,12 @@ abbrev pub AreMetBy : Truth → List Tree → List Recorded → Type 0
 AreMetBy o own [] = Unit {0}
 AreMetBy o own (x ∷ xs) = IsTrueBy o x.relation (filled own x.left) (filled own x.right) × AreMetBy o own xs
 
--- a response contains a solution: for some values of its positions its values are the solution's, and its constraints
--- are true
+-- a response contains a solution: for some values of its positions, without aliases, its values are the solution's, and its
+-- constraints are true
 pub record ContainsSolution (truth : Truth) (r : Response) (vs : List Tree) : Type 0 where
   pub own : List Tree
   pub values : AreAnswerValues vs r.kinds own
+  pub plain : (v : Tree) → Among own v → IsAliasFree v
   pub equal : map (filled own) r.findings.values ≡ vs
   pub met : AreMetBy truth own r.findings.constraints
 
@@ -146,9 +159,10 @@ pub record AreGround (Proves : Tree → Tree → Type 0) : Type 0 where
 abbrev pub IsProvedIn : (Tree → Tree → Type 0) → World → Premise → Type 0
 IsProvedIn Proves w q = Proves (inst w q.environment) (inst w q.predicate)
 
--- a world that solves the table and its goals
+-- a world without aliases that solves the table and its goals
 pub record SolvesGoals (truth : Truth) (base : ℕ) (Proves : Tree → Tree → Type 0) (c : Content) (gs : List Premise) (w : World) : Type 0 where
   pub solution : IsSolution truth base c w
+  pub plain : IsPlainWorld c w
   pub goals : (q : Premise) → Among gs q → IsProvedIn Proves w q
 
 -- .. that is another world but for what a table lacked

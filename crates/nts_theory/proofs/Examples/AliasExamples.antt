@@ -22,7 +22,7 @@ use Rattle.nts_theory.proofs.Refutation.Affirming.{denied_no_handlers, way_no_ha
 use Rattle.nts_theory.proofs.Refutation.Aliasing.{equated_no_handlers}
 
 -- a statement that an alias normalizes to a term is about an alias; one that a trait holds is not
-abbrev item : Tree
+abbrev pub item : Tree
 item = alias (alias_of.Ty 0) empty
 
 abbrev list_type : Tree
@@ -48,7 +48,7 @@ alias_handlers s a = absurd a
 pub alias_is_not_refuted_in_coherence : (Q : Queries) (h : Handler) (c : Content) (e g : Tree) (qs : List Tree) → IsAliasStatement (statement_of (opened_in c g)) → Refutes Q h coherence c e g qs → ⊥
 alias_is_not_refuted_in_coherence Q h c e g qs a (all_fail ready all) = (let t = ready.trait_goal in trait_is_about_no_alias (statement_of (opened_in c g)) t.statement a)
 alias_is_not_refuted_in_coherence Q h c e g qs a (is_denied d) = denied_no_handlers h.judges (statement_of (opened_in c g)) d (alias_handlers (statement_of (opened_in c g)) a)
-alias_is_not_refuted_in_coherence Q h c e g qs a (own_fails x own fails) =
+alias_is_not_refuted_in_coherence Q h c e g qs a (own_fails x own plain fails) =
     (let z = own.way in way_no_handlers h.judges e z.statement x z.way (subst (λ v. IsHandlers (statement_of v)) z.binds_nothing (alias_handlers (statement_of (opened_in c g)) a)))
 alias_is_not_refuted_in_coherence Q h c e g qs a (is_no_subtype outside n) = outside refl
 alias_is_not_refuted_in_coherence Q h c e g qs a (subtype_refused ps there outside l refused) = outside refl
@@ -57,10 +57,10 @@ alias_is_not_refuted_in_coherence Q h c e g qs a (normal_refused ps met outside 
 
 -- a goal says that Item and List are equal: what is left is that Item normalizes to List. Of two aliases no goal says so, and no
 -- trait's goal does
-abbrev item_alias : IsAlias item
+abbrev pub item_alias : IsAlias item
 item_alias = record { head = alias_of.Ty 0; parts = empty; is = refl; closed = (tt, ((tt, tt), tt)) }
 
-list_is_no_alias : IsAlias list_type → ⊥
+pub list_is_no_alias : IsAlias list_type → ⊥
 list_is_no_alias x = by_head x.head x.is
   where
     by_head : (h : AliasHead) → list_type ≡ alias h x.parts → ⊥

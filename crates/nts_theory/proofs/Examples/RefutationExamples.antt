@@ -1,4 +1,4 @@
--- Handlers that normalize no alias, truths that depend on no name, and settled proofs: what meets these definitions, and what does not.
+-- Truths that depend on no name, and plain proofs: what meets these definitions, and what does not.
 use Rattle.std.proofs.Common.{◌≡◌, inl, inr, ℕ, zero, suc, List, [], ◌∷◌, Bool, true, false, refl, sym, ap, ◌∙◌, arith, subst}
 use Rattle.nts_model.specs.declared.labels.Variance.{Variance}
 use Rattle.nts_model.specs.declared.labels.VariableKind.TheVariants as kind
@@ -26,16 +26,16 @@ use Rattle.nts_model.specs.Derivations.Rules.{Mode, coherence, Application, Mean
 use Rattle.nts_model.specs.Derivations.Proofs.{Node, Step, IsSoundStep, IsJustified}
 use Rattle.nts_model.specs.Derivations.Handlers.{Handler, never_leaks, never_at_once, no_judgements, meaning}
 use Rattle.nts_model.specs.Canonical.Inputs.{is_static}
-use Rattle.nts_model.specs.Refutation.Containing.{Truth, IsTrueBy, IsGroundLabel}
-use Rattle.nts_variance_model.specs.Variances.SettledProofs.{IsSettledIn, GrantsAt, HidesAt, RestsOnAt, FollowsSettled, IsReached, start, onward}
-use Rattle.nts_theory.specs.Refutation.Refutation.{HasNoAliases, IsCarrying, IsFair, IsGroundInstance, HasMetProof}
+use Rattle.nts_model.specs.Refutation.Containing.{IsAliasFree, Truth, IsTrueBy, IsGroundLabel}
+use Rattle.nts_variance_model.specs.Variances.SettledProofs.{GrantsAt, HidesAt, RestsOnAt, IsReached, start, onward}
+use Rattle.nts_theory.specs.Refutation.Refutation.{IsCarrying, IsFair, IsGroundInstance, FollowsPlainly, HasMetProof}
 use Rattle.nts_model.proofs.Terms.Composing.{itself, leaf_tree-inj, fits_itself}
 use Rattle.nts_model.proofs.Terms.Renamings.{extension}
 use Rattle.nts_theory.proofs.Refutation.Carriers.{AreMovable, extension_carrying}
 use Rattle.nts_theory.proofs.Refutation.Theories.{stays, movable_by}
 use Rattle.nts_theory.proofs.Refutation.Covering.{not_built_in}
 use Rattle.nts_theory.proofs.Refutation.UsedRules.{handlers_opened}
-use Rattle.nts_theory.proofs.Refutation.ReachedGoals.{InSettledProof, settled_used, root_reached, ground_proof}
+use Rattle.nts_theory.proofs.Refutation.ReachedGoals.{InPlainProof, plain_used, root_reached, ground_proof}
 use Rattle.nts_theory.proofs.Examples.InputExamples.{no_clauses as nowhere}
 use Rattle.nts_theory.proofs.Examples.ProofExamples.{auto_list, auto_goal, clause_under, auto_clause, fact_clause, auto_sequent, auto_terms, auto_instance, auto_plain, auto_rule, auto_stands, no_node}
 
@@ -56,21 +56,6 @@ fact_under xs = with_rule (clause_under [] xs) (λ i. false)
 
 abbrev pub fact_only : Handler
 fact_only = fact_under []
-
--- a handler without rules normalizes no alias
-no_rule_normalizes : HasNoAliases without_rules
-no_rule_normalizes = record { none = λ a h k. h }
-
--- a handler whose only rule is a trait's fact normalizes no alias
-fact_normalizes_nothing : (xs : List Constraint) → HasNoAliases (fact_under xs)
-fact_normalizes_nothing xs = record { none = λ a h k. (let z : other_goal ≡ normalization = sym (ap (λ x. goal_kind (meaning (fact_under xs) (λ i. [])) x.conclusion) h) ∙ k in cc z) }
-
--- a handler with a rule that concludes what an alias normalizes to is none without aliases
-abbrev normalizing : Application
-normalizing = record fact_clause { conclusion = normalization_goal (alias_of.Ty 0) empty list_type }
-
-alias_is_normalized : HasNoAliases (with_rule normalizing (λ i. false)) → ⊥
-alias_is_normalized h = h.none normalizing refl refl
 
 -- everything outlives everything, and nothing anything
 abbrev pub all_true : Truth
@@ -148,21 +133,21 @@ grounded (leaf.Variable kind.Region n) = leaf_tree (leaf.Region region.Static)
 grounded l = leaf_tree l
 
 -- it is an instance
-grounded_fits : (l : Leaf) → FitsLeaf l (grounded l)
+pub grounded_fits : (l : Leaf) → FitsLeaf l (grounded l)
 grounded_fits (leaf.Variable kind.Region n) = (of_free region.Static, refl)
 grounded_fits l = fits_itself l
 
-grounded_formed : (l : Leaf) → IsFormed (grounded l) × IsClosed (grounded l)
+pub grounded_formed : (l : Leaf) → IsFormed (grounded l) × IsClosed (grounded l)
 grounded_formed (leaf.Variable kind.Region n) = ((tt, tt), (tt, tt))
 grounded_formed l = ((tt, tt), (tt, tt))
 
-grounded_constant : (l : Leaf) → IsConstant l → grounded l ≡ leaf_tree l
+pub grounded_constant : (l : Leaf) → IsConstant l → grounded l ≡ leaf_tree l
 grounded_constant (leaf.TyConstant a) i = refl
 grounded_constant (leaf.ConstConstant a) i = refl
 grounded_constant (leaf.Variable k n) i = absurd i
 grounded_constant (leaf.Region r) i = absurd i
 
-abbrev grounding : Instance
+abbrev pub grounding : Instance
 grounding =
     record {
       value = grounded;
@@ -173,7 +158,7 @@ grounding =
       stays = λ r s. refl;
     }
 
-is_grounding : IsGroundInstance grounding
+pub is_grounding : IsGroundInstance grounding
 is_grounding = record { ground = each }
   where
     each : (l : Leaf) → AllLabels IsGroundLabel (grounded l)
@@ -199,35 +184,31 @@ only_instance m first ι n κ none start = refl
 only_instance m first ι n κ none (onward {n = b} {κ = μ} s to both before i after) =
     absurd (subst (λ z. Among z s) (ap (λ z. z.steps) (only_node m first ι b μ before) ∙ none) i)
 
--- it is a settled proof, if its constraints are true, and the goal follows at each instance that is reached
+-- it is a plain proof, if its constraints are true, and the goal follows at each instance that is reached
 module _ (m : Meaning) (truth : Truth) (g : Tree) (xs : List Constraint) (ss : List Step) where
   abbrev only : Node
   only = node_of g xs ss
 
-  one_node : IsJustified m coherence only → ((s : Step) → Among ss s → IsSoundStep m (only ∷ []) only s) → ((κ : Instance) → IsReached m (only ∷ []) only grounding only κ → FollowsSettled m coherence only κ)
+  one_node : IsJustified m coherence only → ((s : Step) → Among ss s → IsSoundStep m (only ∷ []) only s) → ((κ : Instance) → IsReached m (only ∷ []) only grounding only κ → FollowsPlainly m only κ)
       → ((x : Constraint) → Among xs x → IsTrueIn truth (constraint_under grounding x)) → instance_of grounding g ≡ g → HasMetProof m truth nowhere g
   one_node justified sound follows holds same =
       record {
         proof = record {
-          proves = record {
-            proof = record {
-              nodes = only ∷ [];
-              node = only;
-              at = grounding;
-              found = inl refl;
-              ranked = record {
-                justified = λ n i. elim i [ inl e ↦ subst (IsJustified m coherence) (sym e) justified | inr j ↦ absurd j ];
-                steps = λ n s i j. elim i [ inl e ↦ rw e (sound s (subst (λ z. Among z.steps s) e j)) | inr k ↦ absurd k ];
-              };
-              settled = λ n κ r. (let e = only_node m only grounding n κ r in subst (λ z. FollowsSettled m coherence z κ) (sym e) (follows κ (subst (λ z. IsReached m (only ∷ []) only grounding z κ) e r)));
-              true = holds;
-            };
-            environment = refl;
-            predicate = same;
+          nodes = only ∷ [];
+          node = only;
+          at = grounding;
+          found = inl refl;
+          ranked = record {
+            justified = λ n i. elim i [ inl e ↦ subst (IsJustified m coherence) (sym e) justified | inr j ↦ absurd j ];
+            steps = λ n s i j. elim i [ inl e ↦ rw e (sound s (subst (λ z. Among z.steps s) e j)) | inr k ↦ absurd k ];
           };
-          no_hidden = refl;
-          no_open_goals = refl;
+          plain = λ n κ r. (let e = only_node m only grounding n κ r in subst (λ z. FollowsPlainly m z κ) (sym e) (follows κ (subst (λ z. IsReached m (only ∷ []) only grounding z κ) e r)));
+          true = holds;
         };
+        environment = refl;
+        predicate = same;
+        no_hidden = refl;
+        no_open_goals = refl;
         ground = is_grounding;
       }
 
@@ -235,7 +216,7 @@ module _ (m : Meaning) (truth : Truth) (g : Tree) (xs : List Constraint) (ss : L
 auto_is_term : (xs : List Constraint) → IsOfTerms (record auto_sequent { constraints = xs })
 auto_is_term xs = (let t = auto_terms in record { formed = t.formed; closed = t.closed; no_positions = t.no_positions; well_bound = t.well_bound; statement = t.statement; statements = t.statements })
 
--- a fact under constraints that hold no region variables has a settled proof, where the constraints are true
+-- a fact under constraints that hold no region variables has a plain proof, where the constraints are true
 fact_is_met : (v : ℕ → List Variance) (truth : Truth) (xs : List Constraint) → ((x : Constraint) → Among xs x → constraint_under grounding x ≡ x) → ((x : Constraint) → Among xs x → IsTrueIn truth x)
     → HasMetProof (meaning (fact_under xs) v) truth nowhere auto_list
 fact_is_met v truth xs apart holds =
@@ -248,7 +229,7 @@ fact_is_met v truth xs apart holds =
     (λ x i. subst (IsTrueIn truth) (sym (apart x i)) (holds x i))
     refl
 
--- a fact has a settled proof, whatever is true of regions
+-- a fact has a plain proof, whatever is true of regions
 pub fact_has_proof : (v : ℕ → List Variance) (truth : Truth) → HasMetProof (meaning fact_only v) truth nowhere auto_list
 fact_has_proof v truth = fact_is_met v truth [] (λ x i. absurd i) (λ x i. absurd i)
 
@@ -274,7 +255,7 @@ for_each_rule m G H D P applies =
     let low : NamesAll leaf_level 0 (pair nowhere for_each_region) = ((tt, tt), ((tt, ((tt, ((tt, tt), tt)), ((tt, ((tt, ((tt, ((tt, tt), tt)), tt)), tt)), tt))), tt)) in
     inr (_, _, placeholder_in 1, refl, fresh_in 0 1 (pair nowhere for_each_region) (omega arith) low, auto_plain m coherence G H D P [] [] applies (λ g i. absurd i) (λ x i. absurd i))
 
--- a goal that binds a region has a settled proof by a fact
+-- a goal that binds a region has a plain proof by a fact
 bound_goal_has_proof : (v : ℕ → List Variance) (truth : Truth) → HasMetProof (meaning fact_only v) truth nowhere for_each_region
 bound_goal_has_proof v truth =
     let m = meaning fact_only v in
@@ -308,7 +289,7 @@ steps_to_itself v s (inl e) =
     })
 steps_to_itself v s (inr i) = absurd i
 
--- a coinductive cycle has a settled proof
+-- a coinductive cycle has a plain proof
 coinductive_cycle_has_proof : (v : ℕ → List Variance) (truth : Truth) → HasMetProof (cycling v) truth nowhere auto_list
 coinductive_cycle_has_proof v truth =
     one_node (cycling v) truth auto_list [] (to_itself ∷ [])
@@ -321,19 +302,15 @@ coinductive_cycle_has_proof v truth =
 -- the same cycle of a trait that is not coinductive has none
 inductive_cycle_has_none : (truth : Truth) → HasMetProof (meaning (with_rule auto_clause (λ i. false)) (λ i. [])) truth nowhere auto_list → ⊥
 inductive_cycle_has_none truth p =
-    let q = p.proof in
-    let r = q.proves in
-    let n = r.proof in
-    no_node coherence n.nodes n.ranked (suc n.node.rank) n.node n.at n.found (omega arith) r.predicate
+    let n = p.proof in
+    no_node coherence n.nodes n.ranked (suc n.node.rank) n.node n.at n.found (omega arith) p.predicate
 
--- a goal follows by the rule by which the first node of its settled proof does
+-- a goal follows by the rule by which the first node of its plain proof does
 first_rule : (m : Meaning) (truth : Truth) (e g : Tree) (p : HasMetProof m truth e g)
-    → (let q = p.proof in let r = q.proves in let n = r.proof in IsRule (strictly m) coherence (IsSettledIn m coherence (instance_of n.at n.node.sequent.environment)) (GrantsAt n.node n.at) (HidesAt n.node n.at) (RestsOnAt m n.node n.at) e g)
+    → (let n = p.proof in IsRule (strictly m) coherence IsAliasFree (GrantsAt n.node n.at) (HidesAt n.node n.at) (RestsOnAt m n.node n.at) e g)
 first_rule m truth e g p =
-    let q = p.proof in
-    let r = q.proves in
-    let n = r.proof in
-    rw (sym r.environment, sym r.predicate) (n.settled n.node n.at start)
+    let n = p.proof in
+    rw (sym p.environment, sym p.predicate) (n.plain n.node n.at start)
 
 -- nothing that a handler is asked follows without its rules
 no_rule_applies : (m : Meaning) (mode : Mode) (G : Tree → Type 0) (H : Constraint → Type 0) (D : Hidden → Type 0) (P : Premise → Type 0) (e x s : Tree)
@@ -345,7 +322,7 @@ no_rule_applies m mode G H D P e x s none h (inr (y, t, f, is, fresh, inr b)) =
     let same : t ≡ s = cc is in
     not_built_in m G H _ e (opened f 0 t) (handlers_opened f 0 t (subst IsHandlers (sym same) h)) b
 
--- by a handler without rules no goal that a handler is asked has a settled proof
+-- by a handler without rules no goal that a handler is asked has a plain proof
 pub without_rules_no_proof : (v : ℕ → List Variance) (truth : Truth) (e x s : Tree) → IsHandlers s → HasMetProof (meaning without_rules v) truth e (bound x s) → ⊥
 without_rules_no_proof v truth e x s h p = no_rule_applies (strictly (meaning without_rules v)) coherence _ _ _ _ e x s (λ a i. i) h (first_rule (meaning without_rules v) truth e (bound x s) p)
 
@@ -354,20 +331,17 @@ abbrev pub auto_of : Tree → Tree
 auto_of t = unbound (node (label.Clause (clause.Trait 0)) (arguments (more t empty)))
 
 -- what it says is closed, if the type is
-auto_closed : (t : Tree) → IsClosed t → IsClosed (node (label.Clause (clause.Trait 0)) (arguments (more t empty)))
+pub auto_closed : (t : Tree) → IsClosed t → IsClosed (node (label.Clause (clause.Trait 0)) (arguments (more t empty)))
 auto_closed t h = (tt, ((tt, (h, tt)), tt))
 
--- by a fact alone its trait has a settled proof of no type but the fact's, and only where the fact's constraints are true
+-- by a fact alone its trait has a plain proof of no type but the fact's, and only where the fact's constraints are true
 pub fact_used : (xs : List Constraint) (v : ℕ → List Variance) (truth : Truth) (e t : Tree) → IsClosed t → HasMetProof (meaning (fact_under xs) v) truth e (auto_of t)
     → (t ≡ list_type) × ((x : Constraint) → Among xs x → IsTrueIn truth x)
 fact_used xs v truth e t closed p =
     let h = fact_under xs in
-    let none = fact_normalizes_nothing xs in
-    let q = p.proof in
-    let r = q.proves in
-    let there = root_reached h v truth none (ground_proof (meaning h v) (IsTrueIn truth) r.proof p.ground) in
-    let here : InSettledProof (meaning h v) (IsTrueIn truth) e (auto_of t) = rw (sym r.environment, sym r.predicate) there in
-    let used = settled_used h v truth none in
+    let there = root_reached h v truth (ground_proof (meaning h v) (IsTrueIn truth) p.proof p.ground) in
+    let here : InPlainProof (meaning h v) (IsTrueIn truth) e (auto_of t) = rw (sym p.environment, sym p.predicate) there in
+    let used = plain_used h v truth in
     let u = used.plain e (node (label.Clause (clause.Trait 0)) (arguments (more t empty))) here tt (auto_closed t closed) in
     let same : auto_of t ≡ auto_list = sym u.conclusion ∙ ap (λ a. a.conclusion) u.applies in
     (cc same, λ x i. u.met x (subst (λ a. Among a.constraints x) (sym u.applies) i))
@@ -376,13 +350,13 @@ fact_used xs v truth e t closed p =
 abbrev first_lives : Constraint
 first_lives = record { relation = relation.RegionOutlives; left = leaf_tree (parameter 0); right = leaf_tree (parameter 1) }
 
--- impl Auto(List) where 'a: 'b has a settled proof where everything outlives everything
+-- impl Auto(List) where 'a: 'b has a plain proof where everything outlives everything
 proved_where_all_is_true : (v : ℕ → List Variance) → HasMetProof (meaning (fact_under (first_lives ∷ [])) v) all_true nowhere auto_list
 proved_where_all_is_true v = fact_is_met v all_true (first_lives ∷ [])
     (λ x i. elim i [ inl e ↦ rw e refl | inr j ↦ absurd j ])
     (λ x i. elim i [ inl e ↦ subst (IsTrueIn all_true) (sym e) (inr refl) | inr j ↦ absurd j ])
 
--- impl Auto(List) where 'a: 'b has no settled proof where nothing outlives anything
+-- impl Auto(List) where 'a: 'b has no plain proof where nothing outlives anything
 no_proof_where_none_is_true : (v : ℕ → List Variance) → HasMetProof (meaning (fact_under (first_lives ∷ [])) v) none_true nowhere auto_list → ⊥
 no_proof_where_none_is_true v p =
     let used = fact_used (first_lives ∷ []) v none_true nowhere list_type (tt, ((tt, tt), tt)) p in

@@ -1,5 +1,5 @@
 -- Goals with solutions in a table and without, later tables that lose some, and answers that contain each solution and that do not.
-use Rattle.std.proofs.Common.{◌≡◌, inl, inr, ℕ, zero, suc, true, false, List, [], ◌∷◌, length, Option, Some, None, refl, sym, ap, ◌∙◌, arith}
+use Rattle.std.proofs.Common.{◌≡◌, inl, inr, ℕ, zero, suc, true, false, List, [], ◌∷◌, length, Option, Some, None, refl, sym, ap, subst, ◌∙◌, arith}
 use Rattle.nts_model.specs.declared.labels.Variance.{Variance}
 use Rattle.nts_model.specs.declared.labels.VariableKind.{VariableKind}
 use Rattle.nts_model.specs.declared.labels.VariableKind.TheVariants as kind
@@ -7,6 +7,7 @@ use Rattle.nts_model.specs.declared.labels.ClauseHead.TheVariants as clause
 use Rattle.nts_model.specs.declared.labels.Relation.TheVariants as relation
 use Rattle.nts_model.specs.declared.labels.FreeRegion.TheVariants as region
 use Rattle.nts_model.specs.declared.labels.Leaf.TheVariants as leaf
+use Rattle.nts_model.specs.declared.labels.Leaf.{Leaf}
 use Rattle.nts_model.specs.Terms.Substitutions.{leaf_tree}
 use Rattle.nts_model.specs.declared.labels.Label.{Label}
 use Rattle.nts_model.specs.declared.labels.Label.TheVariants as label
@@ -21,7 +22,7 @@ use Rattle.nts_model.specs.Derivations.Handlers.{Handler, meaning}
 use Rattle.nts_model.specs.Canonical.Inputs.{CanonicalInput, canonical_of}
 use Rattle.nts_model.specs.Answers.Responses.{Response}
 use Rattle.nts_model.specs.Searching.Driving.{unconstrained}
-use Rattle.nts_model.specs.Refutation.Containing.{Truth, IsSolution, IsSolutionOf, ContainsSolution, AnswerContains, HasNoSolution}
+use Rattle.nts_model.specs.Refutation.Containing.{IsAliasFree, Truth, IsSolution, IsSolutionOf, ContainsSolution, AnswerContains, HasNoSolution}
 use Rattle.nts_theory.specs.Refutation.Refutation.{RespectsLeaks, HasMetProof, HasNoSolutionIn, KeepsSolutionsOf}
 use Rattle.nts_theory.proofs.Refutation.Tight.{tight_respects}
 use Rattle.nts_theory.proofs.Refutation.OfferMeeting.{handlers_inst}
@@ -32,7 +33,7 @@ use Rattle.nts_model.proofs.Tables.Instances.{Agrees-refl}
 
 -- by a handler without rules no goal that a handler is asked has a solution in any table
 pub nothing_is_solved : (c : Content) (e x s : Tree) → IsHandlers s → HasNoSolutionIn without_rules c e (bound x s)
-nothing_is_solved c e x s h = record { none = λ truth fair respects v w solution. without_rules_no_proof v truth (inst w e) (inst w x) (inst w s) (handlers_inst w s h) }
+nothing_is_solved c e x s h = record { none = λ truth fair respects v w solution plain. without_rules_no_proof v truth (inst w e) (inst w x) (inst w s) (handlers_inst w s h) }
 
 -- another type than List
 abbrev pub other_type : Tree
@@ -40,7 +41,7 @@ other_type = constructor 2 empty
 
 -- where the only rule is impl Auto(List), Auto of another type has no solution in any table
 pub other_is_unsolved : (c : Content) (e : Tree) → HasNoSolutionIn fact_only c e (auto_of other_type)
-other_is_unsolved c e = record { none = λ truth fair respects v w solution p. (let used = fact_used [] v truth (inst w e) other_type (tt, ((tt, tt), tt)) p in let z : other_type ≡ list_type = used.0 in cc z) }
+other_is_unsolved c e = record { none = λ truth fair respects v w solution plain p. (let used = fact_used [] v truth (inst w e) other_type (tt, ((tt, tt), tt)) p in let z : other_type ≡ list_type = used.0 in cc z) }
 
 -- a table without variables, one with a type variable of which nothing is known, and one in which it has a value
 abbrev pub table_of : List Slot → List ℕ → Content
@@ -64,6 +65,13 @@ variable = variable_tree kind.Ty 0
 -- the world in which each variable is List, and everything outlives everything
 abbrev all_lists : World
 all_lists = record { tree = λ n. list_type; region = λ r. r; outlives = all_true }
+
+-- no alias stands for a variable there
+lists_plain : (l : Leaf) → IsAliasFree (inst all_lists (leaf_tree l))
+lists_plain (leaf.Variable k n) = (refl, ((refl, tt), tt))
+lists_plain (leaf.Region r) = (refl, tt)
+lists_plain (leaf.TyConstant a) = (refl, tt)
+lists_plain (leaf.ConstConstant a) = (refl, tt)
 
 -- it is a solution of a table of type variables that it solves
 lists_solve : (slots : List Slot) (order : List ℕ) → ((n : ℕ) → SolvesState all_lists n (state_of (table_of slots order) n)) → ((n : ℕ) (k : VariableKind) → kind_at (table_of slots order) n ≡ Some k → k ≡ kind.Ty)
@@ -125,20 +133,20 @@ unsolvable_leaks_is_right truth = record { none = λ c u w leaks s. leaks w s }
 
 -- it is not said of a fact that it has no solution
 pub fact_is_solved : HasNoSolutionIn fact_only no_variables nowhere auto_list → ⊥
-fact_is_solved h = h.none all_true all_true_is_fair (tight_respects fact_only (λ c u l. l) all_true) (λ i. []) all_lists solves_none (fact_has_proof (λ i. []) all_true)
+fact_is_solved h = h.none all_true all_true_is_fair (tight_respects fact_only (λ c u l. l) all_true) (λ i. []) all_lists solves_none (λ l i. lists_plain l) (fact_has_proof (λ i. []) all_true)
 
 -- nor is it said of the fact's trait of a type variable
 pub variable_is_solved : HasNoSolutionIn fact_only one_unset nowhere (auto_of variable) → ⊥
-variable_is_solved h = h.none all_true all_true_is_fair (tight_respects fact_only (λ c u l. l) all_true) (λ i. []) all_lists solves_unset (fact_has_proof (λ i. []) all_true)
+variable_is_solved h = h.none all_true all_true_is_fair (tight_respects fact_only (λ c u l. l) all_true) (λ i. []) all_lists solves_unset (λ l i. lists_plain l) (fact_has_proof (λ i. []) all_true)
 
 -- a table keeps its own solutions, of each goal
 pub same_table_keeps : (h : Handler) (c : Content) (e g : Tree) → KeepsSolutionsOf h c c e g
-same_table_keeps h c e g = record { each = λ truth fair respects v w s p. (w, Agrees-refl (length c.slots) w, s) }
+same_table_keeps h c e g = record { each = λ truth fair respects v w s plain p. (w, Agrees-refl (length c.slots) w, s) }
 
 -- where the only rule is impl Auto(List), a table in which the variable is List keeps the solutions of Auto of the variable
 list_is_kept : KeepsSolutionsOf fact_only one_unset (one_known list_type) nowhere (auto_of variable)
 list_is_kept = record {
-  each = λ truth fair respects v w s p. (let first = s.solves.fitting.each 0 kind.Ty refl in
+  each = λ truth fair respects v w s plain p. (let first = s.solves.fitting.each 0 kind.Ty refl in
       let used = fact_used [] v truth nowhere (w.tree 0) first.closed p in
       (w, Agrees-refl 1 w, is_known truth w s used.0));
 }
@@ -174,7 +182,7 @@ list_is_kept = record {
 -- a table in which the variable is another type has lost the solution in which it is List
 pub list_is_lost : KeepsSolutionsOf fact_only one_unset (one_known other_type) nowhere (auto_of variable) → ⊥
 list_is_lost h =
-    let (later, agrees, s) = h.each all_true all_true_is_fair (tight_respects fact_only (λ c u l. l) all_true) (λ i. []) all_lists solves_unset (fact_has_proof (λ i. []) all_true) in
+    let (later, agrees, s) = h.each all_true all_true_is_fair (tight_respects fact_only (λ c u l. l) all_true) (λ i. []) all_lists solves_unset (λ l i. lists_plain l) (fact_has_proof (λ i. []) all_true) in
     let here : later.tree 0 ≡ other_type = s.solves.values 0 in
     let there : later.tree 0 ≡ list_type = agrees.trees 0 (omega arith) in
     let z : other_type ≡ list_type = sym here ∙ there in
@@ -193,20 +201,20 @@ module _ (v : ℕ → List Variance) (truth : Truth) where
 
   -- List solves the query
   list_solves : IsSolutionOf Proves question (list_type ∷ [])
-  list_solves = record { values = (record { value = record { fits = refl; closed = (tt, ((tt, tt), tt)); formed = ((refl, tt), ((tt, tt), tt)) }; named = (tt, ((tt, tt), tt)) }, tt); proved = fact_has_proof v truth }
+  list_solves = record { values = (record { value = record { fits = refl; closed = (tt, ((tt, tt), tt)); formed = ((refl, tt), ((tt, tt), tt)) }; named = (tt, ((tt, tt), tt)) }, tt); plain = λ t i. elim i [ inl e ↦ subst IsAliasFree (sym e) (refl, ((refl, tt), tt)) | inr j ↦ absurd j ]; proved = fact_has_proof v truth }
 
   -- the answer List contains each solution of it
   pub list_contains_each : AnswerContains truth Proves question (answer list_type)
   list_contains_each [] s = absurd s.values
   list_contains_each (t ∷ []) s =
       let used = fact_used [] v truth nowhere t (let x = s.values.0 in x.value.closed) s.proved in
-      record { own = []; values = tt; equal = ap (λ x. x ∷ []) (sym used.0); met = tt }
+      record { own = []; values = tt; plain = λ x i. absurd i; equal = ap (λ x. x ∷ []) (sym used.0); met = tt }
   list_contains_each (t ∷ u ∷ us) s = absurd s.values.1
 
   -- the answer that says nothing contains each solution of it
   nothing_said_contains_each : AnswerContains truth Proves question (unconstrained question.kinds)
   nothing_said_contains_each [] s = absurd s.values
-  nothing_said_contains_each (t ∷ []) s = (let x = s.values.0 in record { own = t ∷ []; values = (record { value = x.value; named = x.named }, tt); equal = refl; met = tt })
+  nothing_said_contains_each (t ∷ []) s = (let x = s.values.0 in record { own = t ∷ []; values = (record { value = x.value; named = x.named }, tt); plain = s.plain; equal = refl; met = tt })
   nothing_said_contains_each (t ∷ u ∷ us) s = absurd s.values.1
 
   -- the answer that it is another type lacks a solution
@@ -233,7 +241,7 @@ under_static =
 
 -- it contains the solution List where the constraint is true
 constraint_is_met : ContainsSolution all_true under_static (list_type ∷ [])
-constraint_is_met = record { own = []; values = tt; equal = refl; met = (inr refl, tt) }
+constraint_is_met = record { own = []; values = tt; plain = λ x i. absurd i; equal = refl; met = (inr refl, tt) }
 
 -- it lacks the solution List where the constraint is not true
 constraint_is_not_met : (v : ℕ → List Variance) → AnswerContains none_true (HasMetProof (meaning fact_only v) none_true) question under_static → ⊥

@@ -86,7 +86,7 @@ all_failed (then_replies {vs = vs} {v = v} before reply) none x i = absurd (not_
 pub fact_is_not_refuted : (Q : Queries) (h : Handler) (mode : Mode) (c : Content) (e g : Tree) (qs : List Tree) (x : Candidate) → HasNoLeaks h → Among (h.offers mode e (opened_in c g)) x → IsCandidateMet (entered_table c g) x → x.constraints ≡ [] → x.goals ≡ [] → HasPlainEquations x
     → IsHandlers (statement_of (opened_in c g)) → Refutes Q h mode c e g qs → ⊥
 fact_is_not_refuted Q h mode c e g qs x tight offered met constraints goals plain is (is_denied d) = denied_no_handlers h.judges (statement_of (opened_in c g)) d is
-fact_is_not_refuted Q h mode c e g qs x tight offered met constraints goals plain is (own_fails y own fails) = (let z = own.way in way_no_handlers h.judges e z.statement y z.way (subst (λ v. IsHandlers (statement_of v)) z.binds_nothing is))
+fact_is_not_refuted Q h mode c e g qs x tight offered met constraints goals plain is (own_fails y own one fails) = (let z = own.way in way_no_handlers h.judges e z.statement y z.way (subst (λ v. IsHandlers (statement_of v)) z.binds_nothing is))
 fact_is_not_refuted Q h mode c e g qs x tight offered met constraints goals plain is (is_no_subtype outside n) = subtyping_no_handlers (opened_in c g) n.left n.right n.is is
 fact_is_not_refuted Q h mode c e g qs x tight offered met constraints goals plain is (subtype_refused ps there outside l refused) = subtyping_no_handlers (opened_in c g) l.left l.right l.is is
 fact_is_not_refuted Q h mode c e g qs x tight offered met constraints goals plain is (all_fail ready all) = fact_never_fails Q h mode (entered_table c g) e x tight met constraints goals plain (kind_for h (opened_in c g)) (all_failed all refl x offered)

@@ -19,6 +19,7 @@ use Rattle.nts_model.specs.Derivations.Rules.{region_lives, type_lives, subtyped
 use Rattle.nts_model.specs.Derivations.Handlers.{Candidate, Judgements}
 use Rattle.nts_model.specs.Refutation.Opening.{binds, placeholder_in, opened_in}
 use Rattle.nts_theory.specs.Affirming.{IsAffirmed, feature_allowed, has_objects, named_const, value_const, error_const, error_type, evaluated_const, IsDenied, IsOwnWay, by_type, by_goals}
+use Rattle.nts_theory.specs.Refutation.Refutation.{HasNoAlias}
 
 -- no rule of a handler is about such statements
 pub affirmed_no_handlers : (j : Judgements) (e s : Tree) → IsAffirmed j e s → IsHandlers s → ⊥
@@ -131,3 +132,7 @@ denied_before j c g d = record { of_trait = d.of_trait; is = by_bool (binds g) r
     by_bool true q =
         let o : opened_in c g ≡ unbound (opened (placeholder_in (c.universe + 1)) 0 (statement_of g)) = rw q refl in
         opened_compatible (placeholder_in (c.universe + 1)) (statement_of g) d.of_trait (ap statement_of (sym o) ∙ d.is)
+
+-- no alias stands in what is denied
+pub denied_plain : (j : Judgements) (s : Tree) → IsDenied j s → HasNoAlias s
+denied_plain j s d = subst HasNoAlias (sym d.is) (refl, tt)

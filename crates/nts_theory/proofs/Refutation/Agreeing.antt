@@ -15,7 +15,8 @@ use Rattle.nts_model.specs.Canonical.Inputs.{PositionKind, type_variable, intege
 use Rattle.nts_model.specs.Refutation.Opening.{placeholder_in}
 use Rattle.nts_model.specs.Searching.Driving.{sort_at, positions_from}
 use Rattle.nts_model.specs.Answers.Responses.{Response}
-use Rattle.nts_model.specs.Refutation.Containing.{Truth, IsRootValue, IsOwnValue, IsInputValue, AreInputValues, IsAnswerValue, AreAnswerValues, ContainsSolution}
+use Rattle.nts_model.specs.Lists.{Among}
+use Rattle.nts_model.specs.Refutation.Containing.{IsAliasFree, Truth, IsRootValue, IsOwnValue, IsInputValue, AreInputValues, IsAnswerValue, AreAnswerValues, ContainsSolution}
 use Rattle.nts_model.proofs.Tables.Solving.{NamesAll-more}
 use Rattle.nts_theory.specs.Telling.{SaysNothing, IsIdentityAnswer, IsLeafOfKind, AreTermsOfKinds}
 
@@ -187,12 +188,13 @@ same_place : (vs : List Tree) (a b : ℕ) → b ≡ 0 + a → get_or vs a empty 
 same_place vs a b e = (let q : a ≡ b = omega (arith, e) in ap (λ z. get_or vs z empty) q)
 
 -- an answer of which each value is its position, and whose kinds say as little as the input's, contains what values there are
-pub identity_contains : (truth : Truth) (ks : List PositionKind) (r : Response) (vs : List Tree) → AreNumberedKinds 0 ks → IsIdentityAnswer r → (let x = r.findings in length x.values ≡ length ks) → AllAgree ks r.kinds → AreInputValues ks vs → ContainsSolution truth r vs
-identity_contains truth ks r vs n same long agree h =
+pub identity_contains : (truth : Truth) (ks : List PositionKind) (r : Response) (vs : List Tree) → AreNumberedKinds 0 ks → IsIdentityAnswer r → (let x = r.findings in length x.values ≡ length ks) → AllAgree ks r.kinds → AreInputValues ks vs → ((v : Tree) → Among vs v → IsAliasFree v) → ContainsSolution truth r vs
+identity_contains truth ks r vs n same long agree h free =
     let x = r.findings in
     record {
       own = vs;
       values = all_agree vs 0 ks r.kinds vs n agree (same_place vs) h;
+      plain = free;
       equal = filled_each vs 0 x.values vs (long ∙ sym (values_long ks vs h)) (λ i l. (let p = same.values i l in let z : i ≡ 0 + i = omega arith in (p.0, p.1 ∙ ap (position p.0) z))) (same_place vs);
       met = rw (same.constraints) tt;
     }
@@ -203,8 +205,8 @@ nothing_is_identity ks r e =
     subst IsIdentityAnswer (sym e)
     (record { values = λ i l. (let p = position_at 0 ks i l in let z : 0 + i ≡ i = omega arith in (p.0, p.1 ∙ ap (position p.0) z)); constraints = refl; hidden = refl; open_goals = refl })
 
-pub nothing_contains : (truth : Truth) (ks : List PositionKind) (r : Response) (vs : List Tree) → AreNumberedKinds 0 ks → SaysNothing ks r → AreInputValues ks vs → ContainsSolution truth r vs
-nothing_contains truth ks r vs n e h =
+pub nothing_contains : (truth : Truth) (ks : List PositionKind) (r : Response) (vs : List Tree) → AreNumberedKinds 0 ks → SaysNothing ks r → AreInputValues ks vs → ((v : Tree) → Among vs v → IsAliasFree v) → ContainsSolution truth r vs
+nothing_contains truth ks r vs n e h free =
     let values : (let x = r.findings in x.values ≡ positions_from 0 ks) = ap (λ (z : Response). (let y = z.findings in y.values)) e in
     let kinds : r.kinds ≡ ks = ap (λ (z : Response). z.kinds) e in
-    identity_contains truth ks r vs n (nothing_is_identity ks r e) (ap (length {A = Tree}) values ∙ positions_long 0 ks) (subst (AllAgree ks) (sym kinds) (agree_themselves ks)) h
+    identity_contains truth ks r vs n (nothing_is_identity ks r e) (ap (length {A = Tree}) values ∙ positions_long 0 ks) (subst (AllAgree ks) (sym kinds) (agree_themselves ks)) h free

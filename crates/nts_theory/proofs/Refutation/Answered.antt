@@ -7,11 +7,12 @@ use Rattle.nts_model.specs.declared.labels.VariableKind.{VariableKind}
 use Rattle.nts_model.specs.declared.labels.FreeRegion.{FreeRegion}
 use Rattle.nts_model.specs.declared.labels.FreeRegion.TheVariants as region
 use Rattle.nts_model.specs.declared.labels.Leaf.{Leaf}
+use Rattle.nts_model.specs.declared.labels.Leaf.TheVariants as leaf
 use Rattle.nts_model.specs.Terms.Trees.{Tree, empty, IsFormed}
 use Rattle.nts_model.specs.Tables.Contents.{Content, kind_at}
 use Rattle.nts_model.specs.Tables.Resolving.{Knows}
 use Rattle.nts_model.specs.Terms.Placeholders.{CanName, free_region_level, leaf_level}
-use Rattle.nts_model.specs.Tables.Worlds.{World, inst, IsNameable, Solves, Agrees}
+use Rattle.nts_model.specs.Tables.Worlds.{World, inst, IsFitting, IsNameable, Solves, Agrees}
 use Rattle.nts_model.specs.Terms.Substitutions.{leaf_tree, Occurs, instance_of, filled}
 use Rattle.nts_model.specs.Derivations.Related.{pair}
 use Rattle.nts_model.specs.Lists.{Among}
@@ -19,12 +20,13 @@ use Rattle.nts_model.specs.Derivations.Sequents.{Premise}
 use Rattle.nts_model.specs.Tables.Passing.{AllLabels}
 use Rattle.nts_model.specs.Canonical.Inputs.{Input, IsInput, originals, canonical_of, OccursIn}
 use Rattle.nts_model.specs.Answers.Responses.{Response, Applies, IsResponseTo}
-use Rattle.nts_model.specs.Refutation.Containing.{Truth, original_level, IsSolution, IsSolutionOf, AnswerContains, HasNoSolution, Carrier, IsGroundLabel, IsCarriable, AreGround, IsProvedIn, SolvesGoals, ExtendsTo, KeepsSolutions, RefusesGoals}
+use Rattle.nts_model.specs.Refutation.Containing.{IsAliasFree, IsPlainWorld, Truth, original_level, IsSolution, IsSolutionOf, AnswerContains, HasNoSolution, Carrier, IsGroundLabel, IsCarriable, IsProvedIn, SolvesGoals, ExtendsTo, KeepsSolutions}
 use Rattle.nts_model.proofs.Tables.Instances.{inst-agrees, Agrees-refl, Agrees-trans, KeepsFixedRegions-agrees}
 use Rattle.nts_model.proofs.Tables.Slots.{CanName-more}
 use Rattle.nts_model.proofs.Canonical.CanonicalForms.{originals_give_input, originals_are_leaves}
 use Rattle.nts_theory.proofs.Responses.Answering.{canonical_environment_over, canonical_predicate_over}
-use Rattle.nts_theory.proofs.Refutation.AskingWorlds.{image_inside, formed_parts, ground_parts, IsAskable, image, asked_values, asked_filled, contained_granted, named_with_regions, IsOfParts}
+use Rattle.nts_theory.proofs.Refutation.PlainTerms.{free_instance, alias_level, free_are_named, plain_by_names}
+use Rattle.nts_theory.proofs.Refutation.AskingWorlds.{image_inside, ground_parts, IsAskable, image, asked_values, asked_filled, contained_granted, named_with_regions, IsOfParts}
 use Rattle.nts_model.proofs.Lists.{among_left, among_right}
 use Rattle.nts_theory.proofs.Responses.Asked.{first_part, rest_part}
 
@@ -80,6 +82,20 @@ pub record AreOriginalsOf (c : Content) (ls : List Leaf) : Type 0 where
   pub knows : (l : Leaf) → Among ls l → Knows c (leaf_tree l)
   pub low : (l : Leaf) → Among ls l → CanName c.universe (original_level c l)
 
+-- a solution goes on to a later table, and no alias comes to stand for a variable
+pub record GoesOn (truth : Truth) (base : ℕ) (c d : Content) (w : World) : Type 0 where
+  pub world : World
+  pub agrees : Agrees (length c.slots) w world
+  pub solution : IsSolution truth base d world
+  pub plain : IsPlainWorld c w → IsPlainWorld d world
+
+-- what a leaf that the table knows is in a world is formed
+pub leaf_formed : (c : Content) (w : World) → IsFitting c w → (l : Leaf) → Knows c (leaf_tree l) → IsFormed (inst w (leaf_tree l))
+leaf_formed c w f (leaf.Variable k n) h = (let v = f.each n k h.0.0 in v.formed)
+leaf_formed c w f (leaf.Region r) h = (tt, tt)
+leaf_formed c w f (leaf.TyConstant a) h = (tt, tt)
+leaf_formed c w f (leaf.ConstConstant a) h = (tt, tt)
+
 -- what holds between a caller's table and a query, and does not depend on the answer
 pub record IsAskedFrom (truth : Truth) (Proves : Tree → Tree → Type 0) (c : Content) (i : Input) : Type 0 where
   pub input : IsInput i
@@ -88,23 +104,34 @@ pub record IsAskedFrom (truth : Truth) (Proves : Tree → Tree → Type 0) (c : 
   pub carrier : Carrier c.universe (originals i)
   pub carriable : IsCarriable Proves c.universe (originals i) carrier
   pub fair : (a b : Tree) → truth (instance_of carrier.back a) (instance_of carrier.back b) ≡ truth a b
-  pub ground : AreGround Proves
+  pub ground : (e g : Tree) → Proves e g → AllLabels IsGroundLabel (pair e g)
+  pub to_free : (l : Leaf) → IsAliasFree (carrier.to.value l)
+  pub back_free : (l : Leaf) → IsAliasFree (carrier.back.value l)
 
 module _ (truth : Truth) (base : ℕ) (Proves : Tree → Tree → Type 0) (c : Content) (i : Input) (h : IsAskedFrom truth Proves c i) where
-  pub askable : (w : World) → Proves (inst w i.environment) (inst w i.predicate) → (l : Leaf) → Among (originals i) l → IsAskable c w l
-  askable w p l a =
+  -- no alias stands for an original
+  abbrev pub IsPlainAt : World → Type 0
+  IsPlainAt w = (l : Leaf) → Among (originals i) l → IsAliasFree (inst w (leaf_tree l))
+
+  pub askable : (w : World) → IsSolution truth base c w → IsPlainAt w → Proves (inst w i.environment) (inst w i.predicate) → (l : Leaf) → Among (originals i) l → IsAskable c w l
+  askable w s f p l a =
       let known = h.originals_of in
-      let g = h.ground in
       record {
         knows = known.knows l a;
         low = known.low l a;
-        formed = leaf_image IsFormed formed_parts w i h.input h.nothing_hidden (g.formed _ _ p) l a;
-        ground = leaf_image (AllLabels IsGroundLabel) ground_parts w i h.input h.nothing_hidden (g.ground _ _ p) l a;
+        formed = leaf_formed c w s.solves.fitting l (known.knows l a);
+        ground = leaf_image (AllLabels IsGroundLabel) ground_parts w i h.input h.nothing_hidden (h.ground _ _ p) l a;
+        free = f l a;
       }
 
+  image_free : (w : World) (s : IsSolution truth base c w) → IsPlainAt w → (ls : List Leaf) → ((l : Leaf) → Among ls l → Among (originals i) l) → (v : Tree) → Among (map (image truth base c w s (originals i) h.carrier) ls) v → IsAliasFree v
+  image_free w s f [] k v n = absurd n
+  image_free w s f (l ∷ ls) k v (inl e) = subst IsAliasFree (sym e) (free_instance (h.carrier.to.value) h.to_free (inst w (leaf_tree l)) (f l (k l (inl refl))))
+  image_free w s f (l ∷ ls) k v (inr n) = image_free w s f ls (λ x j. k x (inr j)) v n
+
   -- a solution of the caller's table that proves the goal is one of the query
-  pub asked_solution : (w : World) (s : IsSolution truth base c w) → Proves (inst w i.environment) (inst w i.predicate) → IsSolutionOf Proves (canonical_of i) (map (image truth base c w s (originals i) h.carrier) (originals i))
-  asked_solution w s p =
+  pub asked_solution : (w : World) (s : IsSolution truth base c w) → IsPlainAt w → Proves (inst w i.environment) (inst w i.predicate) → IsSolutionOf Proves (canonical_of i) (map (image truth base c w s (originals i) h.carrier) (originals i))
+  asked_solution w s f p =
       let κ = h.carrier in
       let vs = map (image truth base c w s (originals i) κ) (originals i) in
       let e : filled vs (canonical_of i).environment ≡ instance_of κ.to (inst w i.environment) =
@@ -113,25 +140,36 @@ module _ (truth : Truth) (base : ℕ) (Proves : Tree → Tree → Type 0) (c : C
       asked_filled truth base c w s (originals i) κ (canonical_of i).predicate (canonical_predicate_over i h.input) ∙ ap (λ z. instance_of κ.to (inst w z)) (given_predicate i h.input) in
       let can = h.carriable in
       record {
-        values = asked_values truth base c w s (originals i) κ i.sub_root (originals i) (λ l a. a) (askable w p);
+        values = asked_values truth base c w s (originals i) κ i.sub_root (originals i) (λ l a. a) (askable w s f p);
+        plain = image_free w s f (originals i) (λ l a. a);
         proved = subst (λ z. Proves z (filled vs (canonical_of i).predicate)) (sym e) (subst (λ z. Proves (instance_of κ.to (inst w i.environment)) z) (sym g) (can.carried _ _ p));
       }
 
   -- so a query that refuses has a caller that refuses
-  pub asked_refuses : HasNoSolution Proves (canonical_of i) → (w : World) → IsSolution truth base c w → Proves (inst w i.environment) (inst w i.predicate) → ⊥
-  asked_refuses none w s p = none _ (asked_solution w s p)
+  pub asked_refuses : HasNoSolution Proves (canonical_of i) → (w : World) → IsSolution truth base c w → IsPlainAt w → Proves (inst w i.environment) (inst w i.predicate) → ⊥
+  asked_refuses none w s f p = none _ (asked_solution w s f p)
 
   -- .. and an answer that contains all solutions is applied without losing any
   pub asked_extends : (r : Response) (d : Content) → IsResponseTo (canonical_of i).kinds r → Applies c d (map leaf_tree (originals i)) r → c.universe ≤ d.universe → AnswerContains truth Proves (canonical_of i) r
-      → (w : World) → IsSolution truth base c w → Proves (inst w i.environment) (inst w i.predicate) → ExtendsTo truth base Proves c d [] w
-  asked_extends r d fit a up all w s p =
+      → (w : World) → IsSolution truth base c w → IsPlainAt w → Proves (inst w i.environment) (inst w i.predicate) → GoesOn truth base c d w
+  asked_extends r d fit a up all w s f p =
       let κ = h.carrier in
-      let x = all _ (asked_solution w s p) in
-      let can = askable w p in
+      let x = all _ (asked_solution w s f p) in
+      let can = askable w s f p in
       let granted = contained_granted truth base c w s (originals i) κ can h.fair (canonical_of i).kinds r fit x in
       let e = a.complete w (map (instance_of κ.back) x.own) s.solves granted in
-      let named = e.names leaf_level s.named (named_with_regions truth base c w s (originals i) κ can h.fair r.kinds x.own x.values) in
-      record { world = e.world; agrees = e.agrees; solves = record { solution = solution_later truth base c d w e.world s up e.agrees e.solves named; goals = λ q n. absurd n } }
+      let by = named_with_regions truth base c w s (originals i) κ can h.fair r.kinds x.own x.values in
+      record {
+        world = e.world;
+        agrees = e.agrees;
+        solution = solution_later truth base c d w e.world s up e.agrees e.solves (e.names leaf_level s.named by);
+        plain = plain_by_names c d w e.world (λ m n. e.names (alias_level m) n (free_are_named leaf_level m c.universe r.kinds (map (instance_of κ.back) x.own) by (back_plain x.own x.plain)));
+      }
+    where
+      back_plain : (ts : List Tree) → ((t : Tree) → Among ts t → IsAliasFree t) → (t : Tree) → Among (map (instance_of h.carrier.back) ts) t → IsAliasFree t
+      back_plain [] g t n = absurd n
+      back_plain (x ∷ ts) g t (inl q) = subst IsAliasFree (sym q) (free_instance (h.carrier.back.value) h.back_free x (g x (inl refl)))
+      back_plain (x ∷ ts) g t (inr n) = back_plain ts (λ y j. g y (inr j)) t n
 
 -- goals that are terms of a table
 pub record AreTermsOf (c : Content) (gs : List Premise) : Type 0 where
@@ -155,7 +193,7 @@ module _ (truth : Truth) (base : ℕ) (Proves : Tree → Tree → Type 0) where
       record {
         longer = omega arith;
         kinds = λ n k e. e;
-        each = λ w s. record { world = w; agrees = Agrees-refl (length c.slots) w; solves = record { solution = s.solution; goals = λ q a. s.goals q (h q a) } };
+        each = λ w s. record { world = w; agrees = Agrees-refl (length c.slots) w; solves = record { solution = s.solution; plain = s.plain; goals = λ q a. s.goals q (h q a) } };
       }
 
   pub kept_trans : (c d e : Content) (gs hs ks : List Premise) → KeepsSolutions truth base Proves c gs d hs → KeepsSolutions truth base Proves d hs e ks → KeepsSolutions truth base Proves c gs e ks
@@ -166,53 +204,3 @@ module _ (truth : Truth) (base : ℕ) (Proves : Tree → Tree → Type 0) where
         each = λ w s. (let x = a.each w s in let y = b.each x.world x.solves in
             record { world = y.world; agrees = Agrees-trans (length c.slots) (length d.slots) w x.world y.world a.longer x.agrees y.agrees; solves = y.solves });
       }
-
-  -- other goals of the table stay
-  pub kept_beside : (c d : Content) (gs hs ks : List Premise) → AreTermsOf c ks → KeepsSolutions truth base Proves c gs d hs → KeepsSolutions truth base Proves c (gs ++ ks) d (hs ++ ks)
-  kept_beside c d gs hs ks t a =
-      record { longer = a.longer; kinds = a.kinds; each = λ w s. both w s (a.each w (record { solution = s.solution; goals = λ q m. s.goals q (among_left gs ks q m) })) }
-    where
-      both : (w : World) → SolvesGoals truth base Proves c (gs ++ ks) w → ExtendsTo truth base Proves c d hs w → ExtendsTo truth base Proves c d (hs ++ ks) w
-      both w s x =
-          let v = x.solves in
-          record {
-            world = x.world;
-            agrees = x.agrees;
-            solves = record {
-              solution = v.solution;
-              goals = λ q m. (elim (among_split hs ks q m) [
-                | inl n ↦ v.goals q n
-                | inr n ↦ still_proved c w x.world q x.agrees (t.environments q n) (t.predicates q n) (s.goals q (among_right gs ks q n))
-              ]);
-            };
-          }
-
-  -- one goal was asked: it goes, or stays as a term of the table
-  pub kept_asked : (c d : Content) (q : Premise) (hs : List Premise) → length c.slots ≤ length d.slots → ((n : ℕ) (k : VariableKind) → kind_at c n ≡ Some k → kind_at d n ≡ Some k) → AreTermsOf c (q ∷ [])
-      → ((g : Premise) → Among hs g → g ≡ q) → ((w : World) → IsSolution truth base c w → IsProvedIn Proves w q → ExtendsTo truth base Proves c d [] w) → KeepsSolutions truth base Proves c (q ∷ []) d hs
-  kept_asked c d q hs l k t one e =
-      record { longer = l; kinds = k; each = λ w s. (let p = s.goals q (inl refl) in keep w p (e w s.solution p)) }
-    where
-      keep : (w : World) → IsProvedIn Proves w q → ExtendsTo truth base Proves c d [] w → ExtendsTo truth base Proves c d hs w
-      keep w p x =
-          let v = x.solves in
-          record {
-            world = x.world;
-            agrees = x.agrees;
-            solves = record {
-              solution = v.solution;
-              goals = λ g m. subst (IsProvedIn Proves x.world) (sym (one g m)) (still_proved c w x.world q x.agrees (t.environments q (inl refl)) (t.predicates q (inl refl)) p);
-            };
-          }
-
-  -- a refusal is one of what came before, and of more goals
-  pub refuses_before : (c d : Content) (gs hs : List Premise) → KeepsSolutions truth base Proves c gs d hs → RefusesGoals truth base Proves d hs → RefusesGoals truth base Proves c gs
-  refuses_before c d gs hs a r w s = let x = a.each w s in r x.world x.solves
-
-  pub refuses_more : (c : Content) (gs hs : List Premise) → ((q : Premise) → Among gs q → Among hs q) → RefusesGoals truth base Proves c gs → RefusesGoals truth base Proves c hs
-  refuses_more c gs hs h r w s = r w (record { solution = s.solution; goals = λ q a. s.goals q (h q a) })
-
-  -- one goal of a step: the goals are those that are left over of this step, the goal, and those that are still to be asked
-  pub one_of_step : (c d : Content) (q : Premise) (kept rest hs : List Premise) → AreTermsOf c rest → AreTermsOf c kept → KeepsSolutions truth base Proves c (q ∷ []) d hs
-      → KeepsSolutions truth base Proves c ((q ∷ rest) ++ kept) d ((hs ++ rest) ++ kept)
-  one_of_step c d q kept rest hs t u a = kept_beside c d (q ∷ rest) (hs ++ rest) kept u (kept_beside c d (q ∷ []) hs rest t a)

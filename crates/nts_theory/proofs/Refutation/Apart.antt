@@ -13,7 +13,7 @@ use Rattle.nts_model.specs.Refutation.Choosing.{IsCandidateMet}
 use Rattle.nts_theory.specs.RelatingCandidates.{HasTypesApart}
 
 -- values leave what a type is built by
-head_filled : (f : Leaf → Tree) (vs : List Tree) (t : Tree) (h : TyHead) → label_of t ≡ Some (label.Ty h) → label_of (filled_under f vs t) ≡ Some (label.Ty h)
+pub head_filled : (f : Leaf → Tree) (vs : List Tree) (t : Tree) (h : TyHead) → label_of t ≡ Some (label.Ty h) → label_of (filled_under f vs t) ≡ Some (label.Ty h)
 head_filled f vs (node (label.Ty k) c) h e = e
 head_filled f vs (node (label.Leaf x) c) h e = cc e
 head_filled f vs (node (label.Bound s i n) c) h e = cc e

@@ -26,7 +26,7 @@ use Rattle.nts_model.specs.Tables.Passing.{AllLabels}
 use Rattle.nts_model.specs.Derivations.Handlers.{IsFixed}
 use Rattle.nts_model.specs.Canonical.Inputs.{PositionKind, type_variable, integer_variable, float_variable, const_variable, region_variable, placeholder, position_kind}
 use Rattle.nts_model.specs.Answers.Responses.{Response, IsOverPositions, IsResponseTo, placeholder_tree, read_in, IsImageOf, AreImagesOf, IsNamedBy, AreNamedBy, AreEqualIn, AreMetIn, GrantsFor}
-use Rattle.nts_model.specs.Refutation.Containing.{Truth, IsTrueBy, original_level, IsSolution, IsFreeRegion, IsRootValue, IsInputValue, AreInputValues, IsOwnValue, IsAnswerValue, AreAnswerValues, AreMetBy, ContainsSolution, Carrier, IsGroundLabel}
+use Rattle.nts_model.specs.Refutation.Containing.{IsAliasFree, Truth, IsTrueBy, original_level, IsSolution, IsFreeRegion, IsRootValue, IsInputValue, AreInputValues, IsOwnValue, IsAnswerValue, AreAnswerValues, AreMetBy, ContainsSolution, Carrier, IsGroundLabel}
 use Rattle.nts_model.proofs.Tables.Instances.{inst-node}
 use Rattle.nts_model.proofs.Tables.Solving.{NamesAll-more}
 use Rattle.nts_model.proofs.Terms.Identified.{named_tree}
@@ -117,6 +117,7 @@ pub record IsAskable (c : Content) (w : World) (l : Leaf) : Type 0 where
   pub low : CanName c.universe (original_level c l)
   pub formed : IsFormed (inst w (leaf_tree l))
   pub ground : AllLabels IsGroundLabel (inst w (leaf_tree l))
+  pub free : IsAliasFree (inst w (leaf_tree l))
 
 module _ (truth : Truth) (base : ℕ) (c : Content) (w : World) (s : IsSolution truth base c w) (ls : List Leaf) (κ : Carrier c.universe ls) where
   abbrev pub image : Leaf → Tree

@@ -16,22 +16,24 @@ use Rattle.nts_model.specs.declared.labels.Variance.{Variance}
 use Rattle.nts_model.specs.Terms.Substitutions.{leaf_tree, Occurs, IsConstant, filled}
 use Rattle.nts_model.specs.Derivations.Handlers.{Handler, Candidate, premise_by}
 use Rattle.nts_model.specs.Canonical.Inputs.{Input, originals, OccursIn}
-use Rattle.nts_model.specs.Refutation.Containing.{Truth, IsTrueBy, original_level, IsProvedIn, SolvesGoals, ExtendsTo}
-use Rattle.nts_theory.specs.Refutation.Refutation.{IsFair, IsTheory}
+use Rattle.nts_model.specs.Refutation.Containing.{Truth, IsTrueBy, original_level, IsProvedIn, SolvesGoals, ExtendsTo, IsAliasFree, IsPlainWorld}
+use Rattle.nts_theory.specs.Refutation.Refutation.{IsFair, IsTheory, IsPlainFor, IsGranted}
 use Rattle.nts_model.proofs.Tables.Instances.{inst-agrees}
 use Rattle.nts_model.proofs.Tables.Worlds.{inst-deeply_resolved}
 use Rattle.nts_model.proofs.Tables.Open.{Knows-deeply_resolved}
 use Rattle.nts_model.proofs.Tables.Slots.{Knows-kept, KeepsKinds-trans}
 use Rattle.nts_theory.proofs.Refutation.Freshening.{knows_leaf}
 use Rattle.nts_model.proofs.Canonical.CanonicalForms.{originals_are_leaves}
-use Rattle.nts_theory.proofs.Refutation.Answered.{IsAskedFrom, AreTermsOf, still_proved, kept_trans}
+use Rattle.nts_theory.proofs.Refutation.Answered.{IsAskedFrom, AreTermsOf, still_proved, kept_trans, GoesOn}
 use Rattle.nts_theory.proofs.Refutation.Trying.{Reaches as ReachesWorld, reaches_trans, equated_reaches}
 use Rattle.nts_theory.proofs.Refutation.Carriers.{moved, moved_carrying, back_to, back_carrying, carrier}
 use Rattle.nts_theory.proofs.Refutation.Opening.{IsBegunAt, CanBegin, AreTrueIn, added_all}
 use Rattle.nts_theory.specs.Telling.{IsInputFor, CanAsk}
-use Rattle.nts_theory.specs.RelatingCandidates.{IsBegun, Begins, goals_with, plain_part}
-use Rattle.nts_theory.proofs.Refutation.PlainParts.{plain_among}
+use Rattle.nts_theory.specs.RelatingCandidates.{IsBegun, Begins, goals_with, plain_part, plain_equations}
+use Rattle.nts_theory.proofs.Refutation.PlainParts.{plain_among, plain_is}
 use Rattle.nts_theory.proofs.Refutation.Queried.{Leads, Reached}
+use Rattle.nts_theory.proofs.Refutation.PlainTerms.{leaf_free}
+use Rattle.nts_theory.proofs.Refutation.Theories.{granted_renamed}
 
 -- the caller and its query
 variable_low : (c : Content) → AreCurrent c → (n : ℕ) → CanName c.universe (universe_of c n)
@@ -62,7 +64,16 @@ module _ (h : Handler) (truth : Truth) (Proves : Tree → Tree → Type 0) (theo
       by_place (inr (inl o)) = knows_leaf c l g (subst (Occurs l) of.predicate o) k.1.0
       by_place (inr (inr o)) = absurd (subst (Occurs l) of.hidden o)
 
-  pub asked_from : (c : Content) (e g : Tree) (i : Input) → IsInputFor c e g i → Knows c (pair e g) → AreCurrent c → IsAskedFrom truth Proves c i
+  -- no alias stands for what stands for no alias in the goal
+  pub originals_plain : (c : Content) (e g : Tree) (i : Input) → IsInputFor c e g i → (w : World) → IsPlainFor w (pair e g) → (l : Leaf) → Among (originals i) l → IsAliasFree (inst w (leaf_tree l))
+  originals_plain c e g i of w p l a = by_place (let b = originals_are_leaves i of.proper in let z = b.1 l in z.0 a)
+    where
+      by_place : OccursIn l i → IsAliasFree (inst w (leaf_tree l))
+      by_place (inl o) = p l (inl (subst (Occurs l) of.environment o.1))
+      by_place (inr (inl o)) = p l (inr (inl (subst (Occurs l) of.predicate o)))
+      by_place (inr (inr o)) = absurd (subst (Occurs l) of.hidden o)
+
+  pub asked_from : (c : Content) (e g : Tree) (i : Input) → IsInputFor c e g i → Knows c (pair e g) → AreCurrent c → IsAskedFrom truth (IsGranted Proves) c i
   unfolding carrier
   asked_from c e g i of k current =
       let ls = originals i in
@@ -77,9 +88,11 @@ module _ (h : Handler) (truth : Truth) (Proves : Tree → Tree → Type 0) (theo
         nothing_hidden = of.hidden;
         originals_of = record { knows = known; low = low };
         carrier = carrier c.universe ls both.0 here;
-        carriable = record { carried = λ x y p. theory.kept ρ is x y p };
+        carriable = record { carried = λ x y p. granted_renamed Proves Proves ρ is (theory.kept ρ is) x y p };
         fair = λ x y. fair.renamed (back_to ρ) (back_carrying ρ is) x y;
-        ground = theory.ground;
+        ground = λ x y p. p.ground;
+        to_free = λ l. (refl, tt);
+        back_free = λ l. (refl, tt);
       }
 
 -- a candidate that was begun: the world goes on, and proves its goals
@@ -105,17 +118,18 @@ module _ (truth : Truth) (Proves : Tree → Tree → Type 0) where
             (subst (λ z. IsTrueBy truth y.relation (inst v (filled xs y.left)) z) (sym (inst-agrees d v r.world (filled xs y.right) r.agrees (b.known.right y i))) (b.meets.met y i)));
       }
 
-  pub begun_at : (c met : Content) (w : World) (xs : List Tree) (x : Candidate) → IsBegun c x xs met → CanBegin truth Proves c w x → BegunAt truth Proves c met w (goals_with xs x.goals)
-  begun_at c met w xs x b k =
+  pub begun_at : (c met : Content) (w : World) (xs : List Tree) (x : Candidate) → IsPlainWorld c w → IsBegun c (plain_part x) xs met → CanBegin truth Proves c w x → BegunAt truth Proves c met w (goals_with xs x.goals)
+  begun_at c met w xs x free b k =
       let one = k.begins xs b.made b.freshens in
-      let two = equated_reaches truth 0 xs x.equations b.made b.equal one.reaches.world b.equates one.reaches.solution one.known.equations one.meets.equal in
-      let three = added_all truth 0 xs x.constraints b.equal met two.world b.adds two.solution (true_where c b.made b.equal w xs x one two) in
+      let two = equated_reaches truth 0 xs (plain_equations x.equations) b.made b.equal one.reaches.world b.equates one.reaches.solution one.known.equations one.meets.equal in
+      let three = added_all truth 0 xs x.constraints b.equal met two.world b.adds two.solution (true_where c b.made b.equal w xs (plain_part x) one two) in
       let later = reaches_trans truth 0 b.made b.equal met one.reaches.world two three in
       let all = reaches_trans truth 0 c b.made met w one.reaches later in
       record {
         reaches = all;
         goals = record {
           solution = all.solution;
+          plain = all.plain free;
           goals = λ q i. (let g = premise_among xs x.goals q i in
               subst (IsProvedIn Proves all.world) (sym g.2)
               (still_proved truth 0 Proves b.made one.reaches.world all.world (premise_by (filled xs) g.0) later.agrees (one.known.environments g.0 g.1) (one.known.predicates g.0 g.1) (one.meets.goals g.0 g.1)));
@@ -126,41 +140,18 @@ module _ (truth : Truth) (Proves : Tree → Tree → Type 0) where
         };
       }
 
-  -- its plain part can be begun too
-  plain_can_begin : (c : Content) (w : World) (x : Candidate) → CanBegin truth Proves c w x → CanBegin truth Proves c w (plain_part x)
-  plain_can_begin c w x k =
-      let m = k.is_met in
-      record {
-        is_met = record { world = m.world; solves = m.solves; values = m.values; fit = m.fit; named = m.named; equal = λ q i. m.equal q (plain_among x.equations q i) };
-        begins = λ xs d f. (let b = k.begins xs d f in
-            let meets = b.meets in
-            let known = b.known in
-            let equations = known.equations in
-            record {
-              reaches = b.reaches;
-              meets = record { equal = record { each = λ q i. (let all = meets.equal in all.each q (plain_among x.equations q i)) }; met = meets.met; goals = meets.goals };
-              known = record {
-                equations = record { left = λ q i. equations.left q (plain_among x.equations q i); right = λ q i. equations.right q (plain_among x.equations q i) };
-                left = known.left;
-                right = known.right;
-                environments = known.environments;
-                predicates = known.predicates;
-              };
-            });
-      }
-
   -- .. in coherence no equations are related
-  pub begun_with : (declared : ℕ → List Variance) (c met : Content) (w : World) (e : Tree) (x : Candidate) (ps : List Premise) → Begins declared coherence c e x met ps → CanBegin truth Proves c w x → BegunAt truth Proves c met w ps
-  begun_with declared c met w e x ps (inl (xs, in_one, b, same)) k = subst (BegunAt truth Proves c met w) (sym same) (begun_at c met w xs x b k)
-  begun_with declared c met w e x ps (inr (inl (outside, b))) k = absurd (outside refl)
-  begun_with declared c met w e x ps (inr (inr (inside, b))) k = subst (BegunAt truth Proves c met w) (sym b.premises) (begun_at c met w b.values (plain_part x) b.begun (plain_can_begin c w x k))
+  pub begun_with : (declared : ℕ → List Variance) (c met : Content) (w : World) (e : Tree) (x : Candidate) (ps : List Premise) → IsPlainWorld c w → Begins declared coherence c e x met ps → CanBegin truth Proves c w x → BegunAt truth Proves c met w ps
+  begun_with declared c met w e x ps free (inl (xs, in_one, b, same)) k = subst (BegunAt truth Proves c met w) (sym same) (begun_at c met w xs x free (subst (λ z. IsBegun c z xs met) (sym (plain_is x in_one)) b) k)
+  begun_with declared c met w e x ps free (inr (inl (outside, b))) k = absurd (outside refl)
+  begun_with declared c met w e x ps free (inr (inr (inside, b))) k = subst (BegunAt truth Proves c met w) (sym b.premises) (begun_at c met w b.values x free b.begun k)
 
   -- one more goal is asked; all of them stay
   pub asks_more : (c d e : Content) (gs : List Premise) (p : Premise) → Among gs p → AreTermsOf c gs → CanAsk d → Reached truth Proves c d gs → Leads truth Proves d e (deeply_resolved d p.environment) (deeply_resolved d p.predicate) → Reached truth Proves c e gs
   asks_more c d e gs p a t can before leads =
       record {
         keeps = KeepsKinds-trans before.keeps leads.keeps;
-        solutions = kept_trans truth 0 Proves c d e gs gs gs before.solutions (record { longer = leads.longer; kinds = (let k = leads.keeps in k.kinds); each = λ w s. again w s (leads.each 0 w s.solution (asked_there w s)) });
+        solutions = kept_trans truth 0 Proves c d e gs gs gs before.solutions (record { longer = leads.longer; kinds = (let k = leads.keeps in k.kinds); each = λ w s. again w s (leads.each 0 w s.solution (plain_there w s) (asked_there w s)) });
       }
     where
       at : (q : Premise) → Among gs q → Knows d q.environment × Knows d q.predicate
@@ -172,13 +163,18 @@ module _ (truth : Truth) (Proves : Tree → Tree → Type 0) where
           subst (λ y. Proves y (inst w (deeply_resolved d p.predicate))) (sym (inst-deeply_resolved d w p.environment can.sound z.solves))
           (subst (Proves (inst w p.environment)) (sym (inst-deeply_resolved d w p.predicate can.sound z.solves)) (s.goals p a))
 
-      again : (w : World) → SolvesGoals truth 0 Proves d gs w → ExtendsTo truth 0 Proves d e [] w → ExtendsTo truth 0 Proves d e gs w
+      plain_there : (w : World) → SolvesGoals truth 0 Proves d gs w → IsPlainFor w (pair (deeply_resolved d p.environment) (deeply_resolved d p.predicate))
+      plain_there w s l i =
+          let k = at p a in
+          let both : Knows d (pair (deeply_resolved d p.environment) (deeply_resolved d p.predicate)) = (Knows-deeply_resolved d p.environment can.sound k.0, (Knows-deeply_resolved d p.predicate can.sound k.1, tt)) in
+          leaf_free d w s.plain l (knows_leaf d l (pair (deeply_resolved d p.environment) (deeply_resolved d p.predicate)) i both)
+
+      again : (w : World) → SolvesGoals truth 0 Proves d gs w → GoesOn truth 0 d e w → ExtendsTo truth 0 Proves d e gs w
       again w s x =
-          let v = x.solves in
           record {
             world = x.world;
             agrees = x.agrees;
-            solves = record { solution = v.solution; goals = λ q i. (let k = at q i in still_proved truth 0 Proves d w x.world q x.agrees k.0 k.1 (s.goals q i)) };
+            solves = record { solution = x.solution; plain = x.plain s.plain; goals = λ q i. (let k = at q i in still_proved truth 0 Proves d w x.world q x.agrees k.0 k.1 (s.goals q i)) };
           }
 
   pub goal_known : (c d : Content) (gs : List Premise) (p : Premise) → Among gs p → AreTermsOf c gs → CanAsk d → Reached truth Proves c d gs → Knows d (pair (deeply_resolved d p.environment) (deeply_resolved d p.predicate))
@@ -186,6 +182,9 @@ module _ (truth : Truth) (Proves : Tree → Tree → Type 0) where
     Knows-deeply_resolved d p.environment can.sound (Knows-kept c d p.environment before.keeps (t.environments p a)),
     (Knows-deeply_resolved d p.predicate can.sound (Knows-kept c d p.predicate before.keeps (t.predicates p a)), tt),
   )
+
+  pub goal_plain : (c d : Content) (gs : List Premise) (p : Premise) → Among gs p → AreTermsOf c gs → CanAsk d → Reached truth Proves c d gs → (w : World) → IsPlainWorld d w → IsPlainFor w (pair (deeply_resolved d p.environment) (deeply_resolved d p.predicate))
+  goal_plain c d gs p a t can before w free l i = leaf_free d w free l (knows_leaf d l (pair (deeply_resolved d p.environment) (deeply_resolved d p.predicate)) i (goal_known c d gs p a t can before))
 
   pub goal_there : (d : Content) (gs : List Premise) (p : Premise) → Among gs p → CanAsk d → (w : World) → SolvesGoals truth 0 Proves d gs w → Proves (inst w (deeply_resolved d p.environment)) (inst w (deeply_resolved d p.predicate))
   goal_there d gs p a can w s =

@@ -19,7 +19,9 @@ use Rattle.nts_model.specs.Derivations.Handlers.{IsFixed}
 use Rattle.nts_model.specs.Canonical.Inputs.{CanonicalInput, PositionKind, type_variable, integer_variable, float_variable, const_variable, region_variable, placeholder}
 use Rattle.nts_model.specs.Answers.Responses.{Response, IsOverPositions, placeholder_tree, IsImageOf, AreImagesOf, IsNamedBy, AreNamedBy}
 use Rattle.nts_model.specs.Answers.Applying.{IsOriginalAt, ChoosesAll, IsProperContent, AreKnownTrees}
-use Rattle.nts_model.specs.Refutation.Containing.{Truth, IsSolution, IsFreeRegion, IsInputValue, AreInputValues, IsSolutionOf, ContainsSolution, AnswerContains, HasNoSolution}
+use Rattle.nts_model.specs.Lists.{Among}
+use Rattle.nts_model.specs.Refutation.Containing.{IsAliasFree, IsPlainWorld, Truth, IsSolution, IsFreeRegion, IsInputValue, AreInputValues, IsSolutionOf}
+use Rattle.nts_theory.proofs.Refutation.PlainTerms.{alias_level, free_are_named, plain_by_names}
 use Rattle.nts_model.proofs.Tables.Instances.{Agrees-refl}
 use Rattle.nts_model.proofs.Tables.Solving.{NamesAll-more}
 use Rattle.nts_model.proofs.Canonical.Positioned.{inst-filled, filled_under-fixed}
@@ -167,6 +169,7 @@ no_original (o ∷ os) n z h = h
 pub record Enters (truth : Truth) (Proves : Tree → Tree → Type 0) (i : CanonicalInput) (q : Content) (qs vs : List Tree) : Type 0 where
   pub world : World
   pub solution : IsSolution truth 0 q world
+  pub plain : IsPlainWorld q world
   pub images : map (inst world) qs ≡ vs
   pub proved : Proves (inst world (filled qs i.environment)) (inst world (filled qs i.predicate))
 
@@ -195,30 +198,42 @@ fixed_in w h (leaf.ConstConstant a) i = absurd i
 goal_image : (w : World) → KeepsFixedRegions w → (qs : List Tree) (t : Tree) → IsOverPositions t → inst w (filled qs t) ≡ filled (map (inst w) qs) t
 goal_image w h qs t o = inst-filled w qs t o.formed ∙ filled_under-fixed (λ l. inst w (leaf_tree l)) (map (inst w) qs) t (fixed_in w h) o
 
-pub entered : (truth : Truth) (Proves : Tree → Tree → Type 0) (i : CanonicalInput) (q : Content) (qs vs : List Tree) → IsBegun i q qs → IsSolutionOf Proves i vs → Enters truth Proves i q qs vs
-entered truth Proves i q qs vs b h =
-    let low = values_low 0 i.kinds vs b.numbered h.values in
+-- values for the positions, as a world of the query's first table
+pub record EntersAt (truth : Truth) (i : CanonicalInput) (q : Content) (qs vs : List Tree) : Type 0 where
+  pub world : World
+  pub solution : IsSolution truth 0 q world
+  pub plain : ((v : Tree) → Among vs v → IsAliasFree v) → IsPlainWorld q world
+  pub images : map (inst world) qs ≡ vs
+  pub environment : inst world (filled qs i.environment) ≡ filled vs i.environment
+  pub predicate : inst world (filled qs i.predicate) ≡ filled vs i.predicate
+
+pub entered_at : (truth : Truth) (i : CanonicalInput) (q : Content) (qs vs : List Tree) → IsBegun i q qs → AreInputValues i.kinds vs → EntersAt truth i q qs vs
+entered_at truth i q qs vs b values =
+    let low = values_low 0 i.kinds vs b.numbered values in
     let w = entered_world truth vs in
     let s = entered_solution truth vs low in
     let so : SoFar nothing [] b.stand_ins nothing w w = record { proper = b.proper; solves = s.solves; agrees = Agrees-refl 0 w; longer = omega arith; keeps = KeepsKinds-refl nothing } in
     let same : (j k : ℕ) → k ≡ 0 + j → get_or vs j empty ≡ get_or vs k empty = λ j k e. (let z : j ≡ k = omega (arith, e) in ap (λ y. get_or vs y empty) z) in
     let c = all_chosen nothing [] b.stand_ins 0 i.kinds qs vs nothing q w w b.known (λ j n z e o. absurd (no_original b.stand_ins n z o)) so b.made
-    (all_images truth vs b.stand_ins 0 i.kinds vs b.numbered b.are_stand_ins same h.values) (all_named term_level names_terms i.kinds vs h.values) in
-    let t = solution_later truth 0 nothing q w c.world s (omega arith) c.agrees c.solves (c.names leaf_level s.named (all_named leaf_level (λ u x k. k) i.kinds vs h.values)) in
-    let e : inst c.world (filled qs i.environment) ≡ filled vs i.environment = goal_image c.world t.fixed qs i.environment b.environment ∙ ap (λ z. filled z i.environment) c.images in
-    let p : inst c.world (filled qs i.predicate) ≡ filled vs i.predicate = goal_image c.world t.fixed qs i.predicate b.predicate ∙ ap (λ z. filled z i.predicate) c.images in
+    (all_images truth vs b.stand_ins 0 i.kinds vs b.numbered b.are_stand_ins same values) (all_named term_level names_terms i.kinds vs values) in
+    let by = all_named leaf_level (λ u x k. k) i.kinds vs values in
+    let t = solution_later truth 0 nothing q w c.world s (omega arith) c.agrees c.solves (c.names leaf_level s.named by) in
     record {
       world = c.world;
       solution = t;
+      plain = λ free. plain_by_names nothing q w c.world (λ m n. c.names (alias_level m) n (free_are_named leaf_level m 0 i.kinds vs by free)) (record { each = λ n k e. absurd (no_kind n k e) });
       images = c.images;
-      proved = subst (λ z. Proves z (inst c.world (filled qs i.predicate))) (sym e) (subst (Proves (filled vs i.environment)) (sym p) h.proved);
+      environment = goal_image c.world t.fixed qs i.environment b.environment ∙ ap (λ z. filled z i.environment) c.images;
+      predicate = goal_image c.world t.fixed qs i.predicate b.predicate ∙ ap (λ z. filled z i.predicate) c.images;
     }
 
--- what is shown of the query's table is shown of the query
-pub body_contains : (truth : Truth) (Proves : Tree → Tree → Type 0) (i : CanonicalInput) (q : Content) (qs : List Tree) (r : Response) → IsBegun i q qs
-    → ((w : World) → IsSolution truth 0 q w → Proves (inst w (filled qs i.environment)) (inst w (filled qs i.predicate)) → ContainsSolution truth r (map (inst w) qs)) → AnswerContains truth Proves i r
-body_contains truth Proves i q qs r b h vs s = let e = entered truth Proves i q qs vs b s in subst (ContainsSolution truth r) e.images (h e.world e.solution e.proved)
-
-pub body_refuses : (truth : Truth) (Proves : Tree → Tree → Type 0) (i : CanonicalInput) (q : Content) (qs : List Tree) → IsBegun i q qs
-    → ((w : World) → IsSolution truth 0 q w → Proves (inst w (filled qs i.environment)) (inst w (filled qs i.predicate)) → ⊥) → HasNoSolution Proves i
-body_refuses truth Proves i q qs b h vs s = let e = entered truth Proves i q qs vs b s in h e.world e.solution e.proved
+pub entered : (truth : Truth) (Proves : Tree → Tree → Type 0) (i : CanonicalInput) (q : Content) (qs vs : List Tree) → IsBegun i q qs → IsSolutionOf Proves i vs → Enters truth Proves i q qs vs
+entered truth Proves i q qs vs b h =
+    let c = entered_at truth i q qs vs b h.values in
+    record {
+      world = c.world;
+      solution = c.solution;
+      plain = c.plain h.plain;
+      images = c.images;
+      proved = subst (λ z. Proves z (inst c.world (filled qs i.predicate))) (sym c.environment) (subst (Proves (filled vs i.environment)) (sym c.predicate) h.proved);
+    }

@@ -21,7 +21,12 @@ use Rattle.nts_model.specs.Canonical.Inputs.{type_variable}
 use Rattle.nts_model.specs.Answers.Responses.{read_in, bound_of}
 use Rattle.nts_model.specs.Answers.Applying.{IsNew, IsProperContent}
 use Rattle.nts_model.specs.Terms.Placeholders.{leaf_level}
-use Rattle.nts_model.specs.Refutation.Containing.{Truth, IsTrueBy, IsSolution}
+use Rattle.nts_model.specs.Refutation.Containing.{IsAliasFree, IsPlainWorld, Truth, IsTrueBy, IsSolution}
+use Rattle.nts_model.specs.Lists.{Among}
+use Rattle.nts_theory.specs.RelatingCandidates.{plain_part}
+use Rattle.nts_theory.specs.Refutation.Refutation.{IsGranted}
+use Rattle.nts_theory.proofs.Refutation.PlainParts.{plain_among}
+use Rattle.nts_theory.proofs.Refutation.PlainTerms.{alias_level, plain_by_names, free_values}
 use Rattle.nts_model.specs.Refutation.Coherence.{IsInstanceIn}
 use Rattle.nts_model.proofs.Tables.Instances.{inst-agrees, Agrees-refl, Agrees-trans}
 use Rattle.nts_model.proofs.Tables.Slots.{KeepsKinds-with_slot, KeepsKinds, KeepsKinds-refl, KeepsKinds-trans}
@@ -47,6 +52,7 @@ pub record IsFreshened (truth : Truth) (base : ℕ) (c d : Content) (w : World) 
   pub world : World
   pub agrees : Agrees (length c.slots) w world
   pub solution : IsSolution truth base d world
+  pub plain : IsPlainWorld c w → IsPlainWorld d world
   pub longer : length c.slots ≤ length d.slots
   pub keeps : KeepsKinds c d
   pub images : map (inst world) ts ≡ vs
@@ -83,13 +89,14 @@ pub named_terms : (u : ℕ) (vs : List Tree) → AreNamedValues leaf_level u vs 
 named_terms u [] n = tt
 named_terms u (v ∷ vs) n = (names_terms u v n.0, named_terms u vs n.1)
 
-pub freshened : (truth : Truth) (base u : ℕ) (ss : List Sort) (ts vs : List Tree) (c d : Content) (w : World) → IsProperContent c → Freshens u ss ts c d → AreValuesOf ss vs → AreNamedValues leaf_level u vs → IsSolution truth base c w → IsFreshened truth base c d w ts vs
-freshened truth base u ss ts vs c d w proper h v n s =
+pub freshened : (truth : Truth) (base u : ℕ) (ss : List Sort) (ts vs : List Tree) (c d : Content) (w : World) → IsProperContent c → Freshens u ss ts c d → AreValuesOf ss vs → AreNamedValues leaf_level u vs → ((v : Tree) → Among vs v → IsAliasFree v) → IsSolution truth base c w → IsFreshened truth base c d w ts vs
+freshened truth base u ss ts vs c d w proper h v n free s =
     let f = freshened_world u ss ts vs c d w proper h v (named_terms u vs n) s.solves in
     record {
       world = f.world;
       agrees = f.agrees;
       solution = solution_later truth base c d w f.world s (let k = f.keeps in k.grows) f.agrees f.solves (f.names leaf_level s.named n);
+      plain = plain_by_names c d w f.world (λ m k. f.names (alias_level m) k (free_values m u vs free));
       longer = f.longer;
       keeps = f.keeps;
       images = f.images;
@@ -169,11 +176,11 @@ module _ (h : Handler) (truth : Truth) (Proves : Tree → Tree → Type 0) (base
   one_equal (alike a b) o z = image_over a o.0 ∙ z ∙ sym (image_over b o.1)
 
   -- the filled candidate is met
-  pub meets_filled : MeetsCandidate truth Proves (new.world) xs (m.candidate)
+  pub meets_filled : MeetsCandidate truth (IsGranted Proves) (new.world) xs (plain_part m.candidate)
   meets_filled =
       let k = candidate_for in
       record {
-        equal = record { each = λ q i. one_equal q (k.equations q i) (m.equal q i) };
+        equal = record { each = λ q i. one_equal q (k.equations q (plain_among m.candidate.equations q i)) (m.equal q i) };
         met = λ x i.
             (let o = k.constraints x i in
             subst (λ z. IsTrueBy truth x.relation z (inst (new.world) (filled xs x.right))) (sym (image_over x.left o.0))
@@ -182,6 +189,6 @@ module _ (h : Handler) (truth : Truth) (Proves : Tree → Tree → Type 0) (base
             (let n = k.goals p i in
             let f : IsFormed p.environment = rw (n.environment) (let a = asked.formed in a.0) in
             let over : (l : Leaf) → Occurs l p.environment → Occurs l (pair e g) ⊎ IsFixed l = λ l j. inl (inl (subst (Occurs l) n.environment j)) in
-            subst (λ z. Proves z (inst (new.world) (filled xs p.predicate))) (sym (filled_image p.environment f over))
-            (subst (Proves (filled_under ι.value (m.chosen) p.environment)) (sym (image_over p.predicate n.predicate)) (m.goals p i)));
+            subst (λ z. IsGranted Proves z (inst (new.world) (filled xs p.predicate))) (sym (filled_image p.environment f over))
+            (subst (IsGranted Proves (filled_under ι.value (m.chosen) p.environment)) (sym (image_over p.predicate n.predicate)) (m.goals p i)));
       }

@@ -1,4 +1,4 @@
--- A goal that is proved in a world is met there by a candidate that the handler offers for the goal.
+-- Instances of terms in a world, terms without aliases once values are put in, and a candidate that a world meets.
 use Rattle.std.proofs.Common.{◌≡◌, inl, inr, ℕ, zero, suc, List, [], ◌∷◌, get_or, Option, Some, None, refl, sym, ap, subst, ◌∙◌}
 use Rattle.std.specs.Prelude.{◌⊎◌}
 use Rattle.nts_model.specs.declared.labels.Variance.{Variance}
@@ -21,13 +21,14 @@ use Rattle.nts_model.specs.Lists.{Among}
 use Rattle.nts_model.specs.Derivations.Sequents.{Premise}
 use Rattle.nts_model.specs.Derivations.Rules.{coherence, Equation, related, alike, GoalKind, goal_kind, Stands, relating, IsHandlers, HoldsEquation, IsApplied, IsRule}
 use Rattle.nts_model.specs.Derivations.Handlers.{Handler, meaning, Candidate, equation_by, premise_by, AreValuesOf, IsAsked, CandidatesKeep, IsFixed}
-use Rattle.nts_model.specs.Refutation.Containing.{Truth, IsTrueBy}
-use Rattle.nts_model.specs.Refutation.Coherence.{IsNoAlias, IsAliasFree, AreProved, Covers, RulesAreOffered, IsAliasFreeCandidate, IsInstanceIn}
+use Rattle.nts_model.specs.Refutation.Containing.{IsNoAlias, IsAliasFree, Truth, IsTrueBy}
+use Rattle.nts_theory.specs.RelatingCandidates.{plain_equations, HasTypesApart}
+use Rattle.nts_theory.specs.Refutation.Refutation.{IsGranted}
 use Rattle.nts_model.proofs.Tables.Fitting.{IsClosed-inst}
 use Rattle.nts_model.proofs.Terms.Substituting.{leaf_alone}
 use Rattle.nts_theory.proofs.Refutation.AskingWorlds.{IsOfParts, image_inside}
 use Rattle.nts_model.specs.Refutation.Choosing.{left_of, right_of}
-use Rattle.nts_theory.proofs.Refutation.Covering.{related_equal, alike_equal, no_alias, nothing_replaced, applied_by_rule}
+use Rattle.nts_theory.specs.Telling.{IsTraitStatement}
 
 -- an instance of a formed tree is its image, where that is so of its leaves
 put_inst : (w : World) (f : Leaf → Tree) (l : Label) (c d : Tree) → IsFormed (node l c) → ((x : Leaf) → Occurs x (node l c) → f x ≡ inst w (leaf_tree x)) → d ≡ inst w c → put f l d ≡ inst w (node l c)
@@ -76,6 +77,11 @@ handlers_inst w (node (label.Ty x) ts) h = absurd h
 handlers_inst w (node (label.Const x) ts) h = absurd h
 handlers_inst w (node (label.List x) ts) h = absurd h
 
+pub trait_inst : (w : World) (s : Tree) → IsTraitStatement s → IsTraitStatement (inst w s)
+trait_inst w (node (label.Clause (clause.Trait i)) ts) h = tt
+trait_inst w (node (label.Clause (clause.HostEffect i)) ts) h = tt
+trait_inst w s h = absurd h
+
 -- filled terms without aliases
 value_free : (vs : List Tree) → ((v : Tree) → Among vs v → IsAliasFree v) → (i : ℕ) → IsAliasFree (get_or vs i empty)
 value_free [] h i = tt
@@ -95,7 +101,7 @@ either_free : (o : Option ℕ) (vs : List Tree) (t : Tree) → ((v : Tree) → A
 either_free None vs t h f = f
 either_free (Some i) vs t h f = value_free vs h i
 
-filled_free : (f : Leaf → Tree) (vs : List Tree) (t : Tree) → ((v : Tree) → Among vs v → IsAliasFree v) → ((x : Leaf) → Occurs x t → IsAliasFree (f x)) → IsAliasFree t → IsAliasFree (filled_under f vs t)
+pub filled_free : (f : Leaf → Tree) (vs : List Tree) (t : Tree) → ((v : Tree) → Among vs v → IsAliasFree v) → ((x : Leaf) → Occurs x t → IsAliasFree (f x)) → IsAliasFree t → IsAliasFree (filled_under f vs t)
 filled_free f vs empty h g i = tt
 filled_free f vs (more a b) h g i = (filled_free f vs a h (λ x o. g x (inl o)) i.0, filled_free f vs b h (λ x o. g x (inr o)) i.1)
 filled_free f vs (node l c) h g i = either_free (position_of l) vs (put f l (filled_under f vs c)) h (put_free f l c (filled_under f vs c) g i.0 (filled_free f vs c h (λ x o. g x (inr o)) i.1))
@@ -103,98 +109,15 @@ filled_free f vs (node l c) h g i = either_free (position_of l) vs (put f l (fil
 pub free_parts : IsOfParts IsAliasFree
 free_parts = record { left = λ a b h. h.0; right = λ a b h. h.1; below = λ l c h. h.1 }
 
--- the candidate that a world meets: its equations are equalities, its constraints are true, and its goals are proved
+-- a candidate that a world meets: no alias stands in the values, its plain equations are equalities, no two types are apart that it
+-- equates, its constraints are true, and its goals are granted
 pub record MeetsOffered (h : Handler) (truth : Truth) (Proves : Tree → Tree → Type 0) (e g : Tree) (ι : Instance) : Type 0 where
   pub candidate : Candidate
   pub offered : Among (h.offers coherence e g) candidate
   pub chosen : List Tree
   pub values : AreValuesOf candidate.fresh chosen
-  pub equal : (q : Equation) → Among candidate.equations q → filled_under ι.value chosen (left_of q) ≡ filled_under ι.value chosen (right_of q)
+  pub free : (v : Tree) → Among chosen v → IsAliasFree v
+  pub equal : (q : Equation) → Among (plain_equations candidate.equations) q → filled_under ι.value chosen (left_of q) ≡ filled_under ι.value chosen (right_of q)
+  pub apart : HasTypesApart candidate → ⊥
   pub met : (x : Constraint) → Among candidate.constraints x → IsTrueBy truth x.relation (filled_under ι.value chosen x.left) (filled_under ι.value chosen x.right)
-  pub goals : (p : Premise) → Among candidate.goals p → Proves (filled_under ι.value chosen p.environment) (filled_under ι.value chosen p.predicate)
-
-module _ (h : Handler) (V : ℕ → List Variance) (truth : Truth) (Proves : Tree → Tree → Type 0) (proved : AreProved (meaning h V) truth Proves) (law : RulesAreOffered h) (keep : CandidatesKeep h)
-    (e g : Tree) (asked : IsAsked e g) (plain : (d : Candidate) → Among (h.offers coherence e g) d → IsAliasFreeCandidate d)
-    (c : Content) (w : World) (fitting : IsFitting c w) (known : Knows c asked.statement) (ι : Instance) (same : IsInstanceIn w (pair e g) ι) (here : Proves (inst w e) (inst w g)) where
-  abbrev Holds : Constraint → Type 0
-  Holds x = IsTrueBy truth x.relation x.left x.right
-
-  abbrev Premised : Premise → Type 0
-  Premised q = Proves q.environment q.predicate
-
-  abbrev kind_here : GoalKind
-  kind_here = goal_kind (meaning h V) (unbound (inst w (asked.statement)))
-
-  abbrev AtHand : Premise → Type 0
-  AtHand = Stands IsAliasFree Premised kind_here
-
-  image_unbound : inst w g ≡ unbound (inst w (asked.statement))
-  image_unbound = ap (inst w) asked.binds_nothing
-
-  same_environment : instance_of ι e ≡ inst w e
-  same_environment = replace_inst w ι.value e (let f = asked.formed in f.0) (λ x i. same x (inl i))
-
-  same_goal : instance_of ι g ≡ inst w g
-  same_goal = replace_inst w ι.value g (let f = asked.formed in f.1.0) (λ x i. same x (inr (inl i)))
-
-  statement_closed : IsClosed (inst w (asked.statement))
-  statement_closed = IsClosed-inst c w 0 asked.statement fitting known (let k = asked.closed in k.1.0)
-
-  used : IsApplied (meaning h V) coherence IsAliasFree Holds (λ d. ⊥) AtHand (inst w e) (unbound (inst w (asked.statement)))
-  used =
-      applied_by_rule (meaning h V) coherence IsAliasFree Holds (λ d. ⊥) Premised (inst w e) (inst w (asked.statement)) (handlers_inst w (asked.statement) asked.handlers) statement_closed
-      (subst (IsRule (meaning h V) coherence IsAliasFree Holds (λ d. ⊥) Premised (inst w e)) image_unbound (proved.rule (inst w e) (inst w g) here))
-
-  cover : Covers h coherence e g ι (used.use_of)
-  cover = law.covered e g ι (used.use_of) asked (used.applies) (used.environment ∙ sym same_environment) (used.conclusion ∙ sym image_unbound ∙ sym same_goal)
-
-  -- a premise that relates an alias is not proved
-  no_alias_goal : (a b : Tree) → IsAlias a ⊎ IsAlias b → AtHand (relating (inst w e) (alias_goal variance.Invariant a b)) → ⊥
-  no_alias_goal a b i (inl (k, p)) =
-      let f = proved.alias_free (inst w e) (alias_goal variance.Invariant a b) p in
-      elim i [ inl x ↦ no_alias a (let z = f.1.0.1.1.0.1 in z.0) x | inr x ↦ no_alias b (let z = f.1.0.1.1.0.1 in z.1.0) x ]
-  no_alias_goal a b i (inr p) = absurd (let n = p.0 in n tt)
-
-  equation_equal : (q : Equation) → HoldsEquation (meaning h V) IsAliasFree Holds AtHand (inst w e) q → left_of q ≡ right_of q
-  equation_equal (related a b) r = related_equal V IsAliasFree Holds (λ z. AtHand (relating (inst w e) z)) (λ x y k. k) no_alias_goal variance.Invariant a b refl r
-  equation_equal (alike a b) r = alike_equal _ (λ x y k. k) a b r
-
-  filled_equal : (q : Equation) → HoldsEquation (meaning h V) IsAliasFree Holds AtHand (inst w e) (equation_by (filled_under ι.value (cover.chosen)) q)
-      → filled_under ι.value (cover.chosen) (left_of q) ≡ filled_under ι.value (cover.chosen) (right_of q)
-  filled_equal (related a b) r = equation_equal (related _ _) r
-  filled_equal (alike a b) r = equation_equal (alike _ _) r
-
-  chosen_free : (v : Tree) → Among (cover.chosen) v → IsAliasFree v
-  chosen_free v i = let x = used.values v (cover.of_rule v i) in x.0
-
-  leaf_free : (x : Leaf) → Occurs x (pair e g) ⊎ IsFixed x → IsAliasFree (ι.value x)
-  leaf_free x (inl i) = subst IsAliasFree (sym (same x i)) (image_inside IsAliasFree free_parts w x (pair e g) asked.formed i (proved.alias_free (inst w e) (inst w g) here))
-  leaf_free (leaf.Region r) (inr i) = subst IsAliasFree (sym (ι.stays r i)) (refl, tt)
-  leaf_free (leaf.Variable k n) (inr i) = absurd i
-  leaf_free (leaf.TyConstant a) (inr i) = absurd i
-  leaf_free (leaf.ConstConstant a) (inr i) = absurd i
-
-  goal_free : (p : Premise) → Among (cover.candidate.goals) p → IsAliasFree (filled_under ι.value (cover.chosen) p.predicate)
-  goal_free p i =
-      let k = keep.each coherence e g (cover.candidate) asked (cover.offered) in
-      let n = k.goals p i in
-      let o = n.predicate in
-      let f = plain (cover.candidate) (cover.offered) in
-      filled_free ι.value (cover.chosen) p.predicate chosen_free (λ x j. leaf_free x (o.leaves x j)) (f.goals p i)
-
-  goal_proved : (p : Premise) → IsAliasFree p.predicate → AtHand p → Proves p.environment p.predicate
-  goal_proved p f (inl (k, q)) = q
-  goal_proved p f (inr (n, (u, r, q))) = subst (Proves p.environment) (sym (nothing_replaced _ p.predicate u f r)) q
-
-  -- so a candidate is met
-  pub met_by_offered : MeetsOffered h truth Proves e g ι
-  met_by_offered =
-      record {
-        candidate = cover.candidate;
-        offered = cover.offered;
-        chosen = cover.chosen;
-        values = cover.values;
-        equal = λ q i. filled_equal q (used.equations _ (cover.equations q i));
-        met = λ x i. used.constraints _ (cover.constraints x i);
-        goals = λ p i. goal_proved (premise_by (filled_under ι.value (cover.chosen)) p) (goal_free p i) (used.goals _ (cover.goals p i));
-      }
+  pub goals : (p : Premise) → Among candidate.goals p → IsGranted Proves (filled_under ι.value chosen p.environment) (filled_under ι.value chosen p.predicate)

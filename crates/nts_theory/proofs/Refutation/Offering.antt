@@ -1,32 +1,39 @@
 -- A goal of a theory that is proved in a world is met there by an offered candidate, with values that the current universe names.
-use Rattle.std.proofs.Common.{◌≡◌, inl, inr, ℕ, Bool, false, List, [], ◌∷◌, map, refl, sym, ap, subst, ◌∙◌}
+use Rattle.std.proofs.Common.{◌≡◌, inl, inr, ℕ, Bool, false, List, [], ◌∷◌, map, refl, sym, ap, subst, ◌∙◌, true}
+use Rattle.std.specs.Prelude.{◌&&◌, ◌||◌, ◌⊎◌}
 use Rattle.nts_model.specs.declared.labels.FreeRegion.TheVariants as region
 use Rattle.nts_model.specs.declared.labels.Leaf.{Leaf}
 use Rattle.nts_model.specs.declared.labels.Leaf.TheVariants as leaf
-use Rattle.nts_model.specs.Terms.Trees.{Tree, IsFormed}
+use Rattle.nts_model.specs.Terms.Trees.{Tree, IsFormed, kind_of, any_label, is_alias, empty, more, node}
 use Rattle.nts_model.specs.Tables.Contents.{Content}
 use Rattle.nts_model.specs.Tables.Resolving.{Knows}
 use Rattle.nts_model.specs.Terms.Placeholders.{leaf_level}
 use Rattle.nts_model.specs.Tables.Levels.{NamesAll}
 use Rattle.nts_model.specs.Terms.Regions.{of_free}
 use Rattle.nts_model.specs.Tables.Worlds.{World, inst, IsFitting, KeepsFixedRegions}
-use Rattle.nts_model.specs.Terms.Substitutions.{leaf_tree, Instance, instance_of, filled_under}
+use Rattle.nts_model.specs.Terms.Substitutions.{leaf_tree, Instance, instance_of, filled_under, Occurs}
 use Rattle.nts_model.specs.Derivations.Related.{pair}
 use Rattle.nts_model.specs.Lists.{Among}
 use Rattle.nts_model.specs.Canonical.Numbered.{seen, AreDistinct}
-use Rattle.nts_model.specs.Derivations.Rules.{Equation, related, alike}
+use Rattle.nts_model.specs.Derivations.Rules.{Equation, related, alike, coherence}
 use Rattle.nts_model.specs.Refutation.Choosing.{left_of, right_of, AreNamedValues}
-use Rattle.nts_model.specs.Derivations.Handlers.{Handler, equation_by, IsAsked, IsFixed}
-use Rattle.nts_model.specs.Refutation.Containing.{Truth}
+use Rattle.nts_model.specs.Derivations.Handlers.{Handler, equation_by, IsAsked, IsFixed, CandidatesKeep, IsOver, IsEquationOver}
+use Rattle.nts_model.specs.Refutation.Containing.{Truth, IsAliasFree}
 use Rattle.nts_model.specs.Refutation.Coherence.{RulesAreOffered, IsInstanceIn}
-use Rattle.nts_theory.specs.Refutation.Refutation.{UsesNamed}
+use Rattle.nts_theory.specs.Refutation.Refutation.{UsesNamed, IsPlainFor, HasPlainSides}
 use Rattle.nts_model.proofs.Terms.Composing.{fits_itself}
 use Rattle.nts_model.proofs.Terms.Listed.{map-tells}
 use Rattle.nts_model.proofs.Canonical.Numbering.{distinct-seen}
 use Rattle.nts_model.proofs.Canonical.Moving.{among-seen, occurs-seen}
 use Rattle.nts_theory.proofs.Refutation.Freshening.{knows_leaf}
 use Rattle.nts_model.proofs.Terms.Imaging.{IsImage, AreImages, constants, constant_images, distinct_constants, imaging, map-imaging}
-use Rattle.nts_theory.proofs.Refutation.OfferMeeting.{replace_inst, MeetsOffered}
+use Rattle.nts_theory.proofs.Refutation.OfferMeeting.{replace_inst, MeetsOffered, filled_free}
+use Rattle.nts_theory.specs.RelatingCandidates.{may_be_argument, relates_aliases, plain_equations, AreTypesApart}
+use Rattle.nts_theory.proofs.Refutation.PlainTerms.{free_none, unlabelled_free, either_false}
+use Rattle.nts_theory.proofs.Refutation.PlainParts.{plain_among}
+use Rattle.nts_theory.proofs.Refutation.Apart.{head_filled}
+use Rattle.nts_model.specs.declared.labels.Sort.{Sort}
+use Rattle.nts_model.specs.declared.labels.Label.TheVariants as label
 
 -- an instance that gives the leaves of a term of the table their trees in a world
 module _ (c : Content) (w : World) (fitting : IsFitting c w) (fixed : KeepsFixedRegions w) where
@@ -94,21 +101,86 @@ equal_sides : (f : Tree → Tree) (q : Equation) → left_of (equation_by f q) �
 equal_sides f (related a b) e = e
 equal_sides f (alike a b) e = e
 
-pub meets_used : (h : Handler) (truth : Truth) (Proves : Tree → Tree → Type 0) (law : RulesAreOffered h) (u : ℕ) (e g : Tree) (asked : IsAsked e g) (w : World) (ι : Instance) → IsInstanceIn w (pair e g) ι
+-- a plain equation has plain sides once values without aliases are put in
+kind_of_value : (f : Leaf → Tree) (vs : List Tree) (t : Tree) → may_be_argument (kind_of t) ≡ false → may_be_argument (kind_of (filled_under f vs t)) ≡ false
+kind_of_value f vs empty e = refl
+kind_of_value f vs (more a b) e = refl
+kind_of_value f vs (node (label.Leaf x) c) e = cc e
+kind_of_value f vs (node (label.Bound s i n) c) e = cc e
+kind_of_value f vs (node (label.Ty x) c) e = cc e
+kind_of_value f vs (node (label.Const x) c) e = cc e
+kind_of_value f vs (node (label.Clause x) c) e = e
+kind_of_value f vs (node (label.Predicate x) c) e = e
+kind_of_value f vs (node (label.List x) c) e = e
+
+both_or_none : (k a b : Bool) → (k && (a || b)) ≡ false → (k ≡ false) ⊎ (a ≡ false) × (b ≡ false)
+both_or_none false a b e = inl refl
+both_or_none true a b e = inr (either_false a b e)
+
+plain_first : (x : Equation) (qs : List Equation) (q : Equation) → (Among (plain_equations qs) q → relates_aliases q ≡ false) → Among (plain_equations (x ∷ qs)) q → relates_aliases q ≡ false
+plain_first x qs q rest i = by_test (relates_aliases x) refl
+  where
+    by_test : (b : Bool) → relates_aliases x ≡ b → relates_aliases q ≡ false
+    by_test true e = rest (rw e at i)
+    by_test false e = elim (rw e at i) [ inl s ↦ ap relates_aliases s ∙ e | inr j ↦ rest j ]
+
+plain_is_plain : (qs : List Equation) (q : Equation) → Among (plain_equations qs) q → relates_aliases q ≡ false
+plain_is_plain [] q i = absurd i
+plain_is_plain (x ∷ qs) q i = plain_first x qs q (plain_is_plain qs q) i
+
+module _ (f : Leaf → Tree) (vs : List Tree) (free : (v : Tree) → Among vs v → IsAliasFree v) where
+  plain_sides : (q : Equation) → ((x : Leaf) → Occurs x (left_of q) → IsAliasFree (f x)) → ((x : Leaf) → Occurs x (right_of q) → IsAliasFree (f x)) → relates_aliases q ≡ false → HasPlainSides (equation_by (filled_under f vs) q)
+  plain_sides (related a b) l r e = elim (both_or_none (may_be_argument (kind_of b)) (any_label is_alias a) (any_label is_alias b) e) [
+    | inl n ↦ inl (kind_of_value f vs b n)
+    | inr n ↦ inr (free_none _ (filled_free f vs a free l (unlabelled_free a n.0)), free_none _ (filled_free f vs b free r (unlabelled_free b n.1)))
+  ]
+  plain_sides (alike a b) l r e = tt
+
+  apart_filled : (a b : Tree) → AreTypesApart a b → AreTypesApart (filled_under f vs a) (filled_under f vs b)
+  apart_filled a b x =
+      record { left = x.left; right = x.right; of_left = head_filled f vs a x.left x.of_left; of_right = head_filled f vs b x.right x.of_right; apart = x.apart; left_plain = x.left_plain; right_plain = x.right_plain }
+
+left_over : (fresh : List Sort) (e g : Tree) (q : Equation) → IsEquationOver fresh e g q → IsOver fresh e g (left_of q)
+left_over fresh e g (related a b) o = o.0
+left_over fresh e g (alike a b) o = o.0
+
+right_over : (fresh : List Sort) (e g : Tree) (q : Equation) → IsEquationOver fresh e g q → IsOver fresh e g (right_of q)
+right_over fresh e g (related a b) o = o.1
+right_over fresh e g (alike a b) o = o.1
+
+-- what an instance puts in place of a leaf has no alias, where none stands for it in the world
+image_free : (w : World) (ι : Instance) (e g : Tree) → IsInstanceIn w (pair e g) ι → IsPlainFor w (pair e g) → (l : Leaf) → Occurs l (pair e g) ⊎ IsFixed l → IsAliasFree (ι.value l)
+image_free w ι e g same plain l (inl i) = subst IsAliasFree (sym (same l i)) (plain l i)
+image_free w ι e g same plain (leaf.Region r) (inr i) = subst IsAliasFree (sym (ι.stays r i)) (refl, tt)
+image_free w ι e g same plain (leaf.Variable k n) (inr i) = absurd i
+image_free w ι e g same plain (leaf.TyConstant a) (inr i) = absurd i
+image_free w ι e g same plain (leaf.ConstConstant a) (inr i) = absurd i
+
+pub meets_used : (h : Handler) (truth : Truth) (Proves : Tree → Tree → Type 0) (law : RulesAreOffered h) (keep : CandidatesKeep h) (u : ℕ) (e g : Tree) (asked : IsAsked e g) (w : World) (ι : Instance) → IsInstanceIn w (pair e g) ι → IsPlainFor w (pair e g)
     → UsesNamed h truth Proves u (inst w e) (inst w asked.statement) → MeetsNamed h truth Proves u e g ι
-meets_used h truth Proves law u e g asked w ι same x =
+meets_used h truth Proves law keep u e g asked w ι same plain x =
     let f = asked.formed in
     let u1 = x.uses in
     let environment : instance_of ι e ≡ inst w e = replace_inst w ι.value e f.0 (λ l i. same l (inl i)) in
     let goal : instance_of ι g ≡ inst w g = replace_inst w ι.value g f.1.0 (λ l i. same l (inr (inl i))) in
     let cover = law.covered e g ι u1.use_of asked u1.applies (u1.environment ∙ sym environment) (u1.conclusion ∙ sym (ap (inst w) asked.binds_nothing) ∙ sym goal) in
+    let over = keep.each coherence e g cover.candidate asked cover.offered in
+    let free : (v : Tree) → Among cover.chosen v → IsAliasFree v = λ v i. u1.values v (cover.of_rule v i) in
+    let sides : (q : Equation) → Among (plain_equations cover.candidate.equations) q → HasPlainSides (equation_by (filled_under ι.value cover.chosen) q) =
+    λ q i. (let o = over.equations q (plain_among cover.candidate.equations q i) in
+    plain_sides ι.value cover.chosen free q
+    (λ l j. (let s = left_over cover.candidate.fresh e g q o in image_free w ι e g same plain l (s.leaves l j)))
+    (λ l j. (let s = right_over cover.candidate.fresh e g q o in image_free w ι e g same plain l (s.leaves l j)))
+    (plain_is_plain cover.candidate.equations q i)) in
     record {
       meets = record {
         candidate = cover.candidate;
         offered = cover.offered;
         chosen = cover.chosen;
         values = cover.values;
-        equal = λ q i. equal_sides (filled_under ι.value cover.chosen) q (u1.equal _ (cover.equations q i));
+        free = free;
+        equal = λ q i. equal_sides (filled_under ι.value cover.chosen) q (u1.equal _ (cover.equations q (plain_among cover.candidate.equations q i)) (sides q i));
+        apart = λ a. u1.apart _ _ (cover.equations (related a.left a.right) a.equation) (apart_filled ι.value cover.chosen free a.left a.right a.apart);
         met = λ y i. u1.met _ (cover.constraints y i);
         goals = λ p i. u1.goals _ (cover.goals p i);
       };

@@ -20,7 +20,12 @@ use Rattle.nts_model.specs.Tables.Equations.{AreRelated}
 use Rattle.nts_model.specs.Derivations.Handlers.{Handler, Candidate, constraint_by, IsAsked, CandidatesKeep, IsCandidateFor, IsFixed, IsOver, IsEquationOver}
 use Rattle.nts_model.specs.Answers.Responses.{read_in}
 use Rattle.nts_model.specs.Answers.Applying.{IsProperContent}
-use Rattle.nts_model.specs.Refutation.Choosing.{left_of, right_of, MeetsEquations, Freshens}
+use Rattle.nts_model.specs.Refutation.Choosing.{left_of, right_of, IsCandidateMet, Freshens}
+use Rattle.nts_theory.specs.RelatingCandidates.{plain_part, HasTypesApart}
+use Rattle.nts_theory.specs.Refutation.Refutation.{IsGranted}
+use Rattle.nts_theory.proofs.Refutation.PlainParts.{plain_among, plain_met}
+use Rattle.nts_theory.proofs.Refutation.Apart.{apart_unmet}
+use Rattle.nts_theory.proofs.Refutation.PlainTerms.{plain_later}
 use Rattle.nts_model.specs.Refutation.Forcing.{seen_as, AddsBy, Adds, AddsAll}
 use Rattle.nts_model.specs.Refutation.Containing.{Truth, IsTrueBy, IsSolution}
 use Rattle.nts_model.specs.Refutation.Coherence.{IsInstanceIn}
@@ -40,9 +45,34 @@ pub record IsBegunAt (truth : Truth) (Proves : Tree → Tree → Type 0) (c d : 
   pub meets : MeetsCandidate truth Proves reaches.world xs x
   pub known : KnowsCandidate d xs x
 
+-- .. its plain part, and it equates no types that are apart
 pub record CanBegin (truth : Truth) (Proves : Tree → Tree → Type 0) (c : Content) (w : World) (x : Candidate) : Type 0 where
-  pub is_met : MeetsEquations c x.fresh x.equations
-  pub begins : (xs : List Tree) (d : Content) → Freshens c.universe x.fresh xs c d → IsBegunAt truth Proves c d w xs x
+  pub is_met : IsCandidateMet c (plain_part x)
+  pub apart : HasTypesApart x → ⊥
+  pub begins : (xs : List Tree) (d : Content) → Freshens c.universe x.fresh xs c d → IsBegunAt truth Proves c d w xs (plain_part x)
+
+-- where a world meets all of its equations
+pub begins_whole : (truth : Truth) (Proves : Tree → Tree → Type 0) (c : Content) (w : World) (x : Candidate) → IsCandidateMet c x → ((xs : List Tree) (d : Content) → Freshens c.universe x.fresh xs c d → IsBegunAt truth Proves c d w xs x) → CanBegin truth Proves c w x
+begins_whole truth Proves c w x met begins =
+    record {
+      is_met = plain_met c x met;
+      apart = λ a. apart_unmet c x a met;
+      begins = λ xs d f. (let b = begins xs d f in
+          let meets = b.meets in
+          let known = b.known in
+          let equations = known.equations in
+          record {
+            reaches = b.reaches;
+            meets = record { equal = record { each = λ q i. (let all = meets.equal in all.each q (plain_among x.equations q i)) }; met = meets.met; goals = meets.goals };
+            known = record {
+              equations = record { left = λ q i. equations.left q (plain_among x.equations q i); right = λ q i. equations.right q (plain_among x.equations q i) };
+              left = known.left;
+              right = known.right;
+              environments = known.environments;
+              predicates = known.predicates;
+            };
+          });
+    }
 
 fixed_known : (c : Content) (l : Leaf) → IsFixed l → Knows c (leaf_tree l)
 fixed_known c (leaf.Region region.Static) i = ((tt, tt, refl), tt, tt)
@@ -107,11 +137,14 @@ module _ (h : Handler) (truth : Truth) (Proves : Tree → Tree → Type 0) (e g 
     over_known : (t : Tree) → IsOver m.candidate.fresh e g t → Knows d (filled xs t)
     over_known t o = term_known t o.well_bound o.leaves
 
-    all_known : KnowsCandidate d xs m.candidate
+    all_known : KnowsCandidate d xs (plain_part m.candidate)
     all_known =
         let k = over in
         record {
-          equations = record { left = λ q i. over_known (left_of q) (left_over q (k.equations q i)); right = λ q i. over_known (right_of q) (right_over q (k.equations q i)) };
+          equations = record {
+            left = λ q i. over_known (left_of q) (left_over q (k.equations q (plain_among m.candidate.equations q i)));
+            right = λ q i. over_known (right_of q) (right_over q (k.equations q (plain_among m.candidate.equations q i)));
+          };
           left = λ x i. over_known x.left (k.constraints x i).0;
           right = λ x i. over_known x.right (k.constraints x i).1;
           environments = λ p i. (let q = k.goals p i in
@@ -119,16 +152,16 @@ module _ (h : Handler) (truth : Truth) (Proves : Tree → Tree → Type 0) (e g 
           predicates = λ p i. (let q = k.goals p i in over_known p.predicate q.predicate);
         }
 
-    begun : IsBegunAt truth Proves c d w xs m.candidate
+    begun : IsBegunAt truth (IsGranted Proves) c d w xs (plain_part m.candidate)
     begun =
-        let f = freshened truth 0 c.universe m.candidate.fresh xs m.chosen c d w proper fresh m.values n.named s in
+        let f = freshened truth 0 c.universe m.candidate.fresh xs m.chosen c d w proper fresh m.values n.named m.free s in
         record {
-          reaches = record { world = f.world; agrees = f.agrees; solution = f.solution; longer = f.longer; keeps = f.keeps };
+          reaches = record { world = f.world; agrees = f.agrees; solution = f.solution; plain = f.plain; longer = f.longer; keeps = f.keeps };
           meets = meets_filled h truth Proves 0 e g asked keep ι m c d w same known xs f;
           known = all_known;
         }
 
-  pub can_begin : CanBegin truth Proves c w m.candidate
+  pub can_begin : CanBegin truth (IsGranted Proves) c w m.candidate
   can_begin =
       let k = over in
       record {
@@ -138,8 +171,9 @@ module _ (h : Handler) (truth : Truth) (Proves : Tree → Tree → Type 0) (e g 
           values = m.chosen;
           fit = m.values;
           named = named_terms c.universe m.chosen n.named;
-          equal = λ q i. one_equal q (k.equations q i) (m.equal q i);
+          equal = λ q i. one_equal q (k.equations q (plain_among m.candidate.equations q i)) (m.equal q i);
         };
+        apart = m.apart;
         begins = λ xs d fresh. begun xs d fresh;
       }
 
@@ -151,7 +185,7 @@ module _ (truth : Truth) (base : ℕ) where
 
   reaches_with : (c : Content) (x : Constraint) (w : World) → IsSolution truth base c w → IsMet w (seen_as x) → Reaches truth base c (with_constraint c (seen_as x)) w
   reaches_with c x w s m =
-      record { world = w; agrees = Agrees-refl (length c.slots) w; solution = solution_with c x w s m; longer = omega arith; keeps = record { grows = omega arith; kinds = λ n k e. e } }
+      record { world = w; agrees = Agrees-refl (length c.slots) w; solution = solution_with c x w s m; plain = λ p. record { each = λ n k e. p.each n k e }; longer = omega arith; keeps = record { grows = omega arith; kinds = λ n k e. e } }
 
   related_reaches : (c d : Content) (a b : Tree) (w : World) → AreRelated c d a b → IsSolution truth base c w → inst w a ≡ inst w b → Reaches truth base c d w
   related_reaches c d a b w r s e =
@@ -161,6 +195,7 @@ module _ (truth : Truth) (base : ℕ) where
         world = x.world;
         agrees = x.agrees;
         solution = solution_later truth base c d w x.world s g.grows x.agrees x.solves (x.names leaf_level s.named tt);
+        plain = plain_later c d w x.world (λ f n. x.names f n tt);
         longer = g.more;
         keeps = record { grows = g.grows; kinds = g.kinds };
       }

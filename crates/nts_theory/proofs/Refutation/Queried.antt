@@ -14,7 +14,8 @@ use Rattle.nts_model.specs.Terms.Substitutions.{leaf_tree, filled}
 use Rattle.nts_model.specs.Refutation.Opening.{binds, entered_table, opened_in}
 use Rattle.nts_model.specs.Canonical.Inputs.{Input, CanonicalInput, PositionKind, canonical_of}
 use Rattle.nts_model.specs.Answers.Responses.{Findings, AreFindings, own_leaves, row_of, value_row, constraint_row, is_fixed, Response, IsQueryTable}
-use Rattle.nts_model.specs.Refutation.Containing.{Truth, IsSolution, AreInputValues, ContainsSolution, ExtendsTo, KeepsSolutions}
+use Rattle.nts_model.specs.Refutation.Containing.{IsAliasFree, IsPlainWorld, Truth, IsSolution, AreInputValues, ContainsSolution, KeepsSolutions}
+use Rattle.nts_theory.specs.Refutation.Refutation.{IsPlainFor}
 use Rattle.nts_model.proofs.Tables.Instances.{Agrees-refl}
 use Rattle.nts_model.proofs.Tables.Open.{Knows-deeply_resolved}
 use Rattle.nts_model.proofs.Tables.Slots.{KeepsKinds, KeepsKinds-refl}
@@ -22,7 +23,7 @@ use Rattle.nts_model.proofs.Tables.Solving.{Solves-in_universe}
 use Rattle.nts_model.proofs.Canonical.Moving.{among-seen}
 use Rattle.nts_theory.proofs.Derivations.ProvedLater.{contains_first, contains_later}
 use Rattle.nts_theory.proofs.Refutation.Freshening.{knows_leaf}
-use Rattle.nts_theory.proofs.Refutation.Answered.{solution_later}
+use Rattle.nts_theory.proofs.Refutation.Answered.{GoesOn, solution_later}
 use Rattle.nts_theory.proofs.Refutation.Entering.{IsBegun as Begins}
 use Rattle.nts_theory.proofs.Refutation.Responding.{ArePlaced, answer_contains}
 use Rattle.nts_model.specs.Tables.Passing.{AllLabels}
@@ -50,7 +51,7 @@ pub record BeginsEach (Q : Queries) : Type 0 where
 pub record Leads (truth : Truth) (Proves : Tree → Tree → Type 0) (c d : Content) (e g : Tree) : Type 0 where
   pub longer : length c.slots ≤ length d.slots
   pub keeps : KeepsKinds c d
-  pub each : (base : ℕ) (w : World) → IsSolution truth base c w → Proves (inst w e) (inst w g) → ExtendsTo truth base Proves c d [] w
+  pub each : (base : ℕ) (w : World) → IsSolution truth base c w → IsPlainFor w (pair e g) → Proves (inst w e) (inst w g) → GoesOn truth base c d w
 
 pub record Reached (truth : Truth) (Proves : Tree → Tree → Type 0) (c d : Content) (gs : List Premise) : Type 0 where
   pub keeps : KeepsKinds c d
@@ -59,7 +60,9 @@ pub record Reached (truth : Truth) (Proves : Tree → Tree → Type 0) (c d : Co
 -- a solution of a query's table that proves its goal
 pub record IsSolved (truth : Truth) (Proves : Tree → Tree → Type 0) (ks : List PositionKind) (c : Content) (e g : Tree) (qs vs : List Tree) (w : World) : Type 0 where
   pub values : AreInputValues ks vs
+  pub plain : (v : Tree) → Among vs v → IsAliasFree v
   pub solution : IsSolution truth 0 c w
+  pub free : IsPlainWorld c w
   pub images : map (inst w) qs ≡ vs
   pub proved : Proves (inst w e) (inst w g)
 
@@ -116,6 +119,16 @@ solution_without truth base c w s =
       outlives = s.outlives;
     }
 
+pub entered_plain : (c : Content) (g : Tree) (w : World) → IsPlainWorld c w → IsPlainWorld (entered_table c g) w
+entered_plain c g w p = by_bool (binds g) refl
+  where
+    by_bool : (b : Bool) → binds g ≡ b → IsPlainWorld (entered_table c g) w
+    by_bool false q = rw q p
+    by_bool true q = rw q (record { each = λ n k e. p.each n k e })
+
+pub plain_without : (c : Content) (w : World) → IsPlainWorld c w → IsPlainWorld (without_constraints c) w
+plain_without c w p = record { each = λ n k e. p.each n k e }
+
 pub entered_keeps : (c : Content) (g : Tree) → KeepsKinds c (entered_table c g)
 entered_keeps c g = by_bool (binds g) refl
   where
@@ -165,10 +178,10 @@ own_known ks q qs x table found a b l i =
           Knows-deeply_resolved q r.0.right table.sound (k.right r.0 r.1).knows,
         )
 
-pub says_contains : (truth : Truth) (ks : List PositionKind) (q : Content) (qs : List Tree) (r : Response) → ArePlaced ks qs → IsQueryTable ks q qs → IsResponseOf q qs r → (w : World) → IsSolution truth 0 q w → ContainsSolution truth r (map (inst w) qs)
-says_contains truth ks q qs r placed table h w s =
+pub says_contains : (truth : Truth) (ks : List PositionKind) (q : Content) (qs : List Tree) (r : Response) → ArePlaced ks qs → IsQueryTable ks q qs → IsResponseOf q qs r → (w : World) → IsSolution truth 0 q w → IsPlainWorld q w → ContainsSolution truth r (map (inst w) qs)
+says_contains truth ks q qs r placed table h w s free =
     subst (λ z. ContainsSolution truth z (map (inst w) qs)) (sym h.is)
-    (answer_contains truth ks q qs h.findings table h.reads h.no_hidden h.no_goals placed (own_known ks q qs h.findings table h.reads h.no_hidden h.no_goals) w s h.roots)
+    (answer_contains truth ks q qs h.findings table h.reads h.no_hidden h.no_goals placed (own_known ks q qs h.findings table h.reads h.no_hidden h.no_goals) w s free h.roots)
 
 -- its values are as many as the positions
 map_long : {X Y : Type 0} (f : X → Y) (xs : List X) → length (map f xs) ≡ length xs

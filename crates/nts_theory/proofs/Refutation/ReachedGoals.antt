@@ -1,6 +1,6 @@
--- The goals that a settled proof reaches follow by uses of clauses, where no rule of the handler normalizes an alias.
-use Rattle.std.proofs.Common.{◌≡◌, inl, inr, ℕ, Bool, List, [], ◌∷◌, refl, sym, ap, subst, ◌∙◌}
-use Rattle.std.specs.Prelude.{◌⊎◌}
+-- The goals that a plain proof reaches follow by uses of clauses.
+use Rattle.std.proofs.Common.{◌≡◌, inl, inr, ℕ, Bool, true, false, Some, List, [], ◌∷◌, refl, sym, ap, subst, ◌∙◌}
+use Rattle.std.specs.Prelude.{if◌then◌else◌}
 use Rattle.nts_model.specs.declared.labels.Sort.{Sort}
 use Rattle.nts_model.specs.declared.labels.Variance.{Variance}
 use Rattle.nts_model.specs.declared.labels.Variance.TheVariants as variance
@@ -19,22 +19,23 @@ use Rattle.nts_model.specs.Terms.Substitutions.{put, replace, Instance, instance
 use Rattle.nts_model.specs.Derivations.Related.{Constraint, pair, unbound, alias_goal, alias, IsAlias}
 use Rattle.nts_model.specs.Lists.{Among}
 use Rattle.nts_model.specs.Derivations.Sequents.{misc, Premise, Hidden, HasOneSide, constraint_under}
-use Rattle.nts_model.specs.Derivations.Rules.{coherence, Application, Meaning, GoalKind, normalization, strictly, statement_kind, goal_kind, Stands, relating, opened, IsHandlers, normalization_goal, IsResult, IsBuiltIn, IsPlainRule, bound, IsRule}
+use Rattle.nts_model.specs.Derivations.Rules.{coherence, Meaning, coinductive_trait, other_goal, normalization, strictly, statement_kind, goal_kind, Stands, relating, opened, IsHandlers, normalization_goal, IsResult, IsBuiltIn, IsPlainRule, bound, IsRule}
 use Rattle.nts_model.specs.Derivations.Rules.{region_lives, type_lives, subtyped, coerced, const_typed, error_typed, allowed, dyn_compatible, formed, constant_evaluated, value_evaluated, error_evaluated, alias_evaluated, aliases_relate}
 use Rattle.nts_model.specs.Derivations.Proofs.{Node}
-use Rattle.nts_variance_model.specs.Variances.SettledProofs.{StandsForItself, IsSettledIn, IsReached, start, onward, GrantsAt, HidesAt, RestsOnAt, SettledNode}
-use Rattle.nts_theory.specs.Affirming.{goals_there}
+use Rattle.nts_variance_model.specs.Variances.SettledProofs.{IsReached, start, onward, GrantsAt, HidesAt, RestsOnAt}
+use Rattle.nts_theory.specs.Affirming.{goals_there, is_well_formed, SaysOfTwo, outlives_it, is_its_type}
+use Rattle.nts_theory.specs.Outliving.{region_outlives, type_outlives}
+use Rattle.nts_theory.specs.Telling.{IsTraitStatement}
 use Rattle.nts_model.specs.Derivations.Handlers.{Handler, meaning, goals_in}
-use Rattle.nts_model.specs.Refutation.Containing.{Truth, IsTrueBy, IsGroundLabel}
-use Rattle.nts_theory.specs.Refutation.Refutation.{AreUsed, binding, IsGroundInstance}
+use Rattle.nts_model.specs.Refutation.Containing.{IsAliasFree, Truth, IsTrueBy, IsGroundLabel, AreGround}
+use Rattle.nts_theory.specs.Refutation.Refutation.{HasNoAlias, IsGranted, UsesClause, UsesOpened, AreUsed, binding, IsGroundInstance, PlainNode}
 use Rattle.nts_model.proofs.Terms.Composing.{after, instance_of-after, IsFormed-instance}
 use Rattle.nts_model.proofs.Terms.Identified.{one_at}
 use Rattle.nts_theory.proofs.Derivations.ClosedStatements.{opened_closed}
 use Rattle.nts_theory.proofs.Refutation.Covering.{not_built_in}
-use Rattle.nts_variance_model.specs.Variances.Judging.{AllStand}
-use Rattle.nts_theory.proofs.Refutation.UsedRules.{uses_unbound, uses_binding, EngineOpened, engine_unbound, engine_binding, formed_proved, said_true}
+use Rattle.nts_theory.proofs.Refutation.UsedRules.{IsPredicate, uses_unbound, uses_binding, Engine, EngineOpened, engine_unbound, engine_binding, formed_proved, said_true}
 use Rattle.nts_theory.proofs.Derivations.ProofInstances.{HasOneSide-under as one_side_under}
-use Rattle.nts_theory.specs.Refutation.Refutation.{HasNoAliases}
+use Rattle.nts_theory.proofs.Refutation.PlainTerms.{opened_none}
 use Rattle.nts_theory.proofs.Refutation.Saying.{said_no_handlers}
 use Rattle.nts_theory.proofs.Refutation.Affirming.{rule_denied}
 
@@ -48,67 +49,25 @@ normal_opened f p (node (label.Predicate (predicate.NormalizesTo i)) ts) e = ref
 normal_opened f p (node (label.Clause (clause.Trait i)) ts) e = e
 normal_opened f p s e = cc e
 
--- such a handler proves no goal that normalizes an alias, whatever is at hand
-module _ (h : Handler) (m : Meaning) (same : (a : Application) → m.applies coherence a → h.applies coherence a) (kind : (c : Tree) → goal_kind m c ≡ goal_kind (meaning h (λ i. [])) c) (none : HasNoAliases h)
-    (G : Tree → Type 0) (H : Constraint → Type 0) (D : Hidden → Type 0) (P : Premise → Type 0) where
-  plain_apart : (e s : Tree) → goal_kind m (unbound s) ≡ normalization → IsPlainRule m coherence G H D P e s → ⊥
-  plain_apart e s n (inl (i, a)) = none.none a.use_of (same a.use_of a.applies) (ap (goal_kind (meaning h (λ i. []))) a.conclusion ∙ sym (kind (unbound s)) ∙ n)
-  plain_apart e s n (inr b) = not_built_in m G H _ e s (normal_handlers m.is_coinductive s n) b
-
-  pub rule_apart : (e c : Tree) → goal_kind m c ≡ normalization → IsRule m coherence G H D P e c → ⊥
-  rule_apart e c n (inl (s, is, r)) = plain_apart e s (sym (ap (goal_kind m) is) ∙ n) r
-  rule_apart e c n (inr (sorts, s, f, is, fresh, r)) =
-      let there : statement_kind m.is_coinductive s ≡ normalization = sym (ap (goal_kind m) is) ∙ n in
-      plain_apart e (opened f 0 s) (normal_opened m.is_coinductive f s there) r
-
--- two sides of a goal about aliases
-record RelatesSides (m : Meaning) (G : Tree → Type 0) (P : Premise → Type 0) (e a b : Tree) : Type 0 where
-  pub left : Tree
-  pub right : Tree
-  pub first : IsResult G P e a left
-  pub second : IsResult G P e b right
-
-alias_rule : (m : Meaning) (G : Tree → Type 0) (H : Constraint → Type 0) (P : Premise → Type 0) (e t a b : Tree) → IsBuiltIn m G H P e t → t ≡ node (label.Predicate (predicate.AliasRelate direction.Equate)) (pair a b) → RelatesSides m G P e a b
-alias_rule m G H P e t a b (region_lives i j k) q = cc q
-alias_rule m G H P e t a b (type_lives i k) q = cc q
-alias_rule m G H P e t a b (subtyped x r) q = cc q
-alias_rule m G H P e t a b (coerced r) q = cc q
-alias_rule m G H P e t a b (const_typed r u x y z) q = cc q
-alias_rule m G H P e t a b (error_typed x) q = cc q
-alias_rule m G H P e t a b (allowed x) q = cc q
-alias_rule m G H P e t a b (dyn_compatible x) q = cc q
-alias_rule m G H P e t a b (formed gs x y) q = cc q
-alias_rule m G H P e t a b constant_evaluated q = cc q
-alias_rule m G H P e t a b value_evaluated q = cc q
-alias_rule m G H P e t a b error_evaluated q = cc q
-alias_rule m G H P e t a b (alias_evaluated x) q = cc q
-alias_rule m G H P e t a b (aliases_relate {a = c} {b = d} r s x y z) q =
-    let left : c ≡ a = cc q in
-    let right : d ≡ b = cc q in
-    record { left = r; right = s; first = subst (λ w. IsResult G P e w r) left x; second = subst (λ w. IsResult G P e w s) right y }
-
-opened_alias : (f : Sort → ℕ → Leaf) (t : Tree) → IsAlias t → IsAlias (opened f 0 t)
-opened_alias f t i = subst IsAlias (sym (opened_closed f 0 t i.closed)) i
-
--- the goals that a settled proof reaches
-pub record IsReachedBy (m : Meaning) (Holds : Constraint → Type 0) (p : SettledNode m coherence Holds) (e g : Tree) : Type 0 where
+-- the goals that a plain proof reaches
+pub record IsReachedBy (m : Meaning) (Holds : Constraint → Type 0) (p : PlainNode m Holds) (e g : Tree) : Type 0 where
   pub node : Node
   pub at : Instance
   pub reached : IsReached m p.nodes p.node p.at node at
   pub environment : instance_of at node.sequent.environment ≡ e
   pub predicate : instance_of at node.sequent.predicate ≡ g
 
--- a settled proof without region variables: each has been assigned a region
+-- a plain proof without region variables: each has been assigned a region
 pub record GroundProof (m : Meaning) (Holds : Constraint → Type 0) : Type 0 where
-  pub proof : SettledNode m coherence Holds
+  pub proof : PlainNode m Holds
   pub ground : (n : Node) (κ : Instance) → IsReached m proof.nodes proof.node proof.at n κ → AllLabels IsGroundLabel (pair (instance_of κ n.sequent.environment) (instance_of κ n.sequent.predicate))
 
 -- .. and the goals that such proofs reach
-pub record InSettledProof (m : Meaning) (Holds : Constraint → Type 0) (e g : Tree) : Type 0 where
+pub record InPlainProof (m : Meaning) (Holds : Constraint → Type 0) (e g : Tree) : Type 0 where
   pub of_proof : GroundProof m Holds
   pub reached : IsReachedBy m Holds of_proof.proof e g
 
-reached_among : (m : Meaning) (nodes : List Node) (first : Node) (ι : Instance) (n : Node) (κ : Instance) → IsReached m nodes first ι n κ → Among nodes first → Among nodes n
+pub reached_among : (m : Meaning) (nodes : List Node) (first : Node) (ι : Instance) (n : Node) (κ : Instance) → IsReached m nodes first ι n κ → Among nodes first → Among nodes n
 reached_among m nodes first ι n κ start a = a
 reached_among m nodes first ι n κ (onward s to both before i after) a = to.found
 
@@ -124,7 +83,7 @@ constraint_after : (κ ι both : Instance) → ((t : Tree) → instance_of both 
 constraint_after κ ι both h x = rw (h x.left, h x.right) refl
 
 -- each reached node's constraints are true
-reached_true : (m : Meaning) (truth : Truth) (p : SettledNode m coherence (HoldsIn truth)) (n : Node) (κ : Instance) → IsReached m p.nodes p.node p.at n κ → (x : Constraint) → Among n.sequent.constraints x → HoldsIn truth (constraint_under κ x)
+reached_true : (m : Meaning) (truth : Truth) (p : PlainNode m (HoldsIn truth)) (n : Node) (κ : Instance) → IsReached m p.nodes p.node p.at n κ → (x : Constraint) → Among n.sequent.constraints x → HoldsIn truth (constraint_under κ x)
 reached_true m truth p n κ start x i = p.true x i
 reached_true m truth p n κ (onward {n = b} {κ = ι} s to both before a after) x i =
     let serves = to.serves in
@@ -136,19 +95,36 @@ reached_true m truth p n κ (onward {n = b} {κ = ι} s to both before a after) 
 equal_true : (truth : Truth) (x : Constraint) → HoldsIn truth x → x.relation ≡ relation.Equal → x.left ≡ x.right
 equal_true truth x h e = subst (λ z. IsTrueBy truth z x.left x.right) e h
 
-module _ (h : Handler) (V : ℕ → List Variance) (truth : Truth) (none : HasNoAliases h) where
+-- what kind of statement is about no alias
+trait_plain : (f : ℕ → Bool) (s : Tree) → IsTraitStatement s → statement_kind f s ≡ normalization → ⊥
+trait_plain f (node (label.Clause (clause.Trait i)) ts) t e = by_test (f i) e
+  where
+    by_test : (b : Bool) → (if b then coinductive_trait else other_goal) ≡ normalization → ⊥
+    by_test true q = cc q
+    by_test false q = cc q
+trait_plain f (node (label.Clause (clause.HostEffect i)) ts) t e = cc e
+trait_plain f s t e = absurd t
+
+said_plain : (f : ℕ → Bool) (y : Constraint) (s : Tree) → SaysOfTwo y s → statement_kind f s ≡ normalization → ⊥
+said_plain f y s (outlives_it region_outlives) e = cc e
+said_plain f y s (outlives_it type_outlives) e = cc e
+said_plain f y s is_its_type e = cc e
+
+pub trait_handlers : (s : Tree) → IsTraitStatement s → IsHandlers s
+trait_handlers (node (label.Clause (clause.Trait i)) ts) t = tt
+trait_handlers (node (label.Clause (clause.HostEffect i)) ts) t = tt
+trait_handlers s t = absurd t
+
+module _ (h : Handler) (V : ℕ → List Variance) (truth : Truth) where
   abbrev m : Meaning
   m = meaning h V
 
   abbrev Proves : Tree → Tree → Type 0
-  Proves = InSettledProof m (HoldsIn truth)
+  Proves = InPlainProof m (HoldsIn truth)
 
-  kinds_same : (c : Tree) → goal_kind (strictly m) c ≡ goal_kind (meaning h (λ i. [])) c
-  kinds_same c = refl
-
-  -- a premise of a reached node is reached
-  rests_proved : (p : GroundProof m (HoldsIn truth)) (n : Node) (κ : Instance) → IsReached m p.proof.nodes p.proof.node p.proof.at n κ → (q : Premise) → RestsOnAt m n κ q → Proves q.environment q.predicate
-  rests_proved p n κ r q (inl (s, i, e)) =
+  -- a premise of a reached node that normalizes no alias is reached
+  pub rests_proved : (p : GroundProof m (HoldsIn truth)) (n : Node) (κ : Instance) → IsReached m p.proof.nodes p.proof.node p.proof.at n κ → (goal_kind m (instance_of κ n.sequent.predicate) ≡ normalization → ⊥) → (q : Premise) → RestsOnAt m n κ q → Proves q.environment q.predicate
+  rests_proved p n κ r plain q (inl (s, i, e)) =
       let w = p.proof in
       let a = reached_among m w.nodes w.node w.at n κ r w.found in
       let to = (let k = w.ranked in k.steps n s a i) in
@@ -166,60 +142,7 @@ module _ (h : Handler) (V : ℕ → List Variance) (truth : Truth) (none : HasNo
           predicate = instance_of-after κ s.instance to.node.sequent.predicate ∙ one_at κ n.sequent.constraints _ _ equalities serves.predicate ∙ ap (λ z. z.predicate) e;
         };
       }
-  rests_proved p n κ r q (inr (k, rest)) =
-      absurd (rule_apart h (strictly m) (λ a x. x) kinds_same none _ _ _ _ (instance_of κ n.sequent.environment) (instance_of κ n.sequent.predicate) k (let w = p.proof in w.settled n κ r))
-
-  abbrev Settled : Tree → Tree → Type 0
-  Settled e = IsSettledIn m coherence e
-
-  -- no alias stands for itself, and none normalizes
-  not_settled : (e a : Tree) → IsAlias a → Settled e a → ⊥
-  not_settled e a i s =
-      let t : AllStand (StandsForItself m coherence e) (alias i.head i.parts) = subst (AllStand (StandsForItself m coherence e)) i.is s in
-      let stands = by_head i.head i.parts t (subst IsAlias i.is i) in
-      rule_apart h (strictly m) (λ b x. x) kinds_same none _ _ _ _ e (normalization_goal i.head i.parts (alias i.head i.parts)) refl (stands.stands i.head i.parts refl)
-    where
-      by_head : (x : AliasHead) (ts : Tree) → AllStand (StandsForItself m coherence e) (alias x ts) → IsAlias (alias x ts) → StandsForItself m coherence e (alias x ts)
-      by_head x ts t j = t.0 j
-
-  not_normalized : (e v : Tree) (x : AliasHead) (ts : Tree) → Proves e (normalization_goal x ts v) → ⊥
-  not_normalized e v x ts p =
-      let r = p.reached in
-      let w = (let o = p.of_proof in o.proof) in
-      rule_apart h (strictly m) (λ b y. y) kinds_same none _ _ _ _ (instance_of r.at r.node.sequent.environment) (instance_of r.at r.node.sequent.predicate) (ap (goal_kind (strictly m)) r.predicate) (w.settled r.node r.at r.reached)
-
-  module _ (p : GroundProof m (HoldsIn truth)) (n : Node) (κ : Instance) (r : IsReached m p.proof.nodes p.proof.node p.proof.at n κ) where
-    result_apart : (k : GoalKind) (e a v : Tree) → IsAlias a → IsResult (Settled e) (Stands (Settled e) (RestsOnAt m n κ) k) e a v → ⊥
-    result_apart k e a v i (inl (is, g)) = not_settled e a i (g i)
-    result_apart k e a v i (inr (x, t, g, inl (keeps, q), o)) = not_normalized e v x.head x.parts (rests_proved p n κ r (relating e (normalization_goal x.head x.parts v)) q)
-    result_apart k e a v i (inr (x, t, g, inr (not, q), o)) = not tt
-
-    sides_apart : (e s a b : Tree) → s ≡ node (label.Predicate (predicate.AliasRelate direction.Equate)) (pair a b) → IsAlias a ⊎ IsAlias b → IsPlainRule (strictly m) coherence (Settled e) (GrantsAt n κ) (HidesAt n κ) (RestsOnAt m n κ) e s → ⊥
-    sides_apart e s a b is i (inl (hs, x)) = subst IsHandlers is hs
-    sides_apart e s a b is i (inr x) =
-        let z = alias_rule (strictly m) (Settled e) (GrantsAt n κ) (Stands (Settled e) (RestsOnAt m n κ) (goal_kind (strictly m) (unbound s))) e s a b x is in
-        elim i [ inl y ↦ result_apart (goal_kind (strictly m) (unbound s)) e a z.left y z.first | inr y ↦ result_apart (goal_kind (strictly m) (unbound s)) e b z.right y z.second ]
-
-    unbound_is : (s t : Tree) → unbound s ≡ unbound t → t ≡ s
-    unbound_is s t e = cc e
-
-    bound_is : (s y t : Tree) → unbound s ≡ bound y t → t ≡ s
-    bound_is s y t e = cc e
-
-    rule_sides : (e a b : Tree) → IsAlias a ⊎ IsAlias b → IsRule (strictly m) coherence (Settled e) (GrantsAt n κ) (HidesAt n κ) (RestsOnAt m n κ) e (alias_goal variance.Invariant a b) → ⊥
-    rule_sides e a b i (inl (s, is, x)) = sides_apart e s a b (unbound_is (node (label.Predicate (predicate.AliasRelate direction.Equate)) (pair a b)) s is) i x
-    rule_sides e a b i (inr (y, s, f, is, fresh, x)) =
-        let same : s ≡ node (label.Predicate (predicate.AliasRelate direction.Equate)) (pair a b) = bound_is (node (label.Predicate (predicate.AliasRelate direction.Equate)) (pair a b)) y s is in
-        sides_apart e (opened f 0 s) (opened f 0 a) (opened f 0 b) (ap (opened f 0) same) (elim i [ inl z ↦ inl (opened_alias f a z) | inr z ↦ inr (opened_alias f b z) ]) x
-
-  -- so no goal about an alias is proved
-  no_alias_goal : (e a b : Tree) → IsAlias a ⊎ IsAlias b → Proves e (alias_goal variance.Invariant a b) → ⊥
-  no_alias_goal e a b i p =
-      let o = p.of_proof in
-      let w = o.proof in
-      let r = p.reached in
-      rule_sides o r.node r.at r.reached (instance_of r.at r.node.sequent.environment) a b i
-      (subst (IsRule (strictly m) coherence (Settled (instance_of r.at r.node.sequent.environment)) (GrantsAt r.node r.at) (HidesAt r.node r.at) (RestsOnAt m r.node r.at) (instance_of r.at r.node.sequent.environment)) r.predicate (w.settled r.node r.at r.reached))
+  rests_proved p n κ r plain q (inr (k, rest)) = absurd (plain k)
 
   granted_true : (p : GroundProof m (HoldsIn truth)) (n : Node) (κ : Instance) → IsReached m p.proof.nodes p.proof.node p.proof.at n κ → (x : Constraint) → GrantsAt n κ x → HoldsIn truth x
   granted_true p n κ r x (inl t) = trivial_true truth x.relation x t
@@ -241,28 +164,30 @@ module _ (h : Handler) (V : ℕ → List Variance) (truth : Truth) (none : HasNo
       let f = o.ground r.node r.at r.reached in
       (subst (AllLabels IsGroundLabel) r.environment f.0, (subst (AllLabels IsGroundLabel) r.predicate f.1.0, tt))
 
+  are_ground : AreGround Proves
+  are_ground = record { formed = formed_goal; ground = ground_goal }
+
   -- the rule by which a goal follows, at its own terms
-  goal_rule : (e g : Tree) (p : Proves e g) → (let r = p.reached in IsRule (strictly m) coherence (Settled e) (GrantsAt r.node r.at) (HidesAt r.node r.at) (RestsOnAt m r.node r.at) e g)
+  pub goal_rule : (e g : Tree) (p : Proves e g) → (let r = p.reached in IsRule (strictly m) coherence IsAliasFree (GrantsAt r.node r.at) (HidesAt r.node r.at) (RestsOnAt m r.node r.at) e g)
   goal_rule e g p =
       let r = p.reached in
       let w = (let o = p.of_proof in o.proof) in
-      subst (λ z. IsRule (strictly m) coherence (Settled z) (GrantsAt r.node r.at) (HidesAt r.node r.at) (RestsOnAt m r.node r.at) z g) r.environment
-      (subst (IsRule (strictly m) coherence (Settled (instance_of r.at r.node.sequent.environment)) (GrantsAt r.node r.at) (HidesAt r.node r.at) (RestsOnAt m r.node r.at) (instance_of r.at r.node.sequent.environment)) r.predicate (w.settled r.node r.at r.reached))
+      subst (λ z. IsRule (strictly m) coherence IsAliasFree (GrantsAt r.node r.at) (HidesAt r.node r.at) (RestsOnAt m r.node r.at) z g) r.environment
+      (subst (IsRule (strictly m) coherence IsAliasFree (GrantsAt r.node r.at) (HidesAt r.node r.at) (RestsOnAt m r.node r.at) (instance_of r.at r.node.sequent.environment)) r.predicate (w.plain r.node r.at r.reached))
+
+  by_shape : (G : Tree → Type 0) (H : Constraint → Type 0) (D : Hidden → Type 0) (P : Premise → Type 0) (e g : Tree) → IsRule (strictly m) coherence G H D P e g → IsPredicate g
+  by_shape G H D P e g (inl (s, is, x)) = record { sorts = empty; statement = s; is = is }
+  by_shape G H D P e g (inr (y, s, f, is, fresh, x)) = record { sorts = y; statement = s; is = is }
+
+  shaped_goal : (e g : Tree) → Proves e g → IsPredicate g
+  shaped_goal e g p = by_shape IsAliasFree _ _ _ e g (goal_rule e g p)
 
   -- the rule of the engine by which one follows that is not the handler's
-  by_engine : (e s : Tree) (p : Proves e (unbound s)) → (IsHandlers s → ⊥) → IsClosed s
-      → (let r = p.reached in IsBuiltIn (strictly m) (Settled e) (GrantsAt r.node r.at) (Stands (Settled e) (RestsOnAt m r.node r.at) (goal_kind (strictly m) (unbound s))) e s)
-  by_engine e s p n closed =
-      (let r = p.reached in
-      engine_unbound h (strictly m) truth Proves (λ a y. y) no_alias_goal (Settled e) (GrantsAt r.node r.at) (HidesAt r.node r.at) (RestsOnAt m r.node r.at) (granted_true p.of_proof r.node r.at r.reached) (rests_proved p.of_proof r.node r.at r.reached) e s n closed
-      (goal_rule e (unbound s) p))
+  by_engine : (e s : Tree) (p : Proves e (unbound s)) → (IsHandlers s → ⊥) → IsClosed s → (let r = p.reached in Engine (strictly m) IsAliasFree (GrantsAt r.node r.at) (HidesAt r.node r.at) (RestsOnAt m r.node r.at) e s)
+  by_engine e s p n closed = (let r = p.reached in engine_unbound (strictly m) IsAliasFree (GrantsAt r.node r.at) (HidesAt r.node r.at) (RestsOnAt m r.node r.at) e s n closed (goal_rule e (unbound s) p))
 
-  opened_engine : (e x xs s : Tree) (p : Proves e (binding x xs s))
-      → (let r = p.reached in EngineOpened h (strictly m) truth Proves (λ a y. y) no_alias_goal (Settled e) (GrantsAt r.node r.at) (HidesAt r.node r.at) (RestsOnAt m r.node r.at) (granted_true p.of_proof r.node r.at r.reached) (rests_proved p.of_proof r.node r.at r.reached) e x xs s)
-  opened_engine e x xs s p =
-      (let r = p.reached in
-      engine_binding h (strictly m) truth Proves (λ a y. y) no_alias_goal (Settled e) (GrantsAt r.node r.at) (HidesAt r.node r.at) (RestsOnAt m r.node r.at) (granted_true p.of_proof r.node r.at r.reached) (rests_proved p.of_proof r.node r.at r.reached) e x xs s
-      (goal_rule e (binding x xs s) p))
+  opened_engine : (e x xs s : Tree) (p : Proves e (binding x xs s)) → (let r = p.reached in EngineOpened (strictly m) IsAliasFree (GrantsAt r.node r.at) (HidesAt r.node r.at) (RestsOnAt m r.node r.at) e x xs s)
+  opened_engine e x xs s p = (let r = p.reached in engine_binding (strictly m) IsAliasFree (GrantsAt r.node r.at) (HidesAt r.node r.at) (RestsOnAt m r.node r.at) e x xs s (goal_rule e (binding x xs s) p))
 
   abbrev asked_there : Tree → Tree → Premise
   asked_there e q = record { source = misc; environment = e; predicate = q }
@@ -272,40 +197,66 @@ module _ (h : Handler) (V : ℕ → List Variance) (truth : Truth) (none : HasNo
   asked_among e (p ∷ ps) q (inl same) = inl (ap (asked_there e) same)
   asked_among e (p ∷ ps) q (inr i) = inr (asked_among e ps q i)
 
-  pub settled_used : AreUsed h truth Proves
-  settled_used =
+  -- by a rule for a goal that normalizes no alias it follows from what is proved
+  module _ (e g : Tree) (p : Proves e g) (plain : goal_kind m g ≡ normalization → ⊥) where
+    granted : (x : Constraint) → (let r = p.reached in GrantsAt r.node r.at x) → HoldsIn truth x
+    granted x t = (let r = p.reached in granted_true p.of_proof r.node r.at r.reached x t)
+
+    rested : (q : Premise) → (let r = p.reached in RestsOnAt m r.node r.at q) → Proves q.environment q.predicate
+    rested q t = (let r = p.reached in rests_proved p.of_proof r.node r.at r.reached (λ k. plain (sym (ap (goal_kind m) r.predicate) ∙ k)) q t)
+
+    used_unbound : (s : Tree) → g ≡ unbound s → IsHandlers s → IsClosed s → UsesClause h truth Proves e s
+    used_unbound s is i c = (let r = p.reached in
+        uses_unbound h (strictly m) truth Proves (λ a x. x) are_ground shaped_goal IsAliasFree (GrantsAt r.node r.at) (HidesAt r.node r.at) (RestsOnAt m r.node r.at) (λ v k. k) granted rested e s i c
+        (subst (IsRule (strictly m) coherence IsAliasFree (GrantsAt r.node r.at) (HidesAt r.node r.at) (RestsOnAt m r.node r.at) e) is (goal_rule e g p)))
+
+    used_binding : (x xs s : Tree) → g ≡ binding x xs s → IsHandlers s → UsesOpened h truth Proves e (binding x xs s) s
+    used_binding x xs s is i = (let r = p.reached in
+        uses_binding h (strictly m) truth Proves (λ a y. y) are_ground shaped_goal IsAliasFree (GrantsAt r.node r.at) (HidesAt r.node r.at) (RestsOnAt m r.node r.at) (λ v k. k) granted rested e x xs s i
+        (subst (IsRule (strictly m) coherence IsAliasFree (GrantsAt r.node r.at) (HidesAt r.node r.at) (RestsOnAt m r.node r.at) e) is (goal_rule e g p)))
+
+    said_here : (s : Tree) (y : Constraint) → (let r = p.reached in Engine (strictly m) IsAliasFree (GrantsAt r.node r.at) (HidesAt r.node r.at) (RestsOnAt m r.node r.at) e s) → HasNoAlias s → SaysOfTwo y s → HoldsIn truth y
+    said_here s y b n says = (let r = p.reached in said_true h (strictly m) truth Proves (λ a z. z) are_ground shaped_goal IsAliasFree (GrantsAt r.node r.at) (HidesAt r.node r.at) (RestsOnAt m r.node r.at) (λ v k. k) granted rested e s y b n says)
+
+    formed_here : (s t : Tree) (ps : List Tree) (q : Tree) → (let r = p.reached in Engine (strictly m) IsAliasFree (GrantsAt r.node r.at) (HidesAt r.node r.at) (RestsOnAt m r.node r.at) e s) → s ≡ is_well_formed t → (let j = h.judges in j.well_formed e t ≡ Some ps) → Among ps q → IsGranted Proves e q
+    formed_here s t ps q b is given i = (let r = p.reached in
+        formed_proved h (strictly m) truth Proves (λ a y. y) are_ground shaped_goal IsAliasFree (GrantsAt r.node r.at) (HidesAt r.node r.at) (RestsOnAt m r.node r.at) (λ v k. k) granted rested e s t (goals_there e ps) b is (ap (goals_in e) given) (asked_there e q) (asked_among e ps q i))
+
+  no_normal : (s : Tree) → (IsHandlers s → ⊥) → statement_kind h.is_coinductive s ≡ normalization → ⊥
+  no_normal s n k = n (normal_handlers h.is_coinductive s k)
+
+  -- what is opened says nothing that normalizes, so nor did it before
+  no_normal_opened : (f : Sort → ℕ → Leaf) (s : Tree) → (IsHandlers (opened f 0 s) → ⊥) → statement_kind h.is_coinductive s ≡ normalization → ⊥
+  no_normal_opened f s n k = no_normal (opened f 0 s) n (normal_opened h.is_coinductive f s k)
+
+  formed_no_handlers : (s t : Tree) → s ≡ is_well_formed t → IsHandlers s → ⊥
+  formed_no_handlers s t is i = subst IsHandlers is i
+
+  pub plain_used : AreUsed h truth Proves
+  plain_used =
       record {
-        ground = record { formed = formed_goal; ground = ground_goal };
-        plain = λ e s p i c. (let r = p.reached in
-            uses_unbound h (strictly m) truth Proves (λ a x. x) no_alias_goal (Settled e) (GrantsAt r.node r.at) (HidesAt r.node r.at) (RestsOnAt m r.node r.at) (granted_true p.of_proof r.node r.at r.reached) (rests_proved p.of_proof r.node r.at r.reached) e s i c (goal_rule e (unbound s) p));
-        opened = λ e x xs s p i. (let r = p.reached in
-            uses_binding h (strictly m) truth Proves (λ a y. y) no_alias_goal (Settled e) (GrantsAt r.node r.at) (HidesAt r.node r.at) (RestsOnAt m r.node r.at) (granted_true p.of_proof r.node r.at r.reached) (rests_proved p.of_proof r.node r.at r.reached) e x xs s i (goal_rule e (binding x xs s) p));
-        says = λ e s x p says closed. (let r = p.reached in
-            let b = by_engine e s p (said_no_handlers x s says) closed in
-            said_true h (strictly m) truth Proves (λ a y. y) no_alias_goal (Settled e) (GrantsAt r.node r.at) (HidesAt r.node r.at) (RestsOnAt m r.node r.at) (granted_true p.of_proof r.node r.at r.reached) (rests_proved p.of_proof r.node r.at r.reached) e s x b says);
-        formed = λ e s p closed t ps is given q i. (let r = p.reached in
-            let b = by_engine e s p (λ z. subst IsHandlers is z) closed in
-            formed_proved h (strictly m) truth Proves (λ a y. y) no_alias_goal (Settled e) (GrantsAt r.node r.at) (HidesAt r.node r.at) (RestsOnAt m r.node r.at) (granted_true p.of_proof r.node r.at r.reached) (rests_proved p.of_proof r.node r.at r.reached)
-            e s t (goals_there e ps) b is (ap (goals_in e) given) (asked_there e q) (asked_among e ps q i));
-        formed_opened = λ e x xs s p. (let r = p.reached in
-            let o = opened_engine e x xs s p in
+        ground = are_ground;
+        plain = λ e s p i c. used_unbound e (unbound s) p (trait_plain h.is_coinductive s i) s refl (trait_handlers s i) c;
+        opened = λ e x xs s p i. used_binding e (binding x xs s) p (trait_plain h.is_coinductive s i) x xs s refl (trait_handlers s i);
+        says = λ e s y p says closed n. (let none = said_no_handlers y s says in said_here e (unbound s) p (no_normal s none) s y (by_engine e s p none closed) n says);
+        formed = λ e s p closed t ps is given q i. (let none = formed_no_handlers s t is in formed_here e (unbound s) p (no_normal s none) s t ps q (by_engine e s p none closed) is given i);
+        formed_opened = λ e x xs s p. (let o = opened_engine e x xs s p in
             record {
               fresh = o.fresh;
               are_fresh = o.are_fresh;
               goals = λ t ps is given q i.
-                  formed_proved h (strictly m) truth Proves (λ a y. y) no_alias_goal (Settled e) (GrantsAt r.node r.at) (HidesAt r.node r.at) (RestsOnAt m r.node r.at) (granted_true p.of_proof r.node r.at r.reached) (rests_proved p.of_proof r.node r.at r.reached)
-                  e (opened o.fresh 0 s) t (goals_there e ps) (o.follows (λ z. subst IsHandlers is z)) is (ap (goals_in e) given) (asked_there e q) (asked_among e ps q i);
+                  (let none = formed_no_handlers (opened o.fresh 0 s) t is in
+                  formed_here e (binding x xs s) p (no_normal_opened o.fresh s none) (opened o.fresh 0 s) t ps q (o.follows none) is given i);
             });
         denies = λ e g p d. (let r = p.reached in
-            rule_denied (strictly m) h.judges (λ i. refl) coherence (Settled e) (GrantsAt r.node r.at) (HidesAt r.node r.at) (RestsOnAt m r.node r.at) e g d (goal_rule e g p));
-        says_opened = λ e x xs s p. (let r = p.reached in
-            let o = opened_engine e x xs s p in
+            rule_denied (strictly m) h.judges (λ i. refl) coherence IsAliasFree (GrantsAt r.node r.at) (HidesAt r.node r.at) (RestsOnAt m r.node r.at) e g d (goal_rule e g p));
+        says_opened = λ e x xs s p n. (let o = opened_engine e x xs s p in
             record {
               fresh = o.fresh;
               are_fresh = o.are_fresh;
               holds = λ y says.
-                  said_true h (strictly m) truth Proves (λ a z. z) no_alias_goal (Settled e) (GrantsAt r.node r.at) (HidesAt r.node r.at) (RestsOnAt m r.node r.at) (granted_true p.of_proof r.node r.at r.reached) (rests_proved p.of_proof r.node r.at r.reached)
-                  e (opened o.fresh 0 s) y (o.follows (said_no_handlers y (opened o.fresh 0 s) says)) says;
+                  (let none = said_no_handlers y (opened o.fresh 0 s) says in
+                  said_here e (binding x xs s) p (no_normal_opened o.fresh s none) (opened o.fresh 0 s) y (o.follows none) (opened_none o.fresh 0 s n) says);
             });
       }
 
@@ -332,6 +283,6 @@ pub ground_reached : (m : Meaning) (nodes : List Node) (first : Node) (ι : Inst
 ground_reached m nodes first ι g n κ start t = ground_instance ι.value g.ground t
 ground_reached m nodes first ι g n κ (onward {κ = before} s to both earlier i after) t = subst (AllLabels IsGroundLabel) (sym (after t)) (ground_reached m nodes first ι g _ before earlier (instance_of s.instance t))
 
-abbrev pub ground_proof : (m : Meaning) (Holds : Constraint → Type 0) (p : SettledNode m coherence Holds) → IsGroundInstance p.at → GroundProof m Holds
+abbrev pub ground_proof : (m : Meaning) (Holds : Constraint → Type 0) (p : PlainNode m Holds) → IsGroundInstance p.at → GroundProof m Holds
 ground_proof m Holds p g =
     record { proof = p; ground = λ n κ r. (let z = ground_reached m p.nodes p.node p.at g n κ r in (z n.sequent.environment, (z n.sequent.predicate, tt))) }

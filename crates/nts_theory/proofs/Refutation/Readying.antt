@@ -1,5 +1,5 @@
 -- A goal that is proved in a world of a query's table has a candidate that can be begun, in the table in which it is answered.
-use Rattle.std.proofs.Common.{ℕ, ◌≡◌, ◌+◌, Bool, true, false, length, Option, Some, None, refl, sym, ap, subst, ◌∙◌, arith}
+use Rattle.std.proofs.Common.{ℕ, ◌≡◌, ◌+◌, Bool, true, false, length, Option, Some, None, refl, sym, ap, subst, ◌∙◌, arith, inl}
 use Rattle.std.specs.Prelude.{slice_get}
 use Rattle.nts_model.specs.declared.labels.Sort.{Sort}
 use Rattle.nts_model.specs.declared.labels.Sort.TheVariants as sort
@@ -20,19 +20,21 @@ use Rattle.nts_model.specs.Derivations.Rules.{coherence, statement_of, opened, I
 use Rattle.nts_model.specs.Refutation.Opening.{binds, placeholder_in, entered_table, opened_in}
 use Rattle.nts_model.specs.Derivations.Handlers.{Handler, Candidate, IsAsked, IsLawfulHandler}
 use Rattle.nts_model.specs.Answers.Applying.{IsProperContent}
-use Rattle.nts_model.specs.Refutation.Containing.{Truth, IsSolution}
+use Rattle.nts_model.specs.Refutation.Containing.{Truth, IsSolution, IsAliasFree, IsPlainWorld}
 use Rattle.nts_model.specs.Refutation.Coherence.{RulesAreOffered}
-use Rattle.nts_theory.specs.Telling.{IsReady}
-use Rattle.nts_theory.specs.Refutation.Refutation.{UsesNamed, binding, IsTheory}
+use Rattle.nts_theory.specs.Telling.{IsReady, IsTraitStatement, IsTraitGoal}
+use Rattle.nts_theory.specs.Refutation.Refutation.{UsesNamed, binding, IsTheory, IsPlainFor, HasNoAlias, IsGranted}
 use Rattle.nts_model.proofs.Tables.Instances.{Agrees-refl}
 use Rattle.nts_model.proofs.Tables.Fitting.{IsClosed-inst, IsFormed-inst}
 use Rattle.nts_model.proofs.Tables.Solving.{NamesAll-more, Solves-in_universe}
 use Rattle.nts_theory.proofs.Refutation.Answered.{solution_later}
 use Rattle.nts_theory.proofs.Refutation.OpenedGoals.{inst_opened}
-use Rattle.nts_theory.proofs.Refutation.OfferMeeting.{handlers_inst}
+use Rattle.nts_theory.proofs.Refutation.OfferMeeting.{handlers_inst, trait_inst}
 use Rattle.nts_theory.proofs.Refutation.Offering.{world_instance, world_instance_in, meets_used}
 use Rattle.nts_theory.proofs.Refutation.Opening.{CanBegin, can_begin}
 use Rattle.nts_theory.proofs.Derivations.ClosedStatements.{one_statement as same_statement}
+use Rattle.nts_theory.proofs.Refutation.PlainTerms.{free_none, unlabelled_free, none_inst, leaf_free, none_opened}
+use Rattle.nts_theory.proofs.Refutation.Freshening.{knows_leaf}
 
 -- in a solution the current universe names the image of each term of the table
 module _ (truth : Truth) (base : ℕ) (c : Content) (w : World) (s : IsSolution truth base c w) (current : AreCurrent c) where
@@ -63,7 +65,7 @@ pub record SomeBegins (h : Handler) (truth : Truth) (Proves : Tree → Tree → 
   pub candidate : Candidate
   pub offered : Among (h.offers coherence e (opened_in c g)) candidate
   pub solution : IsSolution truth 0 (entered_table c g) w
-  pub begins : CanBegin truth Proves (entered_table c g) w candidate
+  pub begins : CanBegin truth (IsGranted Proves) (entered_table c g) w candidate
 
 pub record IsBinding (g : Tree) : Type 0 where
   pub first : Tree
@@ -77,12 +79,13 @@ binding_shape g e = cc e
 
 module _ (h : Handler) (truth : Truth) (Proves : Tree → Tree → Type 0) (theory : IsTheory h truth Proves) (lawful : IsLawfulHandler h) (law : RulesAreOffered h) where
   -- by what the world uses
-  begins_by : (c : Content) (w : World) (e g : Tree) (asked : IsAsked e g) → Knows c (pair e g) → IsProperContent c → IsSolution truth 0 c w → UsesNamed h truth Proves c.universe (inst w e) (inst w asked.statement)
-      → (x : Candidate) × Among (h.offers coherence e g) x × CanBegin truth Proves c w x
-  begins_by c w e g asked known proper s u =
+  begins_by : (c : Content) (w : World) (e g : Tree) (asked : IsAsked e g) → Knows c (pair e g) → IsProperContent c → IsSolution truth 0 c w → IsPlainWorld c w → UsesNamed h truth Proves c.universe (inst w e) (inst w asked.statement)
+      → (x : Candidate) × Among (h.offers coherence e g) x × CanBegin truth (IsGranted Proves) c w x
+  begins_by c w e g asked known proper s free u =
       let ι = world_instance c w s.solves.fitting s.fixed (pair e g) asked.formed known in
       let same = world_instance_in c w s.solves.fitting s.fixed (pair e g) asked.formed known in
-      let m = meets_used h truth Proves law c.universe e g asked w ι same u in
+      let plain : IsPlainFor w (pair e g) = λ l i. leaf_free c w free l (knows_leaf c l (pair e g) i known) in
+      let m = meets_used h truth Proves law lawful.keep c.universe e g asked w ι same plain u in
       (m.meets.candidate, m.meets.offered, can_begin h truth Proves e g asked lawful.keep ι c w s same known proper m)
 
   later_solution : (c : Content) (w : World) → IsSolution truth 0 c w → IsSolution truth 0 (in_universe c (c.universe + 1)) w
@@ -94,22 +97,25 @@ module _ (h : Handler) (truth : Truth) (Proves : Tree → Tree → Type 0) (theo
   themselves c w s sort.Const n = refl
   themselves c w s sort.Region n = ap (λ z. leaf_tree (leaf.Region z)) (s.new (c.universe + 1) n (omega arith))
 
-  module _ (c : Content) (e g : Tree) (w : World) (s : IsSolution truth 0 c w) (current : AreCurrent c) (known : Knows c (pair e g)) (proved : Proves (inst w e) (inst w g)) where
+  module _ (c : Content) (e g : Tree) (w : World) (s : IsSolution truth 0 c w) (current : AreCurrent c) (known : Knows c (pair e g)) (free : IsPlainWorld c w) (granted : IsGranted Proves (inst w e) (inst w g)) where
     -- a goal that binds nothing
-    begins_plain : IsAsked e g → IsProperContent c → (x : Candidate) × Among (h.offers coherence e g) x × CanBegin truth Proves c w x
-    begins_plain asked proper =
+    begins_plain : IsAsked e g → IsTraitGoal e g → IsProperContent c → (x : Candidate) × Among (h.offers coherence e g) x × CanBegin truth (IsGranted Proves) c w x
+    begins_plain asked trait proper =
         let is : g ≡ unbound asked.statement = asked.binds_nothing in
         let there : Knows c (unbound asked.statement) = subst (Knows c) is (known.1.0) in
         let ks : Knows c asked.statement = there.1.1.0 in
         let closed : IsClosed (inst w asked.statement) = IsClosed-inst c w 0 asked.statement s.solves.fitting ks (let k = asked.closed in k.1.0) in
-        let u = theory.plain c.universe (inst w e) (inst w asked.statement) (subst (Proves (inst w e)) (ap (inst w) is) proved) (handlers_inst w asked.statement asked.handlers) closed
+        let says : IsTraitStatement asked.statement = subst (λ z. IsTraitStatement (statement_of z)) is trait.statement in
+        let none : HasNoAlias asked.statement = (let f : IsAliasFree (unbound asked.statement) = subst IsAliasFree is (let f = unlabelled_free (pair e g) trait.no_alias in f.1.0) in free_none asked.statement f.1.1.0) in
+        let here : IsGranted Proves (inst w e) (unbound (inst w asked.statement)) = subst (λ z. IsGranted Proves (inst w e) (inst w z)) is granted in
+        let u = theory.plain c.universe (inst w e) (inst w asked.statement) (here.proved (inl (none_inst c w free asked.statement ks none))) (trait_inst w asked.statement says) closed
         (names_image truth 0 c w s current e known.0, (names_image truth 0 c w s current asked.statement ks, tt)) in
-        begins_by c w e g asked known proper s u
+        begins_by c w e g asked known proper s free u
 
     -- .. and one that binds variables
-    begins_binding : IsBinding g → (let d = in_universe c (c.universe + 1) in let o = unbound (opened (placeholder_in (c.universe + 1)) 0 (statement_of g)) in (asked : IsAsked e o) → Knows d (pair e o) → IsProperContent d
-        → (x : Candidate) × Among (h.offers coherence e o) x × CanBegin truth Proves d w x)
-    begins_binding b asked there proper =
+    begins_binding : IsBinding g → (let d = in_universe c (c.universe + 1) in let o = unbound (opened (placeholder_in (c.universe + 1)) 0 (statement_of g)) in (asked : IsAsked e o) → IsTraitGoal e o → Knows d (pair e o) → IsProperContent d
+        → (x : Candidate) × Among (h.offers coherence e o) x × CanBegin truth (IsGranted Proves) d w x)
+    begins_binding b asked trait there proper =
         let d = in_universe c (c.universe + 1) in
         let p = placeholder_in (c.universe + 1) in
         let t = b.says in
@@ -121,10 +127,15 @@ module _ (h : Handler) (truth : Truth) (Proves : Tree → Tree → Type 0) (theo
         let ks : Knows d asked.statement = (let k : Knows d (unbound asked.statement) = subst (Knows d) asked.binds_nothing (there.1.0) in k.1.1.0) in
         let fs : IsFormed asked.statement = (let f : IsFormed (unbound asked.statement) = subst IsFormed asked.binds_nothing (let f = asked.formed in f.1.0) in f.1.1.0) in
         let formed : IsFormed (opened p 0 (inst w t)) = subst IsFormed image (IsFormed-inst d w asked.statement later.solves.fitting ks fs) in
-        let handlers : IsHandlers (opened p 0 (inst w t)) = subst IsHandlers image (handlers_inst w asked.statement asked.handlers) in
-        let u = theory.opened c.universe (inst w e) (inst w b.first) (inst w b.rest) (inst w t) (subst (Proves (inst w e)) (ap (inst w) b.is) proved) handlers formed
+        let same : unbound (opened p 0 (statement_of g)) ≡ unbound asked.statement = asked.binds_nothing in
+        let trait_says : IsTraitStatement asked.statement = subst (λ z. IsTraitStatement (statement_of z)) same trait.statement in
+        let is_trait : IsTraitStatement (opened p 0 (inst w t)) = subst IsTraitStatement image (trait_inst w asked.statement trait_says) in
+        let whole = unlabelled_free (pair e (unbound (opened p 0 (statement_of g)))) trait.no_alias in
+        let none : HasNoAlias t = none_opened p 0 t (subst (λ z. HasNoAlias (opened p 0 (statement_of z))) b.is (free_none (opened p 0 (statement_of g)) whole.1.0.1.1.0)) in
+        let here : IsGranted Proves (inst w e) (binding (inst w b.first) (inst w b.rest) (inst w t)) = subst (λ z. IsGranted Proves (inst w e) (inst w z)) b.is granted in
+        let u = theory.opened c.universe (inst w e) (inst w b.first) (inst w b.rest) (inst w t) (here.proved (inl (none_inst c w free t kt none))) is_trait formed
         (names_image truth 0 c w s current e known.0, (names_image truth 0 c w s current t kt, tt)) in
-        begins_by d w e (unbound (opened p 0 (statement_of g))) asked there proper later (subst (UsesNamed h truth Proves (c.universe + 1) (inst w e)) (sym image) u)
+        begins_by d w e (unbound (opened p 0 (statement_of g))) asked there proper later (record { each = λ n k e. free.each n k e }) (subst (UsesNamed h truth Proves (c.universe + 1) (inst w e)) (sym image) u)
 
     pub some_begins : IsReady c e g → SomeBegins h truth Proves c e g w
     some_begins ready = by_bool (binds g) refl
@@ -133,21 +144,21 @@ module _ (h : Handler) (truth : Truth) (Proves : Tree → Tree → Type 0) (theo
         by_bool false q =
             let there : entered_table c g ≡ c = rw q refl in
             let o : opened_in c g ≡ g = rw q refl in
-            let x = begins_plain (subst (IsAsked e) o ready.asked) (subst IsProperContent there ready.proper) in
+            let x = begins_plain (subst (IsAsked e) o ready.asked) (subst (IsTraitGoal e) o ready.trait_goal) (subst IsProperContent there ready.proper) in
             record {
               candidate = x.0;
               offered = subst (λ z. Among (h.offers coherence e z) x.0) (sym o) x.1;
               solution = subst (λ z. IsSolution truth 0 z w) (sym there) s;
-              begins = subst (λ z. CanBegin truth Proves z w x.0) (sym there) x.2;
+              begins = subst (λ z. CanBegin truth (IsGranted Proves) z w x.0) (sym there) x.2;
             }
         by_bool true q =
             let there : entered_table c g ≡ in_universe c (c.universe + 1) = rw q refl in
             let o : opened_in c g ≡ unbound (opened (placeholder_in (c.universe + 1)) 0 (statement_of g)) = rw q refl in
             let known_there = subst (λ z. Knows z (pair e (unbound (opened (placeholder_in (c.universe + 1)) 0 (statement_of g))))) there (subst (λ z. Knows (entered_table c g) (pair e z)) o ready.knows) in
-            let x = begins_binding (binding_shape g q) (subst (IsAsked e) o ready.asked) known_there (subst IsProperContent there ready.proper) in
+            let x = begins_binding (binding_shape g q) (subst (IsAsked e) o ready.asked) (subst (IsTraitGoal e) o ready.trait_goal) known_there (subst IsProperContent there ready.proper) in
             record {
               candidate = x.0;
               offered = subst (λ z. Among (h.offers coherence e z) x.0) (sym o) x.1;
               solution = subst (λ z. IsSolution truth 0 z w) (sym there) (later_solution c w s);
-              begins = subst (λ z. CanBegin truth Proves z w x.0) (sym there) x.2;
+              begins = subst (λ z. CanBegin truth (IsGranted Proves) z w x.0) (sym there) x.2;
             }

@@ -23,7 +23,7 @@ use Rattle.nts_model.specs.Derivations.Handlers.{IsFixed}
 use Rattle.nts_model.specs.Canonical.Inputs.{PositionKind, placeholder, share}
 use Rattle.nts_model.specs.Answers.Responses.{Findings, recorded_by, AreFindings, own_leaves, positioned, is_fixed, answer_kind, universe_or, placeholder_tree, response_of, IsLeafIn, IsQueryTable}
 use Rattle.nts_model.specs.Terms.Placeholders.{leaf_level}
-use Rattle.nts_model.specs.Refutation.Containing.{Truth, IsTrueBy, IsSolution, IsOwnValue, IsAnswerValue, AreAnswerValues, AreMetBy, ContainsSolution}
+use Rattle.nts_model.specs.Refutation.Containing.{IsAliasFree, IsPlainWorld, Truth, IsTrueBy, IsSolution, IsOwnValue, IsAnswerValue, AreAnswerValues, AreMetBy, ContainsSolution}
 use Rattle.nts_model.proofs.Tables.Worlds.{inst-deeply_resolved}
 use Rattle.nts_model.proofs.Lists.{contains_none, first_or_later}
 use Rattle.nts_theory.proofs.Derivations.ProvedLater.{contains_first, contains_later}
@@ -31,6 +31,7 @@ use Rattle.nts_model.proofs.Canonical.Positioned.{get_or-map, inst-filled, fille
 use Rattle.nts_theory.proofs.Responses.Answering.{AllTrees, AllSides, AreSeen, IsPlainTerm, filled-positioned, all_found_seen, positioned_over, own_loose}
 use Rattle.nts_theory.proofs.Responses.Querying.{all_plain, own_in}
 use Rattle.nts_theory.proofs.Refutation.AskingWorlds.{integer_leaf, float_leaf}
+use Rattle.nts_theory.proofs.Refutation.PlainTerms.{leaf_free}
 
 -- in the query's table each placeholder of the input stands for itself
 abbrev pub ArePlaced : List PositionKind → List Tree → Type 0
@@ -143,13 +144,19 @@ module _ (truth : Truth) (ks : List PositionKind) (q : Content) (qs : List Tree)
   )
 
   -- the solution is contained
-  pub answer_contains : (sub : ℕ → ℕ) → ContainsSolution truth (response_of q sub 0 x) (map (inst w) qs)
-  answer_contains sub =
+  own_free : IsPlainWorld q w → (ls : List Leaf) → ((l : Leaf) → Among ls l → Among (own_leaves x) l) → (v : Tree) → Among (own_trees ls) v → IsAliasFree v
+  own_free p [] h v i = absurd i
+  own_free p (l ∷ ls) h v (inl e) = subst IsAliasFree (sym e) (leaf_free q w p l (known l (h l (inl refl))))
+  own_free p (l ∷ ls) h v (inr i) = own_free p ls (λ m j. h m (inr j)) v i
+
+  pub answer_contains : IsPlainWorld q w → (sub : ℕ → ℕ) → ContainsSolution truth (response_of q sub 0 x) (map (inst w) qs)
+  answer_contains free sub =
       let plain = all_plain ks q qs x table found no_hidden [] no_goals (λ y j. absurd j) in
       let seen = all_found_seen x in
       record {
         own = own_trees (own_leaves x);
         values = own_values sub (own_leaves x) (own_leaves x) (λ l i. i);
+        plain = own_free free (own_leaves x) (λ l i. i);
         equal =
             ap (λ z. map (filled (own_trees (own_leaves x))) (map (positioned (own_leaves x)) z)) found.values
             ∙ equal_each qs (subst (AllTrees IsPlainTerm) found.values plain.values) (subst (AllTrees (AreSeen (own_leaves x))) found.values seen.values);

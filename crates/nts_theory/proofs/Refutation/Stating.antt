@@ -1,13 +1,13 @@
 -- What a goal of the engine's own kinds states, which is proved in a world of its table, is so there; so its own way can be begun.
 use Rattle.std.proofs.Common.{◌≡◌, inl, inr, ℕ, ◌+◌, Bool, true, false, ◌||◌, List, [], ◌∷◌, map, Some, refl, sym, ap, ◌∙◌, subst}
-use Rattle.std.specs.Prelude.{◌⊎◌}
+use Rattle.std.specs.Prelude.{◌&&◌, ◌||◌, if◌then◌else◌, ◌⊎◌}
 use Rattle.nts_model.specs.declared.labels.FreeRegion.TheVariants as region
 use Rattle.nts_model.specs.declared.labels.Leaf.{Leaf}
 use Rattle.nts_model.specs.declared.labels.Leaf.TheVariants as leaf
 use Rattle.nts_model.specs.declared.labels.BoundVarIndexKind.TheVariants as index
 use Rattle.nts_model.specs.declared.labels.Label.{Label}
 use Rattle.nts_model.specs.declared.labels.Label.TheVariants as label
-use Rattle.nts_model.specs.Terms.Trees.{Tree, empty, more, node, any_label, is_canonical, IsClosed, IsFormed}
+use Rattle.nts_model.specs.Terms.Trees.{Tree, empty, more, node, any_label, is_canonical, IsClosed, IsFormed, kind_of, of_sort, is_alias}
 use Rattle.nts_model.specs.Terms.Scoping.{IsWellBound}
 use Rattle.nts_model.specs.Tables.Contents.{Content, in_universe}
 use Rattle.nts_model.specs.Tables.Resolving.{Knows}
@@ -17,29 +17,32 @@ use Rattle.nts_model.specs.Terms.Substitutions.{leaf_tree, Occurs, Instance, ins
 use Rattle.nts_model.specs.Derivations.Related.{Constraint, pair, unbound, value}
 use Rattle.nts_model.specs.Lists.{Among}
 use Rattle.nts_model.specs.Derivations.Sequents.{Premise, misc}
-use Rattle.nts_model.specs.Derivations.Rules.{Equation, related, statement_of, opened}
+use Rattle.nts_model.specs.Derivations.Rules.{Equation, related, statement_of, opened, KeepsAliases}
 use Rattle.nts_model.specs.Derivations.Handlers.{Handler, Candidate, IsLawfulHandler, IsFixed, IsOver, NamesFresh, constraint_by, premise_by}
 use Rattle.nts_model.specs.Refutation.Opening.{binds, placeholder_in, entered_table, opened_in}
 use Rattle.nts_model.specs.Refutation.Choosing.{Freshens}
-use Rattle.nts_model.specs.Refutation.Containing.{Truth, IsSolution, IsTrueBy}
+use Rattle.nts_model.specs.Refutation.Containing.{Truth, IsSolution, IsTrueBy, IsPlainWorld}
 use Rattle.nts_model.specs.Refutation.Coherence.{RulesAreOffered, IsInstanceIn}
 use Rattle.nts_model.specs.Answers.Responses.{read_in}
 use Rattle.nts_model.proofs.Tables.Fitting.{IsClosed-inst}
 use Rattle.nts_model.proofs.Terms.Unpositioned.{known_no_positions, known_well_bound, filled-none, or_false}
 use Rattle.nts_model.proofs.Canonical.Positioned.{inst-filled}
 use Rattle.nts_theory.specs.Affirming.{SaysOfTwo, is_its_type, is_well_formed, plain_way, goals_there, IsOwnWay, by_type, by_goals, HasOwnWay}
-use Rattle.nts_theory.specs.Refutation.Refutation.{binding, IsTheory}
+use Rattle.nts_theory.specs.Refutation.Refutation.{binding, IsTheory, HasNoAlias, IsGranted}
 use Rattle.nts_theory.proofs.Derivations.ClosedStatements.{one_statement as same_statement}
 use Rattle.nts_theory.proofs.Refutation.OpenedGoals.{inst_opened}
-use Rattle.nts_theory.proofs.Refutation.Saying.{said_inst}
+use Rattle.nts_theory.proofs.Refutation.Saying.{said_inst, was_formed}
 use Rattle.nts_theory.proofs.Refutation.Freshening.{knows_leaf}
 use Rattle.nts_theory.proofs.Refutation.OfferMeeting.{replace_inst}
 use Rattle.nts_theory.proofs.Refutation.Offering.{world_instance, world_instance_in}
 use Rattle.nts_theory.proofs.Refutation.Choosing.{filled_known}
 use Rattle.nts_theory.proofs.Refutation.Trying.{MeetsCandidate, KnowsCandidate, reaches_self}
-use Rattle.nts_theory.proofs.Refutation.Opening.{IsBegunAt, CanBegin}
+use Rattle.nts_theory.proofs.Refutation.Opening.{IsBegunAt, CanBegin, begins_whole}
 use Rattle.nts_theory.proofs.Refutation.Queried.{entered_solution}
 use Rattle.nts_theory.proofs.Refutation.Readying.{IsBinding, binding_shape, names_image, themselves}
+use Rattle.nts_theory.specs.RelatingCandidates.{may_be_argument, relates_aliases, HasPlainEquations}
+use Rattle.nts_theory.proofs.Refutation.PlainTerms.{free_none, unlabelled_free, either_false, none_inst, none_opened}
+use Rattle.nts_model.specs.declared.labels.Sort.TheVariants as sort
 
 -- a term over no variables of a candidate has no positions
 names_none : (l : Label) → NamesFresh [] (node l empty) → is_canonical l ≡ false
@@ -82,15 +85,27 @@ fixed_known c (leaf.Variable k n) i = absurd i
 fixed_known c (leaf.TyConstant a) i = absurd i
 fixed_known c (leaf.ConstConstant a) i = absurd i
 
+-- an equation that is left alone as no alias stands in it
+none_of_one : (b : Bool) (q : Equation) → (if b then q ∷ [] else []) ≡ [] → b ≡ false
+none_of_one false q e = refl
+none_of_one true q e = cc e
+
+no_alias_of : (u t : Tree) → kind_of t ≡ Some (of_sort sort.Ty) → relates_aliases (related u t) ≡ false → HasNoAlias u × HasNoAlias t
+no_alias_of u t k e =
+    let both : (any_label is_alias u || any_label is_alias t) ≡ false = subst (λ z. (may_be_argument z && (any_label is_alias u || any_label is_alias t)) ≡ false) k e in
+    let x = either_false (any_label is_alias u) (any_label is_alias t) both in
+    (free_none u (unlabelled_free u x.0), free_none t (unlabelled_free t x.1))
+
 module _ (h : Handler) (truth : Truth) (Proves : Tree → Tree → Type 0) (theory : IsTheory h truth Proves) (lawful : IsLawfulHandler h) (law : RulesAreOffered h) (c : Content) (e g : Tree) (w : World) (s : IsSolution truth 0 c w) (current : AreCurrent c) (known : Knows c (pair e g))
-    (proved : Proves (inst w e) (inst w g)) where
+    (free : IsPlainWorld c w) (granted : IsGranted Proves (inst w e) (inst w g)) where
   -- what a goal that binds nothing states, and one that binds variables
-  said_plain : (st : Tree) → g ≡ unbound st → (x : Constraint) → SaysOfTwo x st → IsClosed st → IsTrueBy truth x.relation (inst w x.left) (inst w x.right)
-  said_plain st is x says closed =
+  said_plain : (st : Tree) → g ≡ unbound st → (x : Constraint) → SaysOfTwo x st → IsClosed st → HasNoAlias st → IsTrueBy truth x.relation (inst w x.left) (inst w x.right)
+  said_plain st is x says closed none =
       let fitting = (let z = s.solves in z.fitting) in
       let there : Knows c (unbound st) = subst (Knows c) is known.1.0 in
-      let p : Proves (inst w e) (inst w (unbound st)) = subst (λ z. Proves (inst w e) (inst w z)) is proved in
-      theory.says (inst w e) (inst w st) (constraint_by (inst w) x) p (said_inst w x st says) (IsClosed-inst c w 0 st fitting there.1.1.0 closed)
+      let p : IsGranted Proves (inst w e) (unbound (inst w st)) = subst (λ z. IsGranted Proves (inst w e) (inst w z)) is granted in
+      let n = none_inst c w free st there.1.1.0 none in
+      theory.says (inst w e) (inst w st) (constraint_by (inst w) x) (p.proved (inl n)) (said_inst w x st says) (IsClosed-inst c w 0 st fitting there.1.1.0 closed) n
 
   image_opened : (b : IsBinding g) (st : Tree) → unbound (opened (placeholder_in (c.universe + 1)) 0 (statement_of g)) ≡ unbound st → inst w st ≡ opened (placeholder_in (c.universe + 1)) 0 (inst w b.says)
   image_opened b st is =
@@ -102,19 +117,23 @@ module _ (h : Handler) (truth : Truth) (Proves : Tree → Tree → Type 0) (theo
       let says : st ≡ opened p 0 t = sym (same_statement (opened p 0 (statement_of g)) st is) ∙ ap (λ z. opened p 0 (statement_of z)) b.is in
       ap (inst w) says ∙ inst_opened c w fitting p (themselves h truth Proves theory lawful law c w s) 0 t kt
 
-  said_binding : (b : IsBinding g) (st : Tree) → unbound (opened (placeholder_in (c.universe + 1)) 0 (statement_of g)) ≡ unbound st → (x : Constraint) → SaysOfTwo x st → IsTrueBy truth x.relation (inst w x.left) (inst w x.right)
-  said_binding b st is x says =
+  said_binding : (b : IsBinding g) (st : Tree) → unbound (opened (placeholder_in (c.universe + 1)) 0 (statement_of g)) ≡ unbound st → (x : Constraint) → SaysOfTwo x st → HasNoAlias st → IsTrueBy truth x.relation (inst w x.left) (inst w x.right)
+  said_binding b st is x says none =
       let now : Knows c (binding b.first b.rest b.says) = subst (Knows c) b.is known.1.0 in
-      theory.says_opened c.universe (inst w e) (inst w b.first) (inst w b.rest) (inst w b.says) (constraint_by (inst w) x) (subst (Proves (inst w e)) (ap (inst w) b.is) proved)
-      (subst (SaysOfTwo (constraint_by (inst w) x)) (image_opened b st is) (said_inst w x st says)) (names_image truth 0 c w s current e known.0, (names_image truth 0 c w s current b.says now.1.1.0, tt))
+      let p = placeholder_in (c.universe + 1) in
+      let opens : st ≡ opened p 0 b.says = sym (same_statement (opened p 0 (statement_of g)) st is) ∙ ap (λ z. opened p 0 (statement_of z)) b.is in
+      let n = none_inst c w free b.says now.1.1.0 (none_opened p 0 b.says (subst HasNoAlias opens none)) in
+      let here : IsGranted Proves (inst w e) (binding (inst w b.first) (inst w b.rest) (inst w b.says)) = subst (λ z. IsGranted Proves (inst w e) (inst w z)) b.is granted in
+      theory.says_opened c.universe (inst w e) (inst w b.first) (inst w b.rest) (inst w b.says) (constraint_by (inst w) x) (here.proved (inl n))
+      (subst (SaysOfTwo (constraint_by (inst w) x)) (image_opened b st is) (said_inst w x st says)) (names_image truth 0 c w s current e known.0, (names_image truth 0 c w s current b.says now.1.1.0, tt)) n
 
   -- so of two terms it says what is so
-  pub said_there : (st : Tree) → opened_in c g ≡ unbound st → (x : Constraint) → SaysOfTwo x st → IsClosed st → IsTrueBy truth x.relation (inst w x.left) (inst w x.right)
-  said_there st is x says closed = by_bool (binds g) refl
+  pub said_there : (st : Tree) → opened_in c g ≡ unbound st → (x : Constraint) → SaysOfTwo x st → IsClosed st → HasNoAlias st → IsTrueBy truth x.relation (inst w x.left) (inst w x.right)
+  said_there st is x says closed none = by_bool (binds g) refl
     where
       by_bool : (b : Bool) → binds g ≡ b → IsTrueBy truth x.relation (inst w x.left) (inst w x.right)
-      by_bool false q = (let o : opened_in c g ≡ g = rw q refl in said_plain st (sym o ∙ is) x says closed)
-      by_bool true q = (let o : opened_in c g ≡ unbound (opened (placeholder_in (c.universe + 1)) 0 (statement_of g)) = rw q refl in said_binding (binding_shape g q) st (sym o ∙ is) x says)
+      by_bool false q = (let o : opened_in c g ≡ g = rw q refl in said_plain st (sym o ∙ is) x says closed none)
+      by_bool true q = (let o : opened_in c g ≡ unbound (opened (placeholder_in (c.universe + 1)) 0 (statement_of g)) = rw q refl in said_binding (binding_shape g q) st (sym o ∙ is) x says none)
 
   abbrev there : Content
   there = entered_table c g
@@ -171,23 +190,27 @@ module _ (h : Handler) (truth : Truth) (Proves : Tree → Tree → Type 0) (theo
         subst (λ z. j.well_formed z (inst w t) ≡ Some (map (inst w) ps)) env (subst (λ z. j.well_formed (instance_of reading e) z ≡ Some (map (inst w) ps)) term
         (known_all ∙ ap Some (images_same (instance_of reading) (inst w) ps seen_same)))
 
-    proved_plain : (p : Tree) → Among ps p → g ≡ unbound st → Proves (inst w e) (inst w p)
+    proved_plain : (p : Tree) → Among ps p → g ≡ unbound st → IsGranted Proves (inst w e) (inst w p)
     proved_plain p i same =
         let fitting = (let z = s.solves in z.fitting) in
         let now : Knows c (unbound st) = subst (Knows c) same known.1.0 in
-        let q : Proves (inst w e) (inst w (unbound st)) = subst (λ z. Proves (inst w e) (inst w z)) same proved in
-        theory.formed (inst w e) (inst w st) q (IsClosed-inst c w 0 st fitting now.1.1.0 closed) (inst w t) (map (inst w) ps) (ap (inst w) says) given_there (inst w p) (image_among (inst w) ps p i)
+        let q : IsGranted Proves (inst w e) (unbound (inst w st)) = subst (λ z. IsGranted Proves (inst w e) (inst w z)) same granted in
+        theory.formed (inst w e) (inst w st) (q.proved (inr (subst (λ z. KeepsAliases (inst w z)) (sym says) tt))) (IsClosed-inst c w 0 st fitting now.1.1.0 closed) (inst w t) (map (inst w) ps) (ap (inst w) says) given_there (inst w p) (image_among (inst w) ps p i)
 
-    proved_binding : (p : Tree) → Among ps p → (b : IsBinding g) → unbound (opened (placeholder_in (c.universe + 1)) 0 (statement_of g)) ≡ unbound st → Proves (inst w e) (inst w p)
+    proved_binding : (p : Tree) → Among ps p → (b : IsBinding g) → unbound (opened (placeholder_in (c.universe + 1)) 0 (statement_of g)) ≡ unbound st → IsGranted Proves (inst w e) (inst w p)
     proved_binding p i b same =
         let now : Knows c (binding b.first b.rest b.says) = subst (Knows c) b.is known.1.0 in
-        theory.formed_opened c.universe (inst w e) (inst w b.first) (inst w b.rest) (inst w b.says) (subst (Proves (inst w e)) (ap (inst w) b.is) proved)
+        let fresh = placeholder_in (c.universe + 1) in
+        let opens : opened fresh 0 b.says ≡ is_well_formed t = sym (sym (same_statement (opened fresh 0 (statement_of g)) st same) ∙ ap (λ z. opened fresh 0 (statement_of z)) b.is) ∙ says in
+        let was = was_formed fresh b.says t opens in
+        let here : IsGranted Proves (inst w e) (binding (inst w b.first) (inst w b.rest) (inst w b.says)) = subst (λ z. IsGranted Proves (inst w e) (inst w z)) b.is granted in
+        theory.formed_opened c.universe (inst w e) (inst w b.first) (inst w b.rest) (inst w b.says) (here.proved (inr (subst (λ z. KeepsAliases (inst w z)) (sym was.is) tt)))
         (names_image truth 0 c w s current e known.0, (names_image truth 0 c w s current b.says now.1.1.0, tt)) (inst w t) (map (inst w) ps) (sym (image_opened b st same) ∙ ap (inst w) says) given_there (inst w p) (image_among (inst w) ps p i)
 
-    pub each_proved : (p : Tree) → Among ps p → Proves (inst w e) (inst w p)
+    pub each_proved : (p : Tree) → Among ps p → IsGranted Proves (inst w e) (inst w p)
     each_proved p i = by_bool (binds g) refl
       where
-        by_bool : (b : Bool) → binds g ≡ b → Proves (inst w e) (inst w p)
+        by_bool : (b : Bool) → binds g ≡ b → IsGranted Proves (inst w e) (inst w p)
         by_bool false q = (let o : opened_in c g ≡ g = rw q refl in proved_plain p i (sym o ∙ is))
         by_bool true q = (let o : opened_in c g ≡ unbound (opened (placeholder_in (c.universe + 1)) 0 (statement_of g)) = rw q refl in proved_binding p i (binding_shape g q) (sym o ∙ is))
 
@@ -206,21 +229,13 @@ module _ (h : Handler) (truth : Truth) (Proves : Tree → Tree → Type 0) (theo
   filled_plain : (u : Tree) → Knows there u → filled [] u ≡ u
   filled_plain u k = filled-none [] u (known_no_positions there u k)
 
-  type_begins : (b : ℕ) (u t : Tree) → Knows there u → Knows there t → IsFormed u → IsFormed t → inst w u ≡ inst w t → CanBegin truth Proves there w (plain_way (related u t ∷ []) [])
+  type_begins : (b : ℕ) (u t : Tree) → Knows there u → Knows there t → IsFormed u → IsFormed t → inst w u ≡ inst w t → CanBegin truth (IsGranted Proves) there w (plain_way (related u t ∷ []) [])
   type_begins b u t ku kt fu ft same =
-      record {
-        is_met = record {
-          world = w;
-          solves = solved.solves;
-          values = [];
-          fit = tt;
-          named = tt;
-          equal = λ q i. elim i [ inl x ↦ rw x (read_plain u ku fu ∙ same ∙ sym (read_plain t kt ft)) | inr x ↦ absurd x ];
-        };
-        begins = by_values;
-      }
+      begins_whole truth (IsGranted Proves) there w (plain_way (related u t ∷ []) [])
+      (record { world = w; solves = solved.solves; values = []; fit = tt; named = tt; equal = λ q i. elim i [ inl x ↦ rw x (read_plain u ku fu ∙ same ∙ sym (read_plain t kt ft)) | inr x ↦ absurd x ] })
+      by_values
     where
-      begun : (d : Content) → d ≡ there → IsBegunAt truth Proves there d w [] (plain_way (related u t ∷ []) [])
+      begun : (d : Content) → d ≡ there → IsBegunAt truth (IsGranted Proves) there d w [] (plain_way (related u t ∷ []) [])
       begun d x =
           rw x (record {
             reaches = reaches_self truth 0 there w solved;
@@ -241,18 +256,15 @@ module _ (h : Handler) (truth : Truth) (Proves : Tree → Tree → Type 0) (theo
             };
           })
 
-      by_values : (xs : List Tree) (d : Content) → Freshens there.universe [] xs there d → IsBegunAt truth Proves there d w xs (plain_way (related u t ∷ []) [])
+      by_values : (xs : List Tree) (d : Content) → Freshens there.universe [] xs there d → IsBegunAt truth (IsGranted Proves) there d w xs (plain_way (related u t ∷ []) [])
       by_values [] d x = begun d x
       by_values (y ∷ xs) d x = absurd x
 
-  goals_begin : (ps : List Tree) → Knows there e → ((p : Tree) → Among ps p → Proves (inst w e) (inst w p)) → ((p : Tree) → Among ps p → Knows there (filled [] p)) → ((p : Tree) → Among ps p → filled [] p ≡ p) → CanBegin truth Proves there w (plain_way [] (goals_there e ps))
+  goals_begin : (ps : List Tree) → Knows there e → ((p : Tree) → Among ps p → IsGranted Proves (inst w e) (inst w p)) → ((p : Tree) → Among ps p → Knows there (filled [] p)) → ((p : Tree) → Among ps p → filled [] p ≡ p) → CanBegin truth (IsGranted Proves) there w (plain_way [] (goals_there e ps))
   goals_begin ps ke each kp none =
-      record {
-        is_met = record { world = w; solves = solved.solves; values = []; fit = tt; named = tt; equal = λ q i. absurd i };
-        begins = by_values;
-      }
+      begins_whole truth (IsGranted Proves) there w (plain_way [] (goals_there e ps)) (record { world = w; solves = solved.solves; values = []; fit = tt; named = tt; equal = λ q i. absurd i }) by_values
     where
-      begun : (d : Content) → d ≡ there → IsBegunAt truth Proves there d w [] (plain_way [] (goals_there e ps))
+      begun : (d : Content) → d ≡ there → IsBegunAt truth (IsGranted Proves) there d w [] (plain_way [] (goals_there e ps))
       begun d x =
           rw x (record {
             reaches = reaches_self truth 0 there w solved;
@@ -270,19 +282,21 @@ module _ (h : Handler) (truth : Truth) (Proves : Tree → Tree → Type 0) (theo
             };
           })
 
-      by_values : (xs : List Tree) (d : Content) → Freshens there.universe [] xs there d → IsBegunAt truth Proves there d w xs (plain_way [] (goals_there e ps))
+      by_values : (xs : List Tree) (d : Content) → Freshens there.universe [] xs there d → IsBegunAt truth (IsGranted Proves) there d w xs (plain_way [] (goals_there e ps))
       by_values [] d x = begun d x
       by_values (y ∷ xs) d x = absurd x
 
-  by_way : (st : Tree) (x : Candidate) → opened_in c g ≡ unbound st → IsOwnWay h.judges e st x → IsFormed e → IsFormed st → IsClosed st → Knows there (pair e (opened_in c g)) → CanBegin truth Proves there w x
-  by_way st x is (by_type {b = b} {u = u} {t = t}) fe f z k =
+  by_way : (st : Tree) (x : Candidate) → opened_in c g ≡ unbound st → IsOwnWay h.judges e st x → HasPlainEquations x → IsFormed e → IsFormed st → IsClosed st → Knows there (pair e (opened_in c g)) → CanBegin truth (IsGranted Proves) there w x
+  by_way st x is (by_type {b = b} {u = u} {t = t}) plain fe f z k =
       let o : Knows there (unbound st) = subst (Knows there) is k.1.0 in
       let ks = o.1.1.0 in
       let fu = (let y = f.1 in let v = y.0 in v.1.0) in
       let ft = (let y = f.1 in y.1.0) in
-      type_begins b u t ks.1.0.1.0 ks.1.1.0 fu ft (said_there st is _ is_its_type z)
-  by_way st x is (by_goals {t = t} {ps = ps} given) fe f z k =
+      let kind : kind_of t ≡ Some (of_sort sort.Ty) = f.0.1.0 in
+      let none = no_alias_of u t kind (none_of_one (relates_aliases (related u t)) (related u t) plain) in
+      type_begins b u t ks.1.0.1.0 ks.1.1.0 fu ft (said_there st is _ is_its_type z (refl, ((refl, (none.0, tt)), (none.1, tt))))
+  by_way st x is (by_goals {t = t} {ps = ps} given) plain fe f z k =
       goals_begin ps k.0 (each_proved st t ps is refl fe f z k given) (each_known st t ps is refl fe f z k given) (none_filled st t ps is refl fe f z k given)
 
-  pub own_begins : (x : Candidate) → HasOwnWay h.judges e (opened_in c g) x → IsFormed e → Knows there (pair e (opened_in c g)) → CanBegin truth Proves there w x
-  own_begins x o fe k = by_way o.statement x o.binds_nothing o.way fe o.formed o.closed k
+  pub own_begins : (x : Candidate) → HasOwnWay h.judges e (opened_in c g) x → HasPlainEquations x → IsFormed e → Knows there (pair e (opened_in c g)) → CanBegin truth (IsGranted Proves) there w x
+  own_begins x o plain fe k = by_way o.statement x o.binds_nothing o.way plain fe o.formed o.closed k

@@ -12,27 +12,31 @@ use Rattle.nts_model.specs.declared.labels.FreeRegion.TheVariants as region
 use Rattle.nts_model.specs.declared.labels.Leaf.{Leaf}
 use Rattle.nts_model.specs.declared.labels.Leaf.TheVariants as leaf
 use Rattle.nts_model.specs.declared.labels.BoundVarIndexKind.TheVariants as index
+use Rattle.nts_model.specs.declared.labels.TyHead.{TyHead}
+use Rattle.nts_model.specs.declared.labels.ListHead.TheVariants as list
 use Rattle.nts_model.specs.declared.labels.Label.{Label}
 use Rattle.nts_model.specs.declared.labels.Label.TheVariants as label
-use Rattle.nts_model.specs.Terms.Trees.{Tree, empty, more, node, binders, sort_of_leaf, is_placeholder, IsClosed, IsFormed}
+use Rattle.nts_model.specs.Terms.Trees.{Tree, empty, more, node, kind_of, label_of, binders, sort_of_leaf, is_placeholder, IsClosed, IsFormed}
 use Rattle.nts_model.specs.Terms.Placeholders.{CanName, leaf_level_of, leaf_level}
 use Rattle.nts_model.specs.Tables.Levels.{NamesAll}
 use Rattle.nts_model.specs.Tables.Passing.{AllLabels}
 use Rattle.nts_model.specs.Terms.Substitutions.{leaf_tree, put, Occurs, StaysItself, leaf_sort, Renaming, rename}
 use Rattle.nts_model.specs.Derivations.Related.{Constraint, pair, unbound}
 use Rattle.nts_model.specs.Lists.{Among}
-use Rattle.nts_model.specs.Derivations.Rules.{coherence, statement_of, Equation, related, alike, opened, opened_at, AreFresh, IsHandlers}
+use Rattle.nts_model.specs.Derivations.Rules.{coherence, statement_of, Equation, related, alike, opened, opened_at, AreFresh}
 use Rattle.nts_model.specs.Canonical.Numbered.{seen, AreDistinct}
 use Rattle.nts_model.specs.Refutation.Opening.{placeholder_in}
 use Rattle.nts_model.specs.Refutation.Choosing.{left_of, right_of}
 use Rattle.nts_model.specs.Derivations.Handlers.{Handler, equation_by, constraint_by, premise_by, application_under, InstancesAreRules, JudgementsAreKept}
-use Rattle.nts_model.specs.Refutation.Containing.{Truth, IsTrueBy, IsGroundLabel}
+use Rattle.nts_model.specs.Refutation.Containing.{IsAliasFree, Truth, IsTrueBy, IsGroundLabel}
 use Rattle.nts_theory.specs.Affirming.{IsDenied, SaysOfTwo, is_well_formed}
 use Rattle.nts_theory.proofs.Refutation.OpenedTerms.{opened_formed}
 use Rattle.nts_theory.proofs.Refutation.Affirming.{denied_replaced}
 use Rattle.nts_theory.proofs.Refutation.Outliving.{true_again}
 use Rattle.nts_theory.proofs.Refutation.Saying.{was_formed, said_renamed, both_formed, said_before, said_opened, both_moved}
-use Rattle.nts_theory.specs.Refutation.Refutation.{IsCarrying, IsFair, UsesClause, UsesNamed, binding, ProvesFormed, AreUsed, IsTheory}
+use Rattle.nts_theory.specs.RelatingCandidates.{may_be_argument, AreTypesApart}
+use Rattle.nts_theory.specs.Telling.{IsTraitStatement}
+use Rattle.nts_theory.specs.Refutation.Refutation.{HasNoAlias, HasPlainSides, IsGranted, IsCarrying, IsFair, UsesClause, UsesNamed, binding, GrantsFormed, AreUsed, IsTheory}
 use Rattle.nts_model.proofs.Terms.Substituting.{replace-equal, replace-leaf}
 use Rattle.nts_model.proofs.Terms.Composing.{IsFormed-instance, IsClosed-instance}
 use Rattle.nts_model.proofs.Tables.Solving.{NamesAll-more}
@@ -45,7 +49,8 @@ use Rattle.nts_model.proofs.Terms.Renamings.{forward, extension, map-forward}
 use Rattle.nts_theory.proofs.Refutation.OpenedGoals.{rename_opened, kept_tree}
 use Rattle.nts_theory.proofs.Refutation.Carrying.{names_replaced}
 use Rattle.nts_theory.proofs.Refutation.Carriers.{forward_others, forward_property, none_renamed, none_carrying, then_by, then_carrying, rename_then, back_to, back_carrying, region_carried, instance_by, AreMovable, extension_carrying, shifted, shifted_carrying, shifted_low}
-use Rattle.nts_theory.proofs.Refutation.UsedRules.{handlers_replaced, handlers_before}
+use Rattle.nts_theory.proofs.Refutation.PlainTerms.{no_alias_renamed, no_alias_before, free_renamed, statement_before, kept_before}
+use Rattle.nts_theory.proofs.Refutation.UsedRules.{trait_replaced, trait_before}
 
 -- elements of mapped lists
 mapped : {X Y : Type 0} (f : X → Y) (xs : List X) (y : Y) → Among (map f xs) y → (x : X) × Among xs x × (y ≡ f x)
@@ -57,6 +62,89 @@ equal_by : (f : Tree → Tree) (q : Equation) → left_of q ≡ right_of q → l
 equal_by f (related a b) e = ap f e
 equal_by f (alike a b) e = ap f e
 
+-- a renaming leaves what kind of tree it is, and by what a type is built
+argument_renamed : (ρ : Renaming) (t : Tree) → may_be_argument (kind_of (rename ρ t)) ≡ false → may_be_argument (kind_of t) ≡ false
+argument_renamed ρ empty e = refl
+argument_renamed ρ (more a b) e = refl
+argument_renamed ρ (node (label.Leaf x) c) e = cc e
+argument_renamed ρ (node (label.Bound s i n) c) e = cc e
+argument_renamed ρ (node (label.Ty x) c) e = cc e
+argument_renamed ρ (node (label.Const x) c) e = cc e
+argument_renamed ρ (node (label.Clause x) c) e = refl
+argument_renamed ρ (node (label.Predicate x) c) e = refl
+argument_renamed ρ (node (label.List list.Args) c) e = refl
+argument_renamed ρ (node (label.List list.Env) c) e = refl
+argument_renamed ρ (node (label.List list.Sorts) c) e = refl
+argument_renamed ρ (node (label.List (list.Sort s)) c) e = refl
+argument_renamed ρ (node (label.List list.Binder) c) e = refl
+
+plain_before_renaming : (ρ : Renaming) (q : Equation) → HasPlainSides (equation_by (rename ρ) q) → HasPlainSides q
+plain_before_renaming ρ (related a b) (inl e) = inl (argument_renamed ρ b e)
+plain_before_renaming ρ (related a b) (inr n) = inr (no_alias_before ρ a n.0, no_alias_before ρ b n.1)
+plain_before_renaming ρ (alike a b) n = tt
+
+head_before : (ρ : Renaming) (t : Tree) (h : TyHead) → label_of (rename ρ t) ≡ Some (label.Ty h) → label_of t ≡ Some (label.Ty h)
+head_before ρ (node (label.Ty k) c) h e = e
+head_before ρ (node (label.Leaf x) c) h e = cc e
+head_before ρ (node (label.Bound s i n) c) h e = cc e
+head_before ρ (node (label.Const x) c) h e = cc e
+head_before ρ (node (label.Clause x) c) h e = cc e
+head_before ρ (node (label.Predicate x) c) h e = cc e
+head_before ρ (node (label.List x) c) h e = cc e
+head_before ρ empty h e = cc e
+head_before ρ (more a b) h e = cc e
+
+types_before : (ρ : Renaming) (a b : Tree) → AreTypesApart (rename ρ a) (rename ρ b) → AreTypesApart a b
+types_before ρ a b x =
+    record { left = x.left; right = x.right; of_left = head_before ρ a x.left x.of_left; of_right = head_before ρ b x.right x.of_right; apart = x.apart; left_plain = x.left_plain; right_plain = x.right_plain }
+
+apart_before : (ρ : Renaming) (qs : List Equation) (q : Equation) (a b : Tree) → related a b ≡ equation_by (rename ρ) q → AreTypesApart a b → ((x y : Tree) → Among qs (related x y) → AreTypesApart x y → ⊥) → Among qs q → ⊥
+apart_before ρ qs (related x y) a b e t none i =
+    let left : a ≡ rename ρ x = cc e in
+    let right : b ≡ rename ρ y = cc e in
+    none x y i (types_before ρ x y (subst (λ z. AreTypesApart z (rename ρ y)) left (subst (AreTypesApart a) right t)))
+apart_before ρ qs (alike x y) a b e t none i = cc e
+
+ground_leaf : (ρ : Renaming) → IsCarrying ρ → (l : Leaf) → IsGroundLabel (label.Leaf l) → AllLabels IsGroundLabel (leaf_tree (ρ.to l))
+ground_leaf ρ k (leaf.Variable v n) h = rw (k.variables v n) (h, tt)
+ground_leaf ρ k (leaf.Region r) h = let q = region_carried ρ k r in rw (q.1) (refl, tt)
+ground_leaf ρ k (leaf.TyConstant a) h = by_sort (ρ.to (leaf.TyConstant a)) (ρ.keeps_sorts (leaf.TyConstant a))
+  where
+    by_sort : (m : Leaf) → leaf_sort m ≡ leaf_sort (leaf.TyConstant a) → AllLabels IsGroundLabel (leaf_tree m)
+    by_sort (leaf.TyConstant b) e = (refl, tt)
+    by_sort (leaf.ConstConstant b) e = (refl, tt)
+    by_sort (leaf.Region b) e = (refl, tt)
+    by_sort (leaf.Variable v n) e = cc e
+ground_leaf ρ k (leaf.ConstConstant a) h = by_sort (ρ.to (leaf.ConstConstant a)) (ρ.keeps_sorts (leaf.ConstConstant a))
+  where
+    by_sort : (m : Leaf) → leaf_sort m ≡ leaf_sort (leaf.ConstConstant a) → AllLabels IsGroundLabel (leaf_tree m)
+    by_sort (leaf.TyConstant b) e = (refl, tt)
+    by_sort (leaf.ConstConstant b) e = (refl, tt)
+    by_sort (leaf.Region b) e = (refl, tt)
+    by_sort (leaf.Variable v n) e = cc e
+
+ground_put : (ρ : Renaming) → IsCarrying ρ → (l : Label) (c : Tree) → IsGroundLabel l → AllLabels IsGroundLabel c → AllLabels IsGroundLabel (put (λ x. leaf_tree (ρ.to x)) l c)
+ground_put ρ k (label.Leaf x) c h i = ground_leaf ρ k x h
+ground_put ρ k (label.Bound a b n) c h i = (h, i)
+ground_put ρ k (label.Ty x) c h i = (h, i)
+ground_put ρ k (label.Const x) c h i = (h, i)
+ground_put ρ k (label.Clause x) c h i = (h, i)
+ground_put ρ k (label.Predicate x) c h i = (h, i)
+ground_put ρ k (label.List x) c h i = (h, i)
+
+ground_renamed : (ρ : Renaming) → IsCarrying ρ → (t : Tree) → AllLabels IsGroundLabel t → AllLabels IsGroundLabel (rename ρ t)
+ground_renamed ρ k empty h = tt
+ground_renamed ρ k (more a b) h = (ground_renamed ρ k a h.0, ground_renamed ρ k b h.1)
+ground_renamed ρ k (node l c) h = ground_put ρ k l (rename ρ c) h.0 (ground_renamed ρ k c h.1)
+
+-- what is granted of a goal is granted of the renamed one
+pub granted_renamed : (Proves Later : Tree → Tree → Type 0) (ρ : Renaming) → IsCarrying ρ → ((e g : Tree) → Proves e g → Later (rename ρ e) (rename ρ g)) → (e g : Tree) → IsGranted Proves e g → IsGranted Later (rename ρ e) (rename ρ g)
+granted_renamed Proves Later ρ k later e g x =
+    record {
+      ground = (let f = x.ground in (ground_renamed ρ k e f.0, (ground_renamed ρ k g f.1.0, tt)));
+      proved = λ s. later e g (x.proved (elim s [ inl n ↦ inl (statement_before ρ g n) | inr n ↦ inr (kept_before ρ g n) ]));
+    }
+
 true_renamed : (truth : Truth) → IsFair truth → (ρ : Renaming) → IsCarrying ρ → (r : Relation) (a b : Tree) → IsTrueBy truth r a b → IsTrueBy truth r (rename ρ a) (rename ρ b)
 true_renamed truth fair ρ k relation.Equal a b h = ap (rename ρ) h
 true_renamed truth fair ρ k relation.RegionOutlives a b (inl e) = inl (ap (rename ρ) e)
@@ -65,19 +153,21 @@ true_renamed truth fair ρ k relation.TypeOutlives a b e = fair.renamed ρ k a b
 
 -- a use of a clause, renamed
 pub uses_renamed : (h : Handler) (truth : Truth) (Proves Later : Tree → Tree → Type 0) (rules : InstancesAreRules h) → IsFair truth → (ρ : Renaming) (k : IsCarrying ρ)
-    → ((e g : Tree) → Proves e g → Later (rename ρ e) (rename ρ g)) → (e s : Tree) → UsesClause h truth Proves e s → UsesClause h truth Later (rename ρ e) (rename ρ s)
+    → ((e g : Tree) → IsGranted Proves e g → IsGranted Later (rename ρ e) (rename ρ g)) → (e s : Tree) → UsesClause h truth Proves e s → UsesClause h truth Later (rename ρ e) (rename ρ s)
 uses_renamed h truth Proves Later rules fair ρ k later e s x =
     record {
       use_of = application_under (instance_by ρ k) x.use_of;
       applies = rules.closed coherence x.use_of (instance_by ρ k) x.applies;
       environment = ap (rename ρ) x.environment;
       conclusion = ap (rename ρ) x.conclusion;
-      equal = λ q i. (let r = mapped (equation_by (rename ρ)) x.use_of.equations q i in
-          subst (λ z. left_of z ≡ right_of z) (sym r.2) (equal_by (rename ρ) r.0 (x.equal r.0 r.1)));
+      values = λ v i. (let r = mapped (rename ρ) x.use_of.values v i in subst IsAliasFree (sym r.2) (free_renamed ρ r.0 (x.values r.0 r.1)));
+      equal = λ q i n. (let r = mapped (equation_by (rename ρ)) x.use_of.equations q i in
+          subst (λ z. left_of z ≡ right_of z) (sym r.2) (equal_by (rename ρ) r.0 (x.equal r.0 r.1 (plain_before_renaming ρ r.0 (subst HasPlainSides r.2 n)))));
+      apart = λ a b i t. (let r = mapped (equation_by (rename ρ)) x.use_of.equations (related a b) i in apart_before ρ x.use_of.equations r.0 a b r.2 t x.apart r.1);
       met = λ y i. (let r = mapped (constraint_by (rename ρ)) x.use_of.constraints y i in
           subst (λ z. IsTrueBy truth z.relation z.left z.right) (sym r.2) (true_renamed truth fair ρ k r.0.relation r.0.left r.0.right (x.met r.0 r.1)));
       goals = λ p i. (let r = mapped (premise_by (rename ρ)) x.use_of.goals p i in
-          subst (λ z. Later z.environment z.predicate) (sym r.2) (later r.0.environment r.0.predicate (x.goals r.0 r.1)));
+          subst (λ z. IsGranted Later z.environment z.predicate) (sym r.2) (later r.0.environment r.0.predicate (x.goals r.0 r.1)));
     }
 
 -- a universe that names a tree, and trees
@@ -266,7 +356,7 @@ uses_named h truth Proves rules fair kept u e s f n x =
     let ρ = homed t f u n vs in
     let k = homed_carrying t f u n vs in
     let same = homed_same t f u n vs in
-    let y = uses_renamed h truth Proves Proves rules fair ρ k (kept ρ k) e s x in
+    let y = uses_renamed h truth Proves Proves rules fair ρ k (granted_renamed Proves Proves ρ k (kept ρ k)) e s x in
     let left : rename ρ e ≡ e = first _ _ _ _ same in
     let right : rename ρ s ≡ s = second _ _ _ _ same in
     let here : UsesNamed h truth Proves u (rename ρ e) (rename ρ s) = record {
@@ -522,7 +612,7 @@ module _ (e s : Tree) (formed : IsFormed (pair e s)) (f p : Sort → ℕ → Lea
   uses_swapped h truth Proves rules fair kept u =
       subst (λ z. UsesClause h truth Proves z (opened p 0 s)) (first_same _ _ _ _ swap_keeps)
       (subst (λ z. UsesClause h truth Proves (rename swap e) z) swap_opened
-      (uses_renamed h truth Proves Proves rules fair swap swap_carrying (kept swap swap_carrying) e (opened f 0 s) u))
+      (uses_renamed h truth Proves Proves rules fair swap swap_carrying (granted_renamed Proves Proves swap swap_carrying (kept swap swap_carrying)) e (opened f 0 s) u))
 
 -- a goal that is opened with placeholders of the next universe is named by that
 level_in : (u : ℕ) (s : Sort) (n : ℕ) → CanName u (leaf_level (label.Leaf (placeholder_in u s n)))
@@ -558,38 +648,6 @@ pub record Carried (Proves : Tree → Tree → Type 0) (e g : Tree) : Type 0 whe
   pub proved : Proves environment predicate
   pub is_environment : rename by environment ≡ e
   pub is_predicate : rename by predicate ≡ g
-
-ground_leaf : (ρ : Renaming) → IsCarrying ρ → (l : Leaf) → IsGroundLabel (label.Leaf l) → AllLabels IsGroundLabel (leaf_tree (ρ.to l))
-ground_leaf ρ k (leaf.Variable v n) h = rw (k.variables v n) (h, tt)
-ground_leaf ρ k (leaf.Region r) h = let q = region_carried ρ k r in rw (q.1) (refl, tt)
-ground_leaf ρ k (leaf.TyConstant a) h = by_sort (ρ.to (leaf.TyConstant a)) (ρ.keeps_sorts (leaf.TyConstant a))
-  where
-    by_sort : (m : Leaf) → leaf_sort m ≡ leaf_sort (leaf.TyConstant a) → AllLabels IsGroundLabel (leaf_tree m)
-    by_sort (leaf.TyConstant b) e = (refl, tt)
-    by_sort (leaf.ConstConstant b) e = (refl, tt)
-    by_sort (leaf.Region b) e = (refl, tt)
-    by_sort (leaf.Variable v n) e = cc e
-ground_leaf ρ k (leaf.ConstConstant a) h = by_sort (ρ.to (leaf.ConstConstant a)) (ρ.keeps_sorts (leaf.ConstConstant a))
-  where
-    by_sort : (m : Leaf) → leaf_sort m ≡ leaf_sort (leaf.ConstConstant a) → AllLabels IsGroundLabel (leaf_tree m)
-    by_sort (leaf.TyConstant b) e = (refl, tt)
-    by_sort (leaf.ConstConstant b) e = (refl, tt)
-    by_sort (leaf.Region b) e = (refl, tt)
-    by_sort (leaf.Variable v n) e = cc e
-
-ground_put : (ρ : Renaming) → IsCarrying ρ → (l : Label) (c : Tree) → IsGroundLabel l → AllLabels IsGroundLabel c → AllLabels IsGroundLabel (put (λ x. leaf_tree (ρ.to x)) l c)
-ground_put ρ k (label.Leaf x) c h i = ground_leaf ρ k x h
-ground_put ρ k (label.Bound a b n) c h i = (h, i)
-ground_put ρ k (label.Ty x) c h i = (h, i)
-ground_put ρ k (label.Const x) c h i = (h, i)
-ground_put ρ k (label.Clause x) c h i = (h, i)
-ground_put ρ k (label.Predicate x) c h i = (h, i)
-ground_put ρ k (label.List x) c h i = (h, i)
-
-ground_renamed : (ρ : Renaming) → IsCarrying ρ → (t : Tree) → AllLabels IsGroundLabel t → AllLabels IsGroundLabel (rename ρ t)
-ground_renamed ρ k empty h = tt
-ground_renamed ρ k (more a b) h = (ground_renamed ρ k a h.0, ground_renamed ρ k b h.1)
-ground_renamed ρ k (node l c) h = ground_put ρ k l (rename ρ c) h.0 (ground_renamed ρ k c h.1)
 
 pub back_again : (ρ : Renaming) (t : Tree) → IsFormed t → rename (back_to ρ) (rename ρ t) ≡ t
 back_again ρ t f = rename_then ρ (back_to ρ) t ∙ replace-equal (λ l. leaf_tree (ρ.from (ρ.to l))) leaf_tree (λ l. ap leaf_tree (ρ.back l)) t ∙ replace-leaf t f
@@ -659,33 +717,36 @@ module _ (h : Handler) (truth : Truth) (Proves : Tree → Tree → Type 0) (rule
   carried_later : (ρ : Renaming) (k : IsCarrying ρ) (e g : Tree) → Proves e g → Later (rename ρ e) (rename ρ g)
   carried_later ρ k e g p = carried_kept ρ k e g (carried_itself e g p)
 
+  granted_later : (ρ : Renaming) (k : IsCarrying ρ) (e g : Tree) → IsGranted Proves e g → IsGranted Later (rename ρ e) (rename ρ g)
+  granted_later ρ k = granted_renamed Proves Later ρ k (carried_later ρ k)
+
   -- .. of a goal that binds nothing
-  plain_before : (e s : Tree) → Later e (unbound s) → IsHandlers s → IsClosed s → UsesClause h truth Later e s
+  plain_before : (e s : Tree) → Later e (unbound s) → IsTraitStatement s → IsClosed s → UsesClause h truth Later e s
   plain_before e s c i z =
       let b = back_to c.by in
       let k = back_carrying c.by c.carrying in
       let t = rename b s in
       let is : c.predicate ≡ unbound t = before e (unbound s) c in
-      let u = used.plain c.environment t (subst (Proves c.environment) is c.proved) (handlers_replaced (λ l. leaf_tree (b.to l)) s i) (IsClosed-instance (instance_by b k) s z) in
-      let v = uses_renamed h truth Proves Later rules fair c.by c.carrying (carried_later c.by c.carrying) c.environment t u in
+      let u = used.plain c.environment t (subst (Proves c.environment) is c.proved) (trait_replaced (λ l. leaf_tree (b.to l)) s i) (IsClosed-instance (instance_by b k) s z) in
+      let v = uses_renamed h truth Proves Later rules fair c.by c.carrying (granted_later c.by c.carrying) c.environment t u in
       let f = formed_later e (unbound s) c in
       subst (λ y. UsesClause h truth Later y s) c.is_environment (subst (λ y. UsesClause h truth Later (rename c.by c.environment) y) (forth_again c.by s (let y = f.1.0 in y.1.1.0)) v)
 
-  plain_named : (u : ℕ) (e s : Tree) → Later e (unbound s) → IsHandlers s → IsClosed s → NamesAll leaf_level u (pair e s) → UsesNamed h truth Later u e s
+  plain_named : (u : ℕ) (e s : Tree) → Later e (unbound s) → IsTraitStatement s → IsClosed s → NamesAll leaf_level u (pair e s) → UsesNamed h truth Later u e s
   plain_named u e s c i z n =
       let f = formed_later e (unbound s) c in
       uses_named h truth Later rules fair carried_kept u e s (f.0, ((let y = f.1.0 in y.1.1.0), tt)) n (plain_before e s c i z)
 
   -- .. and of one that binds variables
-  opened_before : (e x xs s : Tree) (p : Sort → ℕ → Leaf) → Later e (binding x xs s) → IsHandlers (opened p 0 s) → AreAbsent (pair e s) p → UsesClause h truth Later e (opened p 0 s)
+  opened_before : (e x xs s : Tree) (p : Sort → ℕ → Leaf) → Later e (binding x xs s) → IsTraitStatement (opened p 0 s) → AreAbsent (pair e s) p → UsesClause h truth Later e (opened p 0 s)
   opened_before e x xs s p c i a =
       let b = back_to c.by in
       let k = back_carrying c.by c.carrying in
       let t = rename b s in
       let is : c.predicate ≡ binding (rename b x) (rename b xs) t = before e (binding x xs s) c in
-      let hs = handlers_replaced (λ l. leaf_tree (b.to l)) s (handlers_before p 0 s i) in
+      let hs = trait_replaced (λ l. leaf_tree (b.to l)) s (trait_before p 0 s i) in
       let u = used.opened c.environment (rename b x) (rename b xs) t (subst (Proves c.environment) is c.proved) hs in
-      let v = uses_renamed h truth Proves Later rules fair c.by c.carrying (carried_later c.by c.carrying) c.environment (opened u.fresh 0 t) u.uses in
+      let v = uses_renamed h truth Proves Later rules fair c.by c.carrying (granted_later c.by c.carrying) c.environment (opened u.fresh 0 t) u.uses in
       let f = formed_later e (binding x xs s) c in
       let fs : IsFormed s = (let y = f.1.0 in y.1.1.0) in
       let back : rename c.by t ≡ s = forth_again c.by s fs in
@@ -697,7 +758,7 @@ module _ (h : Handler) (truth : Truth) (Proves : Tree → Tree → Type 0) (rule
       subst (λ y. AreAbsent (pair y s) fresh) c.is_environment (subst (λ y. AreAbsent (pair (rename c.by c.environment) y) fresh) back (absent_renamed c.by c.carrying (pair c.environment t) u.fresh old)) in
       uses_swapped e s (f.0, (fs, tt)) fresh p new a h truth Later rules fair carried_kept w
 
-  opened_named : (u : ℕ) (e x xs s : Tree) → Later e (binding x xs s) → IsHandlers (opened (placeholder_in (u + 1)) 0 s) → IsFormed (opened (placeholder_in (u + 1)) 0 s) → NamesAll leaf_level u (pair e s)
+  opened_named : (u : ℕ) (e x xs s : Tree) → Later e (binding x xs s) → IsTraitStatement (opened (placeholder_in (u + 1)) 0 s) → IsFormed (opened (placeholder_in (u + 1)) 0 s) → NamesAll leaf_level u (pair e s)
       → UsesNamed h truth Later (u + 1) e (opened (placeholder_in (u + 1)) 0 s)
   opened_named u e x xs s c i fo n =
       let f = formed_later e (binding x xs s) c in
@@ -707,15 +768,15 @@ module _ (h : Handler) (truth : Truth) (Proves : Tree → Tree → Type 0) (rule
       (opened_before e x xs s (placeholder_in (u + 1)) c i fresh)
 
   -- what is said of two terms before is so later
-  says_later : (e s : Tree) (x : Constraint) → Later e (unbound s) → SaysOfTwo x s → IsClosed s → IsTrueBy truth x.relation x.left x.right
-  says_later e s x c says z =
+  says_later : (e s : Tree) (x : Constraint) → Later e (unbound s) → SaysOfTwo x s → IsClosed s → HasNoAlias s → IsTrueBy truth x.relation x.left x.right
+  says_later e s x c says z plain =
       let b = back_to c.by in
       let k = back_carrying c.by c.carrying in
       let is : c.predicate ≡ unbound (rename b s) = before e (unbound s) c in
       let f = formed_later e (unbound s) c in
       let sides = both_formed x s says (let y = f.1.0 in y.1.1.0) in
       true_again truth fair c.by c.carrying (forth_again c.by) x.relation x.left x.right sides.0 sides.1
-      (used.says c.environment (rename b s) (constraint_by (rename b) x) (subst (Proves c.environment) is c.proved) (said_renamed b x s says) (IsClosed-instance (instance_by b k) s z))
+      (used.says c.environment (rename b s) (constraint_by (rename b) x) (subst (Proves c.environment) is c.proved) (said_renamed b x s says) (IsClosed-instance (instance_by b k) s z) (no_alias_renamed b s plain))
 
   -- what a goal says with the fresh placeholders of its rule, moved to those of the next universe
   record Moves (u : ℕ) (e x xs s : Tree) (c : Later e (binding x xs s)) (f : Sort → ℕ → Leaf) : Type 0 where
@@ -747,12 +808,12 @@ module _ (h : Handler) (truth : Truth) (Proves : Tree → Tree → Type 0) (rule
       }
 
   -- .. and with placeholders of the next universe
-  says_opened_later : (u : ℕ) (e x xs s : Tree) (y : Constraint) → Later e (binding x xs s) → SaysOfTwo y (opened (placeholder_in (u + 1)) 0 s) → NamesAll leaf_level u (pair e s) → IsTrueBy truth y.relation y.left y.right
-  says_opened_later u e x xs s y c says n =
+  says_opened_later : (u : ℕ) (e x xs s : Tree) (y : Constraint) → Later e (binding x xs s) → SaysOfTwo y (opened (placeholder_in (u + 1)) 0 s) → NamesAll leaf_level u (pair e s) → HasNoAlias s → IsTrueBy truth y.relation y.left y.right
+  says_opened_later u e x xs s y c says n plain =
       let p = placeholder_in (u + 1) in
       let b = back_to c.by in
       let is : c.predicate ≡ binding (rename b x) (rename b xs) (rename b s) = before e (binding x xs s) c in
-      let v = used.says_opened c.environment (rename b x) (rename b xs) (rename b s) (subst (Proves c.environment) is c.proved) in
+      let v = used.says_opened c.environment (rename b x) (rename b xs) (rename b s) (subst (Proves c.environment) is c.proved) (no_alias_renamed b s plain) in
       let f = formed_later e (binding x xs s) c in
       let m = moves_to u e x xs s c v.fresh v.are_fresh n in
       let o = said_before p s y (let z = f.1.0 in z.1.1.0) says in
@@ -775,7 +836,7 @@ module _ (h : Handler) (truth : Truth) (Proves : Tree → Tree → Type 0) (rule
   image_among f (q ∷ ps) p (inl e) = inl (ap f e)
   image_among f (q ∷ ps) p (inr i) = inr (image_among f ps p i)
 
-  formed_carried : (e s : Tree) → Later e (unbound s) → IsClosed s → ProvesFormed h.judges Later e s
+  formed_carried : (e s : Tree) → Later e (unbound s) → IsClosed s → GrantsFormed h.judges Later e s
   formed_carried e s c z t ps is given p i =
       let b = back_to c.by in
       let k = back_carrying c.by c.carrying in
@@ -789,11 +850,11 @@ module _ (h : Handler) (truth : Truth) (Proves : Tree → Tree → Type 0) (rule
       let q = used.formed c.environment (rename b s) (subst (Proves c.environment) same c.proved) (IsClosed-instance (instance_by b k) s z) (rename b t) (map (rename b) ps) (ap (rename b) is)
       (subst (λ y. (let j = h.judges in j.well_formed y (rename b t) ≡ Some (map (rename b) ps))) env there) (rename b p) (image_among (rename b) ps p i) in
       let over = (judged.goals e t ps p fe given i).0 in
-      let l = carried_later c.by c.carrying c.environment (rename b p) q in
-      subst (λ y. Later y p) c.is_environment (subst (Later (rename c.by c.environment)) (forth_again c.by p over.formed) l)
+      let l = granted_later c.by c.carrying c.environment (rename b p) q in
+      subst (λ y. IsGranted Later y p) c.is_environment (subst (IsGranted Later (rename c.by c.environment)) (forth_again c.by p over.formed) l)
 
   -- .. and with placeholders of the next universe
-  opened_carried : (u : ℕ) (e x xs s : Tree) → Later e (binding x xs s) → NamesAll leaf_level u (pair e s) → ProvesFormed h.judges Later e (opened (placeholder_in (u + 1)) 0 s)
+  opened_carried : (u : ℕ) (e x xs s : Tree) → Later e (binding x xs s) → NamesAll leaf_level u (pair e s) → GrantsFormed h.judges Later e (opened (placeholder_in (u + 1)) 0 s)
   opened_carried u e x xs s c n t ps is given p i =
       let w = was_formed (placeholder_in (u + 1)) s t is in
       let b = back_to c.by in
@@ -820,8 +881,8 @@ module _ (h : Handler) (truth : Truth) (Proves : Tree → Tree → Type 0) (rule
       let known = judged.well_formed e t ps (instance_by β kβ) fe given in
       let q = v.goals there (map (rename β) ps) says (subst (λ y. (let j = h.judges in j.well_formed y there ≡ Some (map (rename β) ps))) env (subst (λ y. (let j = h.judges in j.well_formed (rename β e) y ≡ Some (map (rename β) ps))) back known)) (rename β p) (image_among (rename β) ps p i) in
       let over = (judged.goals e t ps p fe given i).0 in
-      let l = carried_later m.by m.carries c.environment (rename β p) q in
-      subst (λ y. Later y p) m.environment (subst (Later (rename m.by c.environment)) (forth_again m.by p over.formed) l)
+      let l = granted_later m.by m.carries c.environment (rename β p) q in
+      subst (λ y. IsGranted Later y p) m.environment (subst (IsGranted Later (rename m.by c.environment)) (forth_again m.by p over.formed) l)
 
   -- what is carried is a theory
   pub carried_theory : IsTheory h truth Later

@@ -21,10 +21,11 @@ use Rattle.nts_model.specs.Answers.Responses.{Findings, AreFindings, own_leaves,
 use Rattle.nts_model.specs.Answers.Applying.{IsRecordedIn}
 use Rattle.nts_model.specs.Terms.Placeholders.{leaf_level}
 use Rattle.nts_model.specs.Refutation.Choosing.{left_of, right_of, EquatesAll, FailsToEquate, RecordsAll}
-use Rattle.nts_model.specs.Refutation.Containing.{Truth, IsTrueBy, IsSolution, ContainsSolution, IsProvedIn, SolvesGoals, KeepsSolutions, RefusesGoals}
+use Rattle.nts_model.specs.Refutation.Containing.{IsPlainWorld, Truth, IsTrueBy, IsSolution, ContainsSolution, IsProvedIn, SolvesGoals, KeepsSolutions, RefusesGoals}
 use Rattle.nts_model.proofs.Tables.Slots.{Knows-kept, KeepsKinds, KeepsKinds-refl, KeepsKinds-trans}
 use Rattle.nts_model.proofs.Tables.Instances.{inst-agrees, Agrees-refl, Agrees-trans}
 use Rattle.nts_theory.proofs.Refutation.Answered.{solution_later, still_proved}
+use Rattle.nts_theory.proofs.Refutation.PlainTerms.{plain_later}
 use Rattle.nts_theory.proofs.Refutation.Responding.{ArePlaced, answer_contains}
 
 -- the world meets the equations, the constraints and the goals of a candidate, where the trees xs stand for its fresh variables
@@ -111,12 +112,13 @@ pub record Reaches (truth : Truth) (base : ℕ) (c d : Content) (w : World) : Ty
   pub world : World
   pub agrees : Agrees (length c.slots) w world
   pub solution : IsSolution truth base d world
+  pub plain : IsPlainWorld c w → IsPlainWorld d world
   pub longer : length c.slots ≤ length d.slots
   pub keeps : KeepsKinds c d
 
 module _ (truth : Truth) (base : ℕ) where
   abbrev pub reaches_self : (c : Content) (w : World) → IsSolution truth base c w → Reaches truth base c c w
-  reaches_self c w s = record { world = w; agrees = Agrees-refl (length c.slots) w; solution = s; longer = omega arith; keeps = KeepsKinds-refl c }
+  reaches_self c w s = record { world = w; agrees = Agrees-refl (length c.slots) w; solution = s; plain = λ p. p; longer = omega arith; keeps = KeepsKinds-refl c }
 
   abbrev pub reaches_trans : (c d e : Content) (w : World) → (x : Reaches truth base c d w) → Reaches truth base d e x.world → Reaches truth base c e w
   reaches_trans c d e w x y =
@@ -124,6 +126,7 @@ module _ (truth : Truth) (base : ℕ) where
         world = y.world;
         agrees = Agrees-trans (length c.slots) (length d.slots) w x.world y.world x.longer x.agrees y.agrees;
         solution = y.solution;
+        plain = λ p. y.plain (x.plain p);
         longer = (let a = x.longer in let b = y.longer in omega (arith, a, b));
         keeps = KeepsKinds-trans x.keeps y.keeps;
       }
@@ -136,6 +139,7 @@ module _ (truth : Truth) (base : ℕ) where
         world = y.world;
         agrees = y.agrees;
         solution = solution_later truth base c d w y.world s (let z = x.keeps in z.grows) y.agrees y.solves (y.names leaf_level s.named tt);
+        plain = plain_later c d w y.world (λ f n. y.names f n tt);
         longer = x.longer;
         keeps = x.keeps;
       }
@@ -146,68 +150,6 @@ module _ (truth : Truth) (base : ℕ) where
   true_there c w relation.RegionOutlives a b s (inr e) = inr (s.outlives a b ∙ e)
   true_there c w relation.TypeOutlives a b s e = s.outlives a b ∙ e
 
-  recorded_solution : (c d : Content) (x : Recorded) (w : World) → IsRecordedIn c d x → IsSolution truth base c w → IsMet w x → IsSolution truth base d w
-  recorded_solution c d x w r s m =
-      let n = r.narrows in
-      let g = r.continues in
-      solution_later truth base c d w w s g.grows (Agrees-refl (length c.slots) w) (n.complete w s.solves m) (n.names leaf_level w s.solves s.named m)
-
-  pub recorded_reaches : (xs : List Tree) (ys : List Constraint) (c d : Content) (w : World) → RecordsAll xs ys c d → IsSolution truth base c w
-      → ((x : Constraint) → Among ys x → IsTrueBy truth x.relation (inst w (filled xs x.left)) (inst w (filled xs x.right))) → (r : Reaches truth base c d w) × (r.world ≡ w)
-  recorded_reaches xs [] c d w h s m = subst (λ z. (r : Reaches truth base c z w) × (r.world ≡ w)) (sym h) (reaches_self c w s, refl)
-  recorded_reaches xs (x ∷ ys) c d w (e, r, rest) s m =
-      let t = recorded_solution c e (recorded_as (constraint_by (filled xs) x)) w r s (true_there c w x.relation (inst w (filled xs x.left)) (inst w (filled xs x.right)) s (m x (inl refl))) in
-      let g = r.continues in
-      let later = recorded_reaches xs ys e d w rest t (λ y i. m y (inr i)) in
-      let step : Reaches truth base c e w = record { world = w; agrees = Agrees-refl (length c.slots) w; solution = t; longer = g.more; keeps = record { grows = g.grows; kinds = g.kinds } } in
-      (reaches_trans c e d w step later.0, later.1)
-
-  premise_among : (xs : List Tree) (gs : List Premise) (q : Premise) → Among (map (premise_by (filled xs)) gs) q → (g : Premise) × Among gs g × (q ≡ premise_by (filled xs) g)
-  premise_among xs [] q i = absurd i
-  premise_among xs (g ∷ gs) q (inl e) = (g, inl refl, e)
-  premise_among xs (g ∷ gs) q (inr i) = (let x = premise_among xs gs q i in (x.0, inr x.1, x.2))
-
-  module _ (Proves : Tree → Tree → Type 0) (c d e : Content) (xs : List Tree) (a : Candidate) (equated : EquatesAll xs a.equations c d) (recorded : RecordsAll xs a.constraints d e) (known : KnowsCandidate c xs a)
-      (w : World) (s : IsSolution truth base c w) (meets : MeetsCandidate truth Proves w xs a) where
-    after_equations : Reaches truth base c d w
-    after_equations = equated_reaches xs a.equations c d w equated s known.equations meets.equal
-
-    still_true : (x : Constraint) → Among a.constraints x → IsTrueBy truth x.relation (inst (after_equations.world) (filled xs x.left)) (inst (after_equations.world) (filled xs x.right))
-    still_true x i =
-        let v = after_equations in
-        subst (λ z. IsTrueBy truth x.relation z (inst v.world (filled xs x.right))) (sym (inst-agrees c w v.world (filled xs x.left) v.agrees (known.left x i)))
-        (subst (λ z. IsTrueBy truth x.relation (inst w (filled xs x.left)) z) (sym (inst-agrees c w v.world (filled xs x.right) v.agrees (known.right x i))) (meets.met x i))
-
-    -- what a candidate's equations and constraints leave: a solution that proves its goals
-    pub tried : (r : Reaches truth base c e w) × SolvesGoals truth base Proves e (map (premise_by (filled xs)) a.goals) r.world
-    tried =
-        let v = after_equations in
-        let z = recorded_reaches xs a.constraints d e v.world recorded v.solution still_true in
-        let r = reaches_trans c d e w v z.0 in (
-          r,
-          record {
-            solution = r.solution;
-            goals = λ q i.
-                (let g = premise_among xs a.goals q i in
-                subst (IsProvedIn Proves r.world) (sym g.2)
-                (still_proved truth base Proves c w r.world (premise_by (filled xs) g.0) r.agrees (known.environments g.0 g.1) (known.predicates g.0 g.1) (meets.goals g.0 g.1)));
-          },
-        )
-
-    -- so its goals are not refused
-    pub tried_not_refused : RefusesGoals truth base Proves e (map (premise_by (filled xs)) a.goals) → ⊥
-    tried_not_refused r = let t = tried in r (t.0.world) t.1
-
 pub same_positions : (c : Content) (w v : World) (qs : List Tree) → Agrees (length c.slots) w v → ((t : Tree) → Among qs t → Knows c t) → map (inst v) qs ≡ map (inst w) qs
 same_positions c w v [] a k = refl
 same_positions c w v (q ∷ qs) a k = cc (inst-agrees c w v q a (k q (inl refl)), same_positions c w v qs a (λ t i. k t (inr i)))
-
--- a response that is made once the goals were evaluated contains the solution
-pub evaluated_contains : (truth : Truth) (Proves : Tree → Tree → Type 0) (ks : List PositionKind) (c f : Content) (qs : List Tree) (gs hs : List Premise) (x : Findings) (sub : ℕ → ℕ) → KeepsSolutions truth 0 Proves c gs f hs
-    → IsQueryTable ks f qs → AreFindings f qs x → x.hidden ≡ [] → x.open_goals ≡ [] → ArePlaced ks qs → ((l : Leaf) → Among (own_leaves x) l → Knows f (leaf_tree l)) → ((t : Tree) → Among qs t → Knows c t)
-    → (w : World) → SolvesGoals truth 0 Proves c gs w → ContainsSolution truth (response_of f sub 0 x) (map (inst w) qs)
-evaluated_contains truth Proves ks c f qs gs hs x sub keeps table found no_hidden no_goals placed known terms w s =
-    let e = keeps.each w s in
-    let t = e.solves in
-    subst (ContainsSolution truth (response_of f sub 0 x)) (same_positions c w e.world qs e.agrees terms)
-    (answer_contains truth ks f qs x table found no_hidden no_goals placed known e.world t.solution sub)

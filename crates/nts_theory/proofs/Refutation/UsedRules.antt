@@ -1,4 +1,4 @@
--- What follows by a rule in coherence, where no aliases are, follows by a use of a clause; and so does what is renamed.
+-- What follows by a rule in coherence, by values without aliases, follows by a use of a clause.
 use Rattle.std.proofs.Common.{◌≡◌, inl, inr, ℕ, ◌+◌, Bool, true, false, Some, List, refl, sym, ap, subst, ◌∙◌}
 use Rattle.std.specs.Prelude.{◌⊎◌, ◌==◌, if◌then◌else◌}
 use Rattle.nts_model.specs.declared.labels.Sort.{Sort}
@@ -12,21 +12,23 @@ use Rattle.nts_model.specs.declared.labels.AliasHead.{AliasHead}
 use Rattle.nts_model.specs.declared.labels.AliasHead.TheVariants as alias_of
 use Rattle.nts_model.specs.declared.labels.Label.{Label}
 use Rattle.nts_model.specs.declared.labels.Label.TheVariants as label
-use Rattle.nts_model.specs.Terms.Trees.{Tree, empty, more, node, binders, IsClosed}
+use Rattle.nts_model.specs.Terms.Trees.{Tree, empty, more, node, kind_of, binders, any_term, FitsPlace, IsClosed, IsFormed}
+use Rattle.nts_model.specs.Tables.Passing.{AllLabels}
 use Rattle.nts_model.specs.Terms.Substitutions.{leaf_tree, put, replace}
 use Rattle.nts_model.specs.Derivations.Related.{Constraint, pair, unbound, value, alias, alias_goal, IsAlias}
 use Rattle.nts_model.specs.Lists.{Among}
 use Rattle.nts_model.specs.Derivations.Sequents.{Premise, Hidden}
-use Rattle.nts_model.specs.Derivations.Rules.{coherence, Equation, related, alike, Application, Meaning, GoalKind, goal_kind, Replaced, chosen, kept_empty, kept_more, kept_node, choice, Stands, opened, opened_at, relating, IsHandlers, HoldsEquation, IsApplied, AreFresh, HasConstType, of_value, of_alias, of_constant, IsConstResult, const_error, IsBuiltIn, IsPlainRule, bound, IsRule}
+use Rattle.nts_model.specs.Derivations.Rules.{coherence, Equation, related, alike, Application, Meaning, GoalKind, IsTerm, goal_kind, Replaced, choice, Stands, opened, opened_at, relating, IsHandlers, HoldsEquation, IsApplied, AreFresh, HasConstType, of_value, of_alias, of_constant, IsConstResult, const_error, IsBuiltIn, IsPlainRule, bound, IsRule}
 use Rattle.nts_model.specs.Derivations.Rules.{region_lives, type_lives, subtyped, coerced, const_typed, error_typed, allowed, dyn_compatible, formed, constant_evaluated, value_evaluated, error_evaluated, alias_evaluated, aliases_relate}
 use Rattle.nts_model.specs.Refutation.Choosing.{left_of, right_of}
 use Rattle.nts_model.specs.Derivations.Handlers.{Handler}
-use Rattle.nts_model.specs.Refutation.Containing.{Truth, IsTrueBy}
-use Rattle.nts_theory.specs.Refutation.Refutation.{UsesClause, UsesOpened, binding}
+use Rattle.nts_model.specs.Refutation.Containing.{IsAliasFree, Truth, IsTrueBy, IsGroundLabel, AreGround}
+use Rattle.nts_theory.specs.Refutation.Refutation.{HasNoAlias, StandsAsIs, HasPlainSides, IsGranted, UsesClause, UsesOpened, binding}
+use Rattle.nts_theory.specs.Telling.{IsTraitStatement}
 use Rattle.nts_theory.specs.Affirming.{has_type, is_well_formed, SaysOfTwo, outlives_it, is_its_type}
 use Rattle.nts_theory.proofs.Derivations.ClosedStatements.{opened_closed}
 use Rattle.nts_theory.proofs.Refutation.Outliving.{built_in_holds}
-use Rattle.nts_theory.proofs.Refutation.Covering.{related_equal, alike_equal, not_built_in, applied_by_rule}
+use Rattle.nts_theory.proofs.Refutation.Covering.{related_equal, related_other, related_apart, alike_equal, predicate_with, unreplaced_goal, replaced_labels, not_built_in, applied_by_rule}
 
 -- statements of a handler, by their labels
 abbrev HandlersHead : Label → Type 0
@@ -72,6 +74,22 @@ handlers_opened f c (node l t) h =
     let k = head_of l t h in
     subst IsHandlers (sym (opened_head f c l (opened f (c + binders l) t) k)) (by_head l (opened f (c + binders l) t) k)
 
+-- so is what is said of a trait
+pub trait_replaced : (f : Leaf → Tree) (s : Tree) → IsTraitStatement s → IsTraitStatement (replace f s)
+trait_replaced f (node (label.Clause (clause.Trait i)) ts) h = tt
+trait_replaced f (node (label.Clause (clause.HostEffect i)) ts) h = tt
+trait_replaced f s h = absurd h
+
+trait_if : (b : Bool) (l : Leaf) (s : Sort) (d n : ℕ) (t : Tree) → IsTraitStatement (if b then leaf_tree l else node (label.Bound s (index.Bound d) n) t) → ⊥
+trait_if true l s d n t h = h
+trait_if false l s d n t h = h
+
+pub trait_before : (f : Sort → ℕ → Leaf) (c : ℕ) (s : Tree) → IsTraitStatement (opened f c s) → IsTraitStatement s
+trait_before f c (node (label.Clause (clause.Trait i)) ts) h = tt
+trait_before f c (node (label.Clause (clause.HostEffect i)) ts) h = tt
+trait_before f c (node (label.Bound s (index.Bound d) n) ts) h = absurd (trait_if (d == c) (f s n) s d n (opened f (c + 0) ts) h)
+trait_before f c s h = absurd h
+
 not_bound : (b : Bool) (f : Sort → ℕ → Leaf) (s : Sort) (d n : ℕ) (t : Tree) → IsHandlers (if b then leaf_tree (f s n) else node (label.Bound s (index.Bound d) n) t) → ⊥
 not_bound true f s d n t h = h
 not_bound false f s d n t h = h
@@ -91,66 +109,20 @@ handlers_before f c empty h = absurd h
 handlers_before f c (more a b) h = absurd h
 handlers_before f c (node l t) h = opened_label f c l (opened f (c + binders l) t) t h
 
--- nothing is put in place of aliases where none are chosen
-same_replaced : (C : Tree → Tree → Type 0) (t u : Tree) → ((a v : Tree) → IsAlias a → C a v → ⊥) → Replaced C t u → t ≡ u
-same_replaced C t u n (chosen i c x) = absurd (n t u i x)
-same_replaced C empty empty n kept_empty = refl
-same_replaced C (more a s) (more b t) n (kept_more r q) = cc (same_replaced C a b n r, same_replaced C s t n q)
-same_replaced C (node l c) (node m d) n (kept_node i r) = cc (same_replaced C c d n r)
+-- a predicate has a binder
+pub record IsPredicate (g : Tree) : Type 0 where
+  pub sorts : Tree
+  pub statement : Tree
+  pub is : g ≡ predicate_with sorts statement
 
--- where no goal about an alias is proved, rules of the handler are uses of clauses
-module _ (h : Handler) (m : Meaning) (truth : Truth) (Proves : Tree → Tree → Type 0) (same : (a : Application) → m.applies coherence a → h.applies coherence a)
-    (no_alias_goal : (e a b : Tree) → IsAlias a ⊎ IsAlias b → Proves e (alias_goal variance.Invariant a b) → ⊥)
-    (G : Tree → Type 0) (H : Constraint → Type 0) (D : Hidden → Type 0) (P : Premise → Type 0) (holds : (x : Constraint) → H x → IsTrueBy truth x.relation x.left x.right) (premised : (q : Premise) → P q → Proves q.environment q.predicate) where
-  stands_proved : (k : GoalKind) (p : Premise) → Stands G P k p → Proves p.environment p.predicate
-  stands_proved k p (inl (i, q)) = premised p q
-  stands_proved k p (inr (n, (u, r, q))) =
-      subst (Proves p.environment) (sym (same_replaced _ p.predicate u (λ a v i c. no_alias_goal p.environment a v (inl i) (premised (choice k p a v) c.1)) r)) (premised (record p { predicate = u }) q)
+not_unbound : (x xs s t : Tree) → binding x xs s ≡ unbound t → ⊥
+not_unbound x xs s t e = let z : more x xs ≡ empty = cc e in cc z
 
-  stands_apart : (k : GoalKind) (e a b : Tree) → IsAlias a ⊎ IsAlias b → Stands G P k (relating e (alias_goal variance.Invariant a b)) → ⊥
-  stands_apart k e a b i s = no_alias_goal e a b i (stands_proved k (relating e (alias_goal variance.Invariant a b)) s)
+bound_statement : (x xs s y t : Tree) → binding x xs s ≡ bound y t → s ≡ t
+bound_statement x xs s y t e = cc e
 
-  equation_equal : (k : GoalKind) (e : Tree) (q : Equation) → HoldsEquation m G H (Stands G P k) e q → left_of q ≡ right_of q
-  equation_equal k e (related a b) r = related_equal m.variances G H (λ z. Stands G P k (relating e z)) (λ x y z. holds (record { relation = relation.Equal; left = x; right = y }) z) (stands_apart k e) variance.Invariant a b refl r
-  equation_equal k e (alike a b) r = alike_equal _ (λ x y z. holds (record { relation = relation.Equal; left = x; right = y }) z) a b r
-
-  uses_applied : (k : GoalKind) (e s : Tree) → IsApplied m coherence G H D (Stands G P k) e (unbound s) → UsesClause h truth Proves e s
-  uses_applied k e s a =
-      record {
-        use_of = a.use_of;
-        applies = same a.use_of a.applies;
-        environment = a.environment;
-        conclusion = a.conclusion;
-        equal = λ q i. equation_equal k e q (a.equations q i);
-        met = λ x i. holds x (a.constraints x i);
-        goals = λ p i. stands_proved k p (a.goals p i);
-      }
-
-  uses_plain : (e s : Tree) → IsHandlers s → IsPlainRule m coherence G H D P e s → UsesClause h truth Proves e s
-  uses_plain e s i (inl (j, a)) = uses_applied (goal_kind m (unbound s)) e s a
-  uses_plain e s i (inr b) = absurd (not_built_in m G H _ e s i b)
-
-  pub uses_unbound : (e s : Tree) → IsHandlers s → IsClosed s → IsRule m coherence G H D P e (unbound s) → UsesClause h truth Proves e s
-  uses_unbound e s i c r = uses_applied (goal_kind m (unbound s)) e s (applied_by_rule m coherence G H D P e s i c r)
-
-  -- .. opened with fresh placeholders
-  not_unbound : (x xs s t : Tree) → binding x xs s ≡ unbound t → ⊥
-  not_unbound x xs s t e = let z : more x xs ≡ empty = cc e in cc z
-
-  bound_statement : (x xs s y t : Tree) → binding x xs s ≡ bound y t → s ≡ t
-  bound_statement x xs s y t e = cc e
-
-  pub uses_binding : (e x xs s : Tree) → IsHandlers s → IsRule m coherence G H D P e (binding x xs s) → UsesOpened h truth Proves e (binding x xs s) s
-  uses_binding e x xs s i (inl (t, is, r)) = absurd (not_unbound x xs s t is)
-  uses_binding e x xs s i (inr (y, t, f, is, fresh, r)) =
-      let same : s ≡ t = bound_statement x xs s y t is in
-      record {
-        fresh = f;
-        are_fresh = fresh;
-        uses = uses_plain e (opened f 0 s) (handlers_opened f 0 s i) (subst (λ z. IsPlainRule m coherence G H D P e (opened f 0 z)) (sym same) r);
-      }
-
-  -- a statement that is not the handler's follows by a rule of the engine
+-- a statement that is not the handler's follows by a rule of the engine
+module _ (m : Meaning) (G : Tree → Type 0) (H : Constraint → Type 0) (D : Hidden → Type 0) (P : Premise → Type 0) where
   abbrev pub Engine : Tree → Tree → Type 0
   Engine e s = IsBuiltIn m G H (Stands G P (goal_kind m (unbound s))) e s
 
@@ -179,6 +151,83 @@ module _ (h : Handler) (m : Meaning) (truth : Truth) (Proves : Tree → Tree →
   engine_binding e x xs s (inr (y, t, f, is, fresh, r)) =
       record { fresh = f; are_fresh = fresh; follows = λ n. engine_plain e (opened f 0 s) n (subst (λ z. IsPlainRule m coherence G H D P e (opened f 0 z)) (sym (bound_statement x xs s y t is)) r) }
 
+-- where what may be chosen has no aliases, rules of the handler are uses of clauses
+module _ (h : Handler) (m : Meaning) (truth : Truth) (Proves : Tree → Tree → Type 0) (same : (a : Application) → m.applies coherence a → h.applies coherence a) (ground : AreGround Proves) (shaped : (e g : Tree) → Proves e g → IsPredicate g)
+    (G : Tree → Type 0) (H : Constraint → Type 0) (D : Hidden → Type 0) (P : Premise → Type 0) (unaliased : (v : Tree) → G v → IsAliasFree v) (holds : (x : Constraint) → H x → IsTrueBy truth x.relation x.left x.right) (premised : (q : Premise) → P q → Proves q.environment q.predicate) where
+  abbrev Chosen : GoalKind → Premise → Tree → Tree → Type 0
+  Chosen k p a v = G v × P (choice k p a v) × IsTerm v
+
+  alias_fits : (e a v : Tree) → Proves e (alias_goal variance.Invariant a v) → FitsPlace any_term (kind_of v)
+  alias_fits e a v p = (let f = ground.formed e (alias_goal variance.Invariant a v) p in f.1.0.1.1.0.0.1.0)
+
+  choice_fits : (k : GoalKind) (p : Premise) (a v : Tree) → Chosen k p a v → FitsPlace any_term (kind_of v)
+  choice_fits k p a v c = alias_fits p.environment a v (premised (choice k p a v) c.1)
+
+  choice_ground : (k : GoalKind) (p : Premise) (a v : Tree) → Chosen k p a v → AllLabels IsGroundLabel a
+  choice_ground k p a v c = (let f = ground.ground p.environment (alias_goal variance.Invariant a v) (premised (choice k p a v) c.1) in f.1.0.1.1.0.1.0)
+
+  stands_ground : (k : GoalKind) (p : Premise) → Stands G P k p → AllLabels IsGroundLabel (pair p.environment p.predicate)
+  stands_ground k p (inl (i, q)) = ground.ground p.environment p.predicate (premised p q)
+  stands_ground k p (inr (n, (u, r, q))) =
+      let f = ground.ground p.environment u (premised (record p { predicate = u }) q) in
+      (f.0, (replaced_labels IsGroundLabel (Chosen k p) (choice_ground k p) p.predicate u f.1.0 r, tt))
+
+  stands_proved : (k : GoalKind) (p : Premise) → Stands G P k p → StandsAsIs p.predicate → Proves p.environment p.predicate
+  stands_proved k p (inl (i, q)) s = premised p q
+  stands_proved k p (inr (n, (u, r, q))) (inr keeps) = absurd (n keeps)
+  stands_proved k p (inr (n, (u, r, q))) (inl none) =
+      let here = premised (record p { predicate = u }) q in
+      let x = shaped p.environment u here in
+      let f = ground.formed p.environment u here in
+      let one = unreplaced_goal (Chosen k p) (choice_fits k p) x.sorts x.statement (subst IsFormed x.is f.1.0) p.predicate none (subst (Replaced (Chosen k p) p.predicate) x.is r) in
+      subst (Proves p.environment) (x.is ∙ sym one) here
+
+  stands_granted : (k : GoalKind) (p : Premise) → Stands G P k p → IsGranted Proves p.environment p.predicate
+  stands_granted k p s = record { ground = stands_ground k p s; proved = stands_proved k p s }
+
+  stands_fits : (k : GoalKind) (e a b : Tree) → Stands G P k (relating e (alias_goal variance.Invariant a b)) → FitsPlace any_term (kind_of b)
+  stands_fits k e a b s = alias_fits e a b (stands_proved k (relating e (alias_goal variance.Invariant a b)) s (inr tt))
+
+  one_side : (a b : Tree) → H (record { relation = relation.Equal; left = a; right = b }) → a ≡ b
+  one_side a b x = holds (record { relation = relation.Equal; left = a; right = b }) x
+
+  equation_equal : (k : GoalKind) (e : Tree) (q : Equation) → HasPlainSides q → HoldsEquation m G H (Stands G P k) e q → left_of q ≡ right_of q
+  equation_equal k e (related a b) (inl n) r = related_other m.variances G H (λ z. Stands G P k (relating e z)) one_side (stands_fits k e) variance.Invariant a b refl n r
+  equation_equal k e (related a b) (inr n) r = related_equal m.variances G H (λ z. Stands G P k (relating e z)) one_side variance.Invariant a b refl n.0 n.1 r
+  equation_equal k e (alike a b) n r = alike_equal _ one_side a b r
+
+  uses_applied : (k : GoalKind) (e s : Tree) → IsApplied m coherence G H D (Stands G P k) e (unbound s) → UsesClause h truth Proves e s
+  uses_applied k e s a =
+      record {
+        use_of = a.use_of;
+        applies = same a.use_of a.applies;
+        environment = a.environment;
+        conclusion = a.conclusion;
+        values = λ v i. (let x = a.values v i in unaliased v x.0);
+        equal = λ q i n. equation_equal k e q n (a.equations q i);
+        apart = λ x y i t. related_apart m.variances G H (λ z. Stands G P k (relating e z)) one_side variance.Invariant x y refl t (a.equations (related x y) i);
+        met = λ x i. holds x (a.constraints x i);
+        goals = λ p i. stands_granted k p (a.goals p i);
+      }
+
+  uses_plain : (e s : Tree) → IsHandlers s → IsPlainRule m coherence G H D P e s → UsesClause h truth Proves e s
+  uses_plain e s i (inl (j, a)) = uses_applied (goal_kind m (unbound s)) e s a
+  uses_plain e s i (inr b) = absurd (not_built_in m G H _ e s i b)
+
+  pub uses_unbound : (e s : Tree) → IsHandlers s → IsClosed s → IsRule m coherence G H D P e (unbound s) → UsesClause h truth Proves e s
+  uses_unbound e s i c r = uses_applied (goal_kind m (unbound s)) e s (applied_by_rule m coherence G H D P e s i c r)
+
+  -- .. opened with fresh placeholders
+  pub uses_binding : (e x xs s : Tree) → IsHandlers s → IsRule m coherence G H D P e (binding x xs s) → UsesOpened h truth Proves e (binding x xs s) s
+  uses_binding e x xs s i (inl (t, is, r)) = absurd (not_unbound x xs s t is)
+  uses_binding e x xs s i (inr (y, t, f, is, fresh, r)) =
+      let same : s ≡ t = bound_statement x xs s y t is in
+      record {
+        fresh = f;
+        are_fresh = fresh;
+        uses = uses_plain e (opened f 0 s) (handlers_opened f 0 s i) (subst (λ z. IsPlainRule m coherence G H D P e (opened f 0 z)) (sym same) r);
+      }
+
   -- the type of a value is the one that it has
   value_no_alias : (b : ℕ) (u : Tree) → IsAlias (value b u) → ⊥
   value_no_alias b u i = by_kind i.head i.is
@@ -196,39 +245,39 @@ module _ (h : Handler) (m : Meaning) (truth : Truth) (Proves : Tree → Tree →
   type_itself e r w b u of_alias q = cc q
   type_itself e r w b u (of_constant x) q = cc q
 
-  pub typed_equal : (e s : Tree) (b : ℕ) (u t : Tree) → Engine e s → s ≡ has_type (value b u) t → u ≡ t
-  typed_equal e s b u t (const_typed {c = c} {t = z} r w x y rel) q =
+  pub typed_equal : (e s : Tree) (b : ℕ) (u t : Tree) → HasNoAlias u → HasNoAlias t → Engine m G H D P e s → s ≡ has_type (value b u) t → u ≡ t
+  typed_equal e s b u t nu nt (const_typed {c = c} {t = z} r w x y rel) q =
       let k = goal_kind m (unbound s) in
       let const : c ≡ value b u = cc q in
       let last : z ≡ t = cc q in
       let own : w ≡ u = type_itself e r w b u y (value_itself e c r k b u x const) in
-      sym own ∙ related_equal m.variances G H (λ v. Stands G P k (relating e v)) (λ v y v'. holds (record { relation = relation.Equal; left = v; right = y }) v') (stands_apart k e) variance.Invariant w z refl rel ∙ last
-  typed_equal e s b u t (error_typed {c = c} x) q =
+      sym own ∙ related_equal m.variances G H (λ v. Stands G P k (relating e v)) one_side variance.Invariant w z refl (subst HasNoAlias (sym own) nu) (subst HasNoAlias (sym last) nt) rel ∙ last
+  typed_equal e s b u t nu nt (error_typed {c = c} x) q =
       let const : c ≡ value b u = cc q in
       let wrong : const_error ≡ value b u = value_itself e c const_error (goal_kind m (unbound s)) b u x const in
       cc wrong
-  typed_equal e s b u t (region_lives i j x) q = cc q
-  typed_equal e s b u t (type_lives i x) q = cc q
-  typed_equal e s b u t (subtyped x r) q = cc q
-  typed_equal e s b u t (coerced r) q = cc q
-  typed_equal e s b u t (allowed x) q = cc q
-  typed_equal e s b u t (dyn_compatible x) q = cc q
-  typed_equal e s b u t (formed gs x y) q = cc q
-  typed_equal e s b u t constant_evaluated q = cc q
-  typed_equal e s b u t value_evaluated q = cc q
-  typed_equal e s b u t error_evaluated q = cc q
-  typed_equal e s b u t (alias_evaluated x) q = cc q
-  typed_equal e s b u t (aliases_relate r w x y z) q = cc q
+  typed_equal e s b u t nu nt (region_lives i j x) q = cc q
+  typed_equal e s b u t nu nt (type_lives i x) q = cc q
+  typed_equal e s b u t nu nt (subtyped x r) q = cc q
+  typed_equal e s b u t nu nt (coerced r) q = cc q
+  typed_equal e s b u t nu nt (allowed x) q = cc q
+  typed_equal e s b u t nu nt (dyn_compatible x) q = cc q
+  typed_equal e s b u t nu nt (formed gs x y) q = cc q
+  typed_equal e s b u t nu nt constant_evaluated q = cc q
+  typed_equal e s b u t nu nt value_evaluated q = cc q
+  typed_equal e s b u t nu nt error_evaluated q = cc q
+  typed_equal e s b u t nu nt (alias_evaluated x) q = cc q
+  typed_equal e s b u t nu nt (aliases_relate r w x y z) q = cc q
 
-  -- what a term is well formed by is proved
+  -- what a term is well formed by is granted
   some_is : (xs ys : List Premise) → Some xs ≡ Some ys → xs ≡ ys
   some_is xs ys e = cc e
 
-  pub formed_proved : (e s t : Tree) (gs : List Premise) → Engine e s → s ≡ is_well_formed t → m.well_formed_goals e t ≡ Some gs → (g : Premise) → Among gs g → Proves g.environment g.predicate
+  pub formed_proved : (e s t : Tree) (gs : List Premise) → Engine m G H D P e s → s ≡ is_well_formed t → m.well_formed_goals e t ≡ Some gs → (g : Premise) → Among gs g → IsGranted Proves g.environment g.predicate
   formed_proved e s t gs (formed {t = u} hs given each) q same g i =
       let one : u ≡ t = cc q in
       let all : hs ≡ gs = some_is hs gs (sym given ∙ ap (m.well_formed_goals e) one ∙ same) in
-      stands_proved (goal_kind m (unbound s)) g (each g (subst (λ z. Among z g) (sym all) i))
+      stands_granted (goal_kind m (unbound s)) g (each g (subst (λ z. Among z g) (sym all) i))
   formed_proved e s t gs (region_lives i j x) q same g a = cc q
   formed_proved e s t gs (type_lives i x) q same g a = cc q
   formed_proved e s t gs (subtyped x r) q same g a = cc q
@@ -244,6 +293,6 @@ module _ (h : Handler) (m : Meaning) (truth : Truth) (Proves : Tree → Tree →
   formed_proved e s t gs (aliases_relate r w x y z) q same g a = cc q
 
   -- what is said of two terms is so
-  pub said_true : (e s : Tree) (x : Constraint) → Engine e s → SaysOfTwo x s → IsTrueBy truth x.relation x.left x.right
-  said_true e s x b (outlives_it says) = holds x (built_in_holds m G H (Stands G P (goal_kind m (unbound s))) e s x says b)
-  said_true e s x b (is_its_type {b = n} {u = u} {t = t}) = typed_equal e s n u t b refl
+  pub said_true : (e s : Tree) (x : Constraint) → Engine m G H D P e s → HasNoAlias s → SaysOfTwo x s → IsTrueBy truth x.relation x.left x.right
+  said_true e s x b n (outlives_it says) = holds x (built_in_holds m G H (Stands G P (goal_kind m (unbound s))) e s x says b)
+  said_true e s x b n (is_its_type {b = i} {u = u} {t = t}) = typed_equal e s i u t n.1.0.1.0 n.1.1.0 b refl

@@ -1,31 +1,62 @@
--- What is proved in coherence, where no aliases are declared.
-use Rattle.std.specs.Prelude.{List, [], length, Some, ◌≡◌, ℕ, ◌+◌}
+-- What is proved in coherence without aliases: in solutions none stands for a variable, and in proofs none is chosen.
+use Rattle.std.specs.Prelude.{List, [], length, Some, false, ◌≡◌, ◌⊎◌, ℕ, ◌+◌}
 use Rattle.nts_model.specs.declared.labels.VariableKind.{VariableKind}
 use Rattle.nts_model.specs.declared.labels.Sort.{Sort}
 use Rattle.nts_model.specs.declared.labels.Leaf.{Leaf}
 use Rattle.nts_model.specs.declared.labels.Leaf.TheVariants as leaf
-use Rattle.nts_model.specs.Terms.Trees.{Tree, more, IsClosed, IsFormed}
+use Rattle.nts_model.specs.declared.labels.Label.{Label}
+use Rattle.nts_model.specs.declared.labels.Label.TheVariants as label
+use Rattle.nts_model.specs.Terms.Trees.{Tree, empty, more, node, kind_of, IsClosed, IsFormed}
 use Rattle.nts_model.specs.Terms.Placeholders.{leaf_level}
 use Rattle.nts_model.specs.Tables.Levels.{NamesAll}
-use Rattle.nts_model.specs.Terms.Substitutions.{Instance, Renaming, rename, IsPlain}
+use Rattle.nts_model.specs.Terms.Substitutions.{leaf_tree, Occurs, Instance, instance_of, Renaming, rename, IsPlain}
 use Rattle.nts_model.specs.Derivations.Related.{Constraint, pair, unbound}
 use Rattle.nts_model.specs.Lists.{Among}
-use Rattle.nts_model.specs.Derivations.Sequents.{Premise}
-use Rattle.nts_model.specs.Derivations.Rules.{Mode, coherence, Meaning, statement_of, goal_kind, normalization, AreFresh, Equation, Application, IsHandlers, opened, bound}
+use Rattle.nts_model.specs.Derivations.Sequents.{Premise, constraint_under}
+use Rattle.nts_model.specs.Derivations.Rules.{coherence, Meaning, strictly, statement_of, AreFresh, Equation, related, alike, Application, KeepsAliases, IsRule, opened, bound}
+use Rattle.nts_model.specs.Derivations.Proofs.{Node, IsRankedProof}
 use Rattle.nts_model.specs.Refutation.Opening.{placeholder_in}
 use Rattle.nts_model.specs.Refutation.Choosing.{left_of, right_of}
 use Rattle.nts_model.specs.Derivations.Handlers.{Handler, Judgements, meaning}
 use Rattle.nts_model.specs.Tables.Contents.{Content}
+use Rattle.nts_model.specs.Tables.Resolving.{deeply_resolved}
 use Rattle.nts_model.specs.Tables.Worlds.{World, inst, Agrees}
 use Rattle.nts_model.specs.declared.labels.Variance.{Variance}
-use Rattle.nts_model.specs.Refutation.Containing.{Truth, IsTrueBy, IsSolution, IsGroundLabel, AreGround}
+use Rattle.nts_model.specs.Refutation.Containing.{IsNoAlias, IsAliasFree, Truth, IsTrueBy, IsSolution, IsGroundLabel, AreGround}
 use Rattle.nts_model.specs.Tables.Passing.{AllLabels}
 use Rattle.nts_theory.specs.Affirming.{IsDenied, SaysOfTwo, is_well_formed}
-use Rattle.nts_variance_model.specs.Variances.SettledProofs.{HasSettledProof}
+use Rattle.nts_theory.specs.RelatingCandidates.{may_be_argument, AreTypesApart}
+use Rattle.nts_theory.specs.Telling.{IsTraitStatement}
+use Rattle.nts_variance_model.specs.Variances.SettledProofs.{IsReached, GrantsAt, HidesAt, RestsOnAt}
 
--- in coherence no rule of the handler says what an alias normalizes to. Where no alias is declared there is none
-pub record HasNoAliases (h : Handler) : Type 0 where
-  pub none : (a : Application) → h.applies coherence a → goal_kind (meaning h (λ i. [])) a.conclusion ≡ normalization → ⊥
+-- no alias stands for a leaf of the term
+abbrev pub IsPlainFor : World → Tree → Type 0
+IsPlainFor w t = (l : Leaf) → Occurs l t → IsAliasFree (inst w (leaf_tree l))
+
+-- no alias stands in a tree. Leaves and bound variables have no parts, and what stands there does not count
+abbrev pub IfItHasParts : Label → Type 0 → Type 0
+IfItHasParts (label.Leaf x) T = Unit {0}
+IfItHasParts (label.Bound s i n) T = Unit {0}
+IfItHasParts l T = T
+
+abbrev pub HasNoAlias : Tree → Type 0
+HasNoAlias empty = Unit {0}
+HasNoAlias (more a b) = HasNoAlias a × HasNoAlias b
+HasNoAlias (node l c) = IsNoAlias l × IfItHasParts l (HasNoAlias c)
+
+-- a goal that is asked as it stands: what it says has no alias, or its aliases stay
+abbrev pub StandsAsIs : Tree → Type 0
+StandsAsIs g = HasNoAlias (statement_of g) ⊎ KeepsAliases (statement_of g)
+
+-- the sides of an equation are no arguments, or have no alias; or they are alike
+abbrev pub HasPlainSides : Equation → Type 0
+HasPlainSides (related a b) = (may_be_argument (kind_of b) ≡ false) ⊎ HasNoAlias a × HasNoAlias b
+HasPlainSides (alike a b) = Unit {0}
+
+-- what is granted of a goal: it has no region variables, and is proved if it is asked as it stands. Of another one nothing is known
+pub record IsGranted (Proves : Tree → Tree → Type 0) (e g : Tree) : Type 0 where
+  pub ground : AllLabels IsGroundLabel (pair e g)
+  pub proved : StandsAsIs g → Proves e g
 
 -- a renaming that keeps variables, and the regions that stay
 pub record IsCarrying (ρ : Renaming) : Type 0 where
@@ -40,15 +71,18 @@ pub record IsFair (truth : Truth) : Type 0 where
 pub record RespectsLeaks (h : Handler) (truth : Truth) : Type 0 where
   pub none : (c : Content) (u : ℕ) (w : World) → h.leaks c u → IsSolution truth u c w → ⊥
 
--- a use of a clause: its equations are equalities, its constraints are true, and its goals are proved
+-- a use of a clause: its values have no aliases, its equations are equalities, as far as no alias stands in them, and equate no types
+-- that are apart, its constraints are true, and its goals are granted
 pub record UsesClause (h : Handler) (truth : Truth) (Proves : Tree → Tree → Type 0) (e s : Tree) : Type 0 where
   pub use_of : Application
   pub applies : h.applies coherence use_of
   pub environment : use_of.environment ≡ e
   pub conclusion : use_of.conclusion ≡ unbound s
-  pub equal : (q : Equation) → Among use_of.equations q → left_of q ≡ right_of q
+  pub values : (v : Tree) → Among use_of.values v → IsAliasFree v
+  pub equal : (q : Equation) → Among use_of.equations q → HasPlainSides q → left_of q ≡ right_of q
+  pub apart : (a b : Tree) → Among use_of.equations (related a b) → AreTypesApart a b → ⊥
   pub met : (x : Constraint) → Among use_of.constraints x → IsTrueBy truth x.relation x.left x.right
-  pub goals : (p : Premise) → Among use_of.goals p → Proves p.environment p.predicate
+  pub goals : (p : Premise) → Among use_of.goals p → IsGranted Proves p.environment p.predicate
 
 -- .. whose values the universe u names
 pub record UsesNamed (h : Handler) (truth : Truth) (Proves : Tree → Tree → Type 0) (u : ℕ) (e s : Tree) : Type 0 where
@@ -59,24 +93,24 @@ pub record UsesNamed (h : Handler) (truth : Truth) (Proves : Tree → Tree → T
 abbrev pub binding : Tree → Tree → Tree → Tree
 binding x xs s = bound (more x xs) s
 
--- the predicates that the handler names for a term are proved, where a statement says that the term is well formed
-abbrev pub ProvesFormed : Judgements → (Tree → Tree → Type 0) → Tree → Tree → Type 0
-ProvesFormed j Proves e s = (t : Tree) (ps : List Tree) → s ≡ is_well_formed t → j.well_formed e t ≡ Some ps → (p : Tree) → Among ps p → Proves e p
+-- the predicates that the handler names for a term are granted, where a statement says that the term is well formed
+abbrev pub GrantsFormed : Judgements → (Tree → Tree → Type 0) → Tree → Tree → Type 0
+GrantsFormed j Proves e s = (t : Tree) (ps : List Tree) → s ≡ is_well_formed t → j.well_formed e t ≡ Some ps → (p : Tree) → Among ps p → IsGranted Proves e p
 
--- what is proved: terms without region variables. Names of constants and regions play no part, and each goal of the handler
--- follows by a use of a clause, as it stands or with the placeholders of a new universe for what it binds. What is proved to
--- outlive a region does, and what is a value's type is; what is well formed is so by proved predicates; and nothing is proved that
--- the handler denies
+-- what is proved: terms without region variables. Names of constants and regions play no part, and each goal of a trait follows by a
+-- use of a clause, as it stands or with the placeholders of a new universe for what it binds. What is proved to outlive a region does,
+-- and what is a value's type is, if no alias stands there; what is well formed is so by predicates that are granted; and nothing is
+-- proved that the handler denies
 pub record IsTheory (h : Handler) (truth : Truth) (Proves : Tree → Tree → Type 0) : Type 0 where
   pub ground : AreGround Proves
   pub kept : (ρ : Renaming) → IsCarrying ρ → (e g : Tree) → Proves e g → Proves (rename ρ e) (rename ρ g)
-  pub says : (e s : Tree) (y : Constraint) → Proves e (unbound s) → SaysOfTwo y s → IsClosed s → IsTrueBy truth y.relation y.left y.right
+  pub says : (e s : Tree) (y : Constraint) → Proves e (unbound s) → SaysOfTwo y s → IsClosed s → HasNoAlias s → IsTrueBy truth y.relation y.left y.right
   pub denies : (e g : Tree) → Proves e g → IsDenied h.judges (statement_of g) → ⊥
-  pub says_opened : (u : ℕ) (e x xs s : Tree) (y : Constraint) → Proves e (binding x xs s) → SaysOfTwo y (opened (placeholder_in (u + 1)) 0 s) → NamesAll leaf_level u (pair e s) → IsTrueBy truth y.relation y.left y.right
-  pub formed : (e s : Tree) → Proves e (unbound s) → IsClosed s → ProvesFormed h.judges Proves e s
-  pub formed_opened : (u : ℕ) (e x xs s : Tree) → Proves e (binding x xs s) → NamesAll leaf_level u (pair e s) → ProvesFormed h.judges Proves e (opened (placeholder_in (u + 1)) 0 s)
-  pub plain : (u : ℕ) (e s : Tree) → Proves e (unbound s) → IsHandlers s → IsClosed s → NamesAll leaf_level u (pair e s) → UsesNamed h truth Proves u e s
-  pub opened : (u : ℕ) (e x xs s : Tree) → Proves e (binding x xs s) → IsHandlers (opened (placeholder_in (u + 1)) 0 s) → IsFormed (opened (placeholder_in (u + 1)) 0 s) → NamesAll leaf_level u (pair e s)
+  pub says_opened : (u : ℕ) (e x xs s : Tree) (y : Constraint) → Proves e (binding x xs s) → SaysOfTwo y (opened (placeholder_in (u + 1)) 0 s) → NamesAll leaf_level u (pair e s) → HasNoAlias s → IsTrueBy truth y.relation y.left y.right
+  pub formed : (e s : Tree) → Proves e (unbound s) → IsClosed s → GrantsFormed h.judges Proves e s
+  pub formed_opened : (u : ℕ) (e x xs s : Tree) → Proves e (binding x xs s) → NamesAll leaf_level u (pair e s) → GrantsFormed h.judges Proves e (opened (placeholder_in (u + 1)) 0 s)
+  pub plain : (u : ℕ) (e s : Tree) → Proves e (unbound s) → IsTraitStatement s → IsClosed s → NamesAll leaf_level u (pair e s) → UsesNamed h truth Proves u e s
+  pub opened : (u : ℕ) (e x xs s : Tree) → Proves e (binding x xs s) → IsTraitStatement (opened (placeholder_in (u + 1)) 0 s) → IsFormed (opened (placeholder_in (u + 1)) 0 s) → NamesAll leaf_level u (pair e s)
       → UsesNamed h truth Proves (u + 1) e (opened (placeholder_in (u + 1)) 0 s)
 
 -- what a goal that binds variables says of two terms is so with fresh placeholders for them
@@ -89,7 +123,7 @@ pub record SaysOpened (truth : Truth) (e c s : Tree) : Type 0 where
 pub record FormedOpened (h : Handler) (Proves : Tree → Tree → Type 0) (e c s : Tree) : Type 0 where
   pub fresh : Sort → ℕ → Leaf
   pub are_fresh : AreFresh (pair e c) fresh
-  pub goals : ProvesFormed h.judges Proves e (opened fresh 0 s)
+  pub goals : GrantsFormed h.judges Proves e (opened fresh 0 s)
 
 -- a goal that binds variables follows with fresh placeholders for them
 pub record UsesOpened (h : Handler) (truth : Truth) (Proves : Tree → Tree → Type 0) (e c s : Tree) : Type 0 where
@@ -97,32 +131,58 @@ pub record UsesOpened (h : Handler) (truth : Truth) (Proves : Tree → Tree → 
   pub are_fresh : AreFresh (pair e c) fresh
   pub uses : UsesClause h truth Proves e (opened fresh 0 s)
 
--- proved goals are terms without region variables, each goal of the handler follows by a use of a clause from proved goals, what is
--- proved of two terms is so, what is well formed is so by proved predicates, and nothing is proved that the handler denies
+-- proved goals are terms without region variables, each goal of a trait follows by a use of a clause, what is proved of two terms
+-- without aliases is so, what is well formed is so by predicates that are granted, and nothing is proved that the handler denies
 pub record AreUsed (h : Handler) (truth : Truth) (Proves : Tree → Tree → Type 0) : Type 0 where
   pub ground : AreGround Proves
-  pub plain : (e s : Tree) → Proves e (unbound s) → IsHandlers s → IsClosed s → UsesClause h truth Proves e s
-  pub opened : (e x xs s : Tree) → Proves e (binding x xs s) → IsHandlers s → UsesOpened h truth Proves e (binding x xs s) s
-  pub says : (e s : Tree) (y : Constraint) → Proves e (unbound s) → SaysOfTwo y s → IsClosed s → IsTrueBy truth y.relation y.left y.right
+  pub plain : (e s : Tree) → Proves e (unbound s) → IsTraitStatement s → IsClosed s → UsesClause h truth Proves e s
+  pub opened : (e x xs s : Tree) → Proves e (binding x xs s) → IsTraitStatement s → UsesOpened h truth Proves e (binding x xs s) s
+  pub says : (e s : Tree) (y : Constraint) → Proves e (unbound s) → SaysOfTwo y s → IsClosed s → HasNoAlias s → IsTrueBy truth y.relation y.left y.right
   pub denies : (e g : Tree) → Proves e g → IsDenied h.judges (statement_of g) → ⊥
-  pub says_opened : (e x xs s : Tree) → Proves e (binding x xs s) → SaysOpened truth e (binding x xs s) s
-  pub formed : (e s : Tree) → Proves e (unbound s) → IsClosed s → ProvesFormed h.judges Proves e s
+  pub says_opened : (e x xs s : Tree) → Proves e (binding x xs s) → HasNoAlias s → SaysOpened truth e (binding x xs s) s
+  pub formed : (e s : Tree) → Proves e (unbound s) → IsClosed s → GrantsFormed h.judges Proves e s
   pub formed_opened : (e x xs s : Tree) → Proves e (binding x xs s) → FormedOpened h Proves e (binding x xs s) s
 
 -- an instance that leaves no region variable: each has been assigned a free region
 pub record IsGroundInstance (ι : Instance) : Type 0 where
   pub ground : (l : Leaf) → AllLabels IsGroundLabel (ι.value l)
 
--- a settled proof of a goal at such an instance, whose constraints are true there, without other hypotheses
-pub record HasMetProof (m : Meaning) (truth : Truth) (e g : Tree) : Type 0 where
-  pub proof : HasSettledProof m coherence (λ x. IsTrueBy truth x.relation x.left x.right) e g
-  pub ground : (let p = proof.proves in let n = p.proof in IsGroundInstance n.at)
+-- at the instance the node follows by the rules as they stand, and no alias stands in the values that are chosen
+abbrev pub FollowsPlainly : Meaning → Node → Instance → Type 0
+FollowsPlainly m n κ =
+    IsRule (strictly m) coherence IsAliasFree (GrantsAt n κ) (HidesAt n κ) (RestsOnAt m n κ)
+    (instance_of κ n.sequent.environment) (instance_of κ n.sequent.predicate)
 
--- a goal has no solution in a table: in none of the table's solutions has it a settled proof whose constraints are true
+-- a node of a plain proof: a ranked proof in which it is so at every instance to which the steps lead from there, and whose region
+-- constraints are true
+pub record PlainNode (m : Meaning) (Holds : Constraint → Type 0) : Type 0 where
+  pub nodes : List Node
+  pub node : Node
+  pub at : Instance
+  pub found : Among nodes node
+  pub ranked : IsRankedProof m coherence nodes
+  pub plain : (n : Node) (κ : Instance) → IsReached m nodes node at n κ → FollowsPlainly m n κ
+  pub true : (x : Constraint) → Among node.sequent.constraints x → Holds (constraint_under at x)
+
+-- a plain proof of a goal, without other hypotheses, at an instance that leaves no region variable
+pub record HasMetProof (m : Meaning) (truth : Truth) (e g : Tree) : Type 0 where
+  pub proof : PlainNode m (λ x. IsTrueBy truth x.relation x.left x.right)
+  pub environment : instance_of proof.at proof.node.sequent.environment ≡ e
+  pub predicate : instance_of proof.at proof.node.sequent.predicate ≡ g
+  pub no_hidden : proof.node.sequent.hidden ≡ []
+  pub no_open_goals : proof.node.sequent.open_goals ≡ []
+  pub ground : IsGroundInstance proof.at
+
+-- no alias stands for what is left of the goal's variables, as the table knows it
+abbrev pub IsPlainIn : Content → World → Tree → Tree → Type 0
+IsPlainIn c w e g = IsPlainFor w (pair (deeply_resolved c e) (deeply_resolved c g))
+
+-- a goal has no solution in a table: in none of the table's solutions in which no alias stands for what is left of it has it a plain
+-- proof whose constraints are true
 pub record HasNoSolutionIn (h : Handler) (c : Content) (e g : Tree) : Type 0 where
-  pub none : (truth : Truth) → IsFair truth → RespectsLeaks h truth → (v : ℕ → List Variance) (w : World) → IsSolution truth c.universe c w → HasMetProof (meaning h v) truth (inst w e) (inst w g) → ⊥
+  pub none : (truth : Truth) → IsFair truth → RespectsLeaks h truth → (v : ℕ → List Variance) (w : World) → IsSolution truth c.universe c w → IsPlainIn c w e g → HasMetProof (meaning h v) truth (inst w e) (inst w g) → ⊥
 
 -- .. and a later table loses none: each solution in which the goal has such a proof extends to one of the later table
 pub record KeepsSolutionsOf (h : Handler) (c d : Content) (e g : Tree) : Type 0 where
-  pub each : (truth : Truth) → IsFair truth → RespectsLeaks h truth → (v : ℕ → List Variance) (w : World) → IsSolution truth c.universe c w → HasMetProof (meaning h v) truth (inst w e) (inst w g)
+  pub each : (truth : Truth) → IsFair truth → RespectsLeaks h truth → (v : ℕ → List Variance) (w : World) → IsSolution truth c.universe c w → IsPlainIn c w e g → HasMetProof (meaning h v) truth (inst w e) (inst w g)
       → (later : World) × Agrees (length c.slots) w later × IsSolution truth c.universe d later

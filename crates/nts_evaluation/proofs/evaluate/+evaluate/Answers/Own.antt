@@ -254,12 +254,12 @@ evaluate_own-returns-in-Way g t c =
           let h = ruling_since (λ ts. g.H.GoalHandler.handler ts c.args.handler.now) s in
           let same = g.met.H.GoalHandler.handler_kept s.base c.judge.new.cx.nodes c.args.handler.now s.is_ready (Extends-trans s.extends up) in
           IfOk-map c.probe_candidate-response.result
-          (λ y f. inr (inl (x, judged_before (λ z e p. HasOwnWay z e p x) same up holds known.0, rw (here, trees, environment, predicate) at f)))
+          (λ y f. inr (inl (x, judged_before (λ z e p. HasOwnWay z e p x) same up holds known.0, known.2, rw (here, trees, environment, predicate) at f)))
           (rw c.deref.ensures at (r.told (Since-later j.grows s) (tell_grown h c.args.depth c.requires.search j.grows tells)));
       refuted = λ s tells n.
           let h = ruling_since (λ ts. g.H.GoalHandler.handler ts c.args.handler.now) s in
           let same = g.met.H.GoalHandler.handler_kept s.base c.judge.new.cx.nodes c.args.handler.now s.is_ready (Extends-trans s.extends up) in
-          inr (x, judged_before (λ z e p. HasOwnWay z e p x) same up holds known.0, rw (here, c.deref.ensures, environment, predicate) at (r.refuted (Since-later j.grows s) (tell_grown h c.args.depth c.requires.search j.grows tells) n));
+          inr (x, judged_before (λ z e p. HasOwnWay z e p x) same up holds known.0, known.2, rw (here, c.deref.ensures, environment, predicate) at (r.refuted (Since-later j.grows s) (tell_grown h c.args.depth c.requires.search j.grows tells) n));
       decided = λ s n b d can.
           let same = g.met.H.GoalHandler.handler_kept s.base c.judge.new.cx.nodes c.args.handler.now s.is_ready (Extends-trans s.extends j.grows.extends) in
           r.decided (Since-later j.grows s) n b (rw c.deref.ensures (settled_way same up holds _ j.exact b c.in-Way.way c.in-Way.is known.0 known.2 here d)) (decides_grown c.requires.search j.grows can);
