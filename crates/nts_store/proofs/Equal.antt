@@ -8,6 +8,7 @@ use Rattle.nts_store.specs.declared.nodes.NodeId.{NodeId}
 use Rattle.nts_store.specs.contracts.nodes.NodeIdPartialEq.TheImpl as id_eq
 use Rattle.nts_store.specs.declared.index.Shape.{Shape}
 use Rattle.nts_store.specs.contracts.index.ShapePartialEq.TheImpl as shape_eq
+use Rattle.nts_store.specs.Children.{listed}
 
 pub same_label : (a b : Label) → IsTrue (label_eq.ghosts.eq a b) ↔ (a ≡ b)
 same_label a b = search rules
@@ -36,8 +37,8 @@ one_answer true false A h k = let e : IsTrue false = k.1 (h.0 refl) in cc e
 one_answer false true A h k = let e : IsTrue false = h.1 (k.0 refl) in cc e
 
 -- `==` on shapes
-pub one_shape : (a b : Shape) → IsTrue (shape_eq.ghosts.eq a b) → (a.label ≡ b.label) × (a.children.items ≡ b.children.items)
-one_shape a b h = (both_true _ _ _ _ (same_label a.label b.label) (same_ids a.children.items b.children.items)).0 h
+pub one_shape : (a b : Shape) → IsTrue (shape_eq.ghosts.eq a b) → (a.label ≡ b.label) × (listed a.children ≡ listed b.children)
+one_shape a b h = (both_true _ _ _ _ (same_label a.label b.label) (same_ids (listed a.children) (listed b.children))).0 h
 
-pub shape_one : (a b : Shape) → a.label ≡ b.label → a.children.items ≡ b.children.items → IsTrue (shape_eq.ghosts.eq a b)
-shape_one a b l c = (both_true _ _ _ _ (same_label a.label b.label) (same_ids a.children.items b.children.items)).1 (l, c)
+pub shape_one : (a b : Shape) → a.label ≡ b.label → listed a.children ≡ listed b.children → IsTrue (shape_eq.ghosts.eq a b)
+shape_one a b l c = (both_true _ _ _ _ (same_label a.label b.label) (same_ids (listed a.children) (listed b.children))).1 (l, c)

@@ -6,6 +6,7 @@ use Rattle.nts_store.specs.declared.nodes.Node.{Node}
 use Rattle.nts_store.specs.Growth.{trees_at, AllIn}
 use Rattle.nts_store.specs.Formed.{AreFormed}
 use Rattle.nts_store.specs.Store.{tree_of_node, grown, trees, IsGrown, IsShared}
+use Rattle.nts_store.specs.Children.{listed}
 
 abbrev EachFormed : List Tree → Type 0
 EachFormed [] = Unit {0}
@@ -27,7 +28,7 @@ children_formed ts (c ∷ cs) h a = (each_at ts c.number h a.0, children_formed 
 each_grown : (ts : List Tree) (ns : List Node) → EachFormed ts → IsGrown ts ns → EachFormed (grown ts ns)
 each_grown ts [] h g = h
 each_grown ts (n ∷ ns) h g =
-    each_grown (ts ++ tree_of_node ts n ∷ []) ns (each_push ts (tree_of_node ts n) h (g.0.formed, children_formed ts n.children.items h g.0.all)) g.1
+    each_grown (ts ++ tree_of_node ts n ∷ []) ns (each_push ts (tree_of_node ts n) h (g.0.formed, children_formed ts (listed n.children) h g.0.all)) g.1
 
 pub AreFormed-trees : (ns : List Node) → IsShared ns → AreFormed (trees ns)
 AreFormed-trees ns s = λ t h. each_at (trees ns) t.number (each_grown [] ns tt s.ordered) h

@@ -15,6 +15,7 @@ use Rattle.nts_store.proofs.Growing.{Extends-refl, Extends-trans, AllIn-extended
 use Rattle.nts_store.specs.declared.index.Shape.{Shape}
 use Rattle.nts_store.specs.declared.index.Index.{Index}
 use Rattle.nts_store.specs.Index.{HasShape, IsOfShape, HasShapeAt, number_in, IsIndex}
+use Rattle.nts_store.specs.Children.{listed}
 
 pub grown-push : (ts : List Tree) (ns : List Node) (n : Node) → grown ts (ns ++ n ∷ []) ≡ grown ts ns ++ tree_of_node (grown ts ns) n ∷ []
 grown-push ts [] n = refl
@@ -34,14 +35,14 @@ pub IsGrown-push : (ts : List Tree) (ns : List Node) (n : Node) → IsGrown ts n
 IsGrown-push ts [] n h k = (k, tt)
 IsGrown-push ts (m ∷ ns) n h k = (h.0, IsGrown-push (ts ++ tree_of_node ts m ∷ []) ns n h.1 k)
 
-tree_of_node-extended : {a b : List Tree} → Extends a b → (n : Node) → AllIn a n.children.items → tree_of_node b n ≡ tree_of_node a n
-tree_of_node-extended e n h = ap (node n.label) (trees_at-extended e n.children.items h)
+tree_of_node-extended : {a b : List Tree} → Extends a b → (n : Node) → AllIn a (listed n.children) → tree_of_node b n ≡ tree_of_node a n
+tree_of_node-extended e n h = ap (node n.label) (trees_at-extended e (listed n.children) h)
 
 IsNode-extended : {a b : List Tree} → Extends a b → (n : Node) → IsNode a n → IsNode b n
 IsNode-extended e n k =
-    let same = trees_at-extended e n.children.items k.all in
+    let same = trees_at-extended e (listed n.children) k.all in
     record {
-      all = AllIn-extended e n.children.items k.all;
+      all = AllIn-extended e (listed n.children) k.all;
       formed = rw same k.formed;
       flags = k.flags ∙ ap flags_of (sym (tree_of_node-extended e n k.all));
       well_bound = subst (λ t. IsTrue n.is_well_bound ↔ IsWellBound t) (sym (tree_of_node-extended e n k.all)) k.well_bound;
@@ -89,7 +90,7 @@ AllBelow-AllIn ts (c ∷ cs) i e h = (omega (arith, h.0), AllBelow-AllIn ts cs i
 pub record Found (ts : List Tree) (i : ℕ) (n : Node) : Type 0 where
   pub is : get_or ts i empty ≡ tree_of_node ts n
   pub is_node : IsNode ts n
-  pub before : AllBelow i n.children.items
+  pub before : AllBelow i (listed n.children)
 
 pub found : (ns : List Node) (ts : List Tree) (i : ℕ) (n : Node) → trees ns ≡ ts → IsShared ns → i < length ns → get_or ns i n ≡ n → Found ts i n
 found ns ts i n v s k e =
@@ -99,7 +100,7 @@ found ns ts i n v s k e =
     record {
       is = rw (← v) (here ∙ sym (tree_of_node-extended r.extends n r.is_node.all));
       is_node = rw (← v) (IsNode-extended r.extends n r.is_node);
-      before = AllBelow-AllIn r.below n.children.items i long r.is_node.all;
+      before = AllBelow-AllIn r.below (listed n.children) i long r.is_node.all;
     }
 
 pub length-trees : (ns : List Node) → length (trees ns) ≡ length ns
@@ -128,8 +129,8 @@ new_tree x n s j shared index h shape none k e =
     let r = found ns (trees ns) j m refl shared k at in
     let is = e ∙ r.is in
     let label : n.label ≡ m.label = cc in
-    let kids : trees_at (trees ns) n.children.items ≡ trees_at (trees ns) m.children.items = cc in
-    let items = trees_at-apart (trees ns) n.children.items m.children.items shared.apart h.all r.is_node.all kids in
+    let kids : trees_at (trees ns) (listed n.children) ≡ trees_at (trees ns) (listed m.children) = cc in
+    let items = trees_at-apart (trees ns) (listed n.children) (listed m.children) shared.apart h.all r.is_node.all kids in
     let of_shape : HasShape m s = record { label = sym label ∙ shape.label; children = sym items ∙ shape.children } in
     let there : slice_get ns j ≡ Some m = slice_get-get_or ns j n k in
     index.all s j (rw there of_shape) none
@@ -177,19 +178,19 @@ pub record Answered (ms : List Node) (ts : List Tree) (at : ℕ) (l : Label) (cs
   pub within : at < length (trees ms)
   pub is : get_or (trees ms) at empty ≡ node l (trees_at ts cs)
 
-answered_at : (ns ms : List Node) (at : ℕ) (s : Shape) (o : Option Node) → slice_get ms at ≡ o → Kept ns ms → AllIn (trees ns) s.children.items → IsOfShape o s → Answered ms (trees ns) at s.label s.children.items
+answered_at : (ns ms : List Node) (at : ℕ) (s : Shape) (o : Option Node) → slice_get ms at ≡ o → Kept ns ms → AllIn (trees ns) (listed s.children) → IsOfShape o s → Answered ms (trees ns) at s.label (listed s.children)
 answered_at ns ms at s None e kept all h = absurd h
 answered_at ns ms at s (Some k) e kept all h =
     let within : at < length ms = slice_get_within ms at k e in
     let here : get_or ms at k ≡ k = get_or_from_slice_get ms at k k e in
-    let same : trees_at (trees ms) k.children.items ≡ trees_at (trees ns) s.children.items =
-    ap (trees_at (trees ms)) h.children ∙ trees_at-extended kept.extends s.children.items all in
+    let same : trees_at (trees ms) (listed k.children) ≡ trees_at (trees ns) (listed s.children) =
+    ap (trees_at (trees ms)) h.children ∙ trees_at-extended kept.extends (listed s.children) all in
     record {
       within = omega (arith, length-trees ms);
       is = (found ms (trees ms) at k refl kept.shared within here).is ∙ cc (same, h.label);
     }
 
-pub answered : (ns ms : List Node) (at : ℕ) (s : Shape) → Kept ns ms → AllIn (trees ns) s.children.items → HasShapeAt ms at s → Answered ms (trees ns) at s.label s.children.items
+pub answered : (ns ms : List Node) (at : ℕ) (s : Shape) → Kept ns ms → AllIn (trees ns) (listed s.children) → HasShapeAt ms at s → Answered ms (trees ns) at s.label (listed s.children)
 answered ns ms at s kept all h = answered_at ns ms at s (slice_get ms at) refl kept all h
 
 -- the node that was added stands last
@@ -207,7 +208,7 @@ pub record IsMade (ts us : List Tree) (at : ℕ) (l : Label) (cs : List NodeId) 
   pub one : IsTheOne us (record { number = at })
   pub extends : Extends ts us
 
-made : (ns ms : List Node) (ts us : List Tree) (at : ℕ) (s : Shape) (cs : List NodeId) → trees ns ≡ ts → trees ms ≡ us → Kept ns ms → AllIn ts cs → s.children.items ≡ cs → HasShapeAt ms at s → IsMade ts us at s.label cs
+made : (ns ms : List Node) (ts us : List Tree) (at : ℕ) (s : Shape) (cs : List NodeId) → trees ns ≡ ts → trees ms ≡ us → Kept ns ms → AllIn ts cs → listed s.children ≡ cs → HasShapeAt ms at s → IsMade ts us at s.label cs
 made ns ms ts us at s cs v w kept all same h =
     let a = answered ns ms at s kept (rw (same, v) all) h in
     record {
@@ -218,17 +219,17 @@ made ns ms ts us at s cs v w kept all same h =
     }
 
 -- it was there
-pub found_again : (ns : List Node) (ts : List Tree) (at : ℕ) (s : Shape) (cs : List NodeId) → trees ns ≡ ts → IsShared ns → AllIn ts cs → s.children.items ≡ cs → HasShapeAt ns at s → IsMade ts ts at s.label cs
+pub found_again : (ns : List Node) (ts : List Tree) (at : ℕ) (s : Shape) (cs : List NodeId) → trees ns ≡ ts → IsShared ns → AllIn ts cs → listed s.children ≡ cs → HasShapeAt ns at s → IsMade ts ts at s.label cs
 found_again ns ts at s cs v shared all same h = made ns ns ts ts at s cs v v (kept_same ns shared) all same h
 
 -- or is added
-pub made_anew : (x : Index) (ms : List Node) (n : Node) (ts : List Tree) (at : ℕ) (s : Shape) (cs : List NodeId) → trees x.nodes.items ≡ ts → Kept x.nodes.items ms → AllIn ts cs → s.children.items ≡ cs → HasShape n s → at ≡ length x.nodes.items → ms ≡ x.nodes.items ++ n ∷ []
+pub made_anew : (x : Index) (ms : List Node) (n : Node) (ts : List Tree) (at : ℕ) (s : Shape) (cs : List NodeId) → trees x.nodes.items ≡ ts → Kept x.nodes.items ms → AllIn ts cs → listed s.children ≡ cs → HasShape n s → at ≡ length x.nodes.items → ms ≡ x.nodes.items ++ n ∷ []
     → IsMade ts (trees ms) at s.label cs
 made_anew x ms n ts at s cs v kept all same shape last nodes =
     made x.nodes.items ms ts (trees ms) at s cs v refl kept all same (rw (nodes, last) (last_has x.nodes.items n s shape))
 
 -- the facts of a node over its children
-pub is_node : (ns : List Node) (ts : List Tree) (n : Node) (cs : List NodeId) → trees ns ≡ ts → AllIn ts cs → n.children.items ≡ cs → Meets (shape n.label) (trees_at ts cs) → n.flags ≡ flags_of (node n.label (trees_at ts cs)) → (IsTrue n.is_well_bound ↔ IsWellBound (node n.label (trees_at ts cs))) → IsNode (trees ns) n
+pub is_node : (ns : List Node) (ts : List Tree) (n : Node) (cs : List NodeId) → trees ns ≡ ts → AllIn ts cs → listed n.children ≡ cs → Meets (shape n.label) (trees_at ts cs) → n.flags ≡ flags_of (node n.label (trees_at ts cs)) → (IsTrue n.is_well_bound ↔ IsWellBound (node n.label (trees_at ts cs))) → IsNode (trees ns) n
 is_node ns ts n cs v all same formed flags bound =
     rw v (record {
       all = rw same all;

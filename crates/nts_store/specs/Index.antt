@@ -5,11 +5,12 @@ use Rattle.nts_store.specs.declared.nodes.Node.{Node}
 use Rattle.nts_store.specs.declared.index.Shape.{Shape}
 use Rattle.nts_store.specs.declared.index.Index.{Index}
 use Rattle.nts_store.specs.contracts.index.ShapePartialEq.TheImpl as shape_eq
+use Rattle.nts_store.specs.Children.{listed}
 
 -- the node has this label and these children
 pub record HasShape (n : Node) (s : Shape) : Type 0 where
   pub label : n.label ≡ s.label
-  pub children : n.children.items ≡ s.children.items
+  pub children : listed n.children ≡ listed s.children
 
 -- .. the node at a place, if there is one
 abbrev pub IsOfShape : Option Node → Shape → Type 0

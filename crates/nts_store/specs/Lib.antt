@@ -1,3 +1,4 @@
+pub mod Children
 pub mod Errors
 pub mod TypeFlags
 pub mod Filled

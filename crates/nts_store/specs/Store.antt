@@ -5,9 +5,10 @@ use Rattle.nts_model.specs.Terms.Scoping.{IsWellBound}
 use Rattle.nts_store.specs.declared.nodes.Node.{Node}
 use Rattle.nts_store.specs.TypeFlags.{flags_of}
 use Rattle.nts_store.specs.Growth.{trees_at, AllIn, AreApart}
+use Rattle.nts_store.specs.Children.{listed}
 
 abbrev pub tree_of_node : List Tree → Node → Tree
-tree_of_node ts n = node n.label (trees_at ts n.children.items)
+tree_of_node ts n = node n.label (trees_at ts (listed n.children))
 
 -- the trees of the nodes that stand after those of `ts`
 abbrev pub grown : List Tree → List Node → List Tree
@@ -19,8 +20,8 @@ trees ns = grown [] ns
 
 -- the children stand in the store and fit the label, and what is kept of the tree is true of it
 pub record IsNode (ts : List Tree) (n : Node) : Type 0 where
-  pub all : AllIn ts n.children.items
-  pub formed : Meets (shape n.label) (trees_at ts n.children.items)
+  pub all : AllIn ts (listed n.children)
+  pub formed : Meets (shape n.label) (trees_at ts (listed n.children))
   pub flags : n.flags ≡ flags_of (tree_of_node ts n)
   pub well_bound : IsTrue n.is_well_bound ↔ IsWellBound (tree_of_node ts n)
 

@@ -2,17 +2,17 @@
 ghost use Rattle.std.specs.Prelude.{◌≡◌, ◌++◌, ◌∷◌, [], length, IfOk, IfSome, OnErr, None};
 ghost use Rattle.nts_store.specs.Index.{IsIndex, HasShape, HasShapeAt, number_in};
 
-use crate::nodes::{Node, NodeId};
+use crate::children::Children;
+use crate::nodes::Node;
 use nts_model::Label;
 use std::alloc::{AllocError, Global};
 use std::collections::HashMap;
-use std::mem;
 
 /// The label and the children of a node, by which it is found.
 #[derive(PartialEq, Eq, Hash, Drop)]
 pub(crate) struct Shape {
     pub label: Label,
-    pub children: Vec<NodeId>,
+    pub children: Children,
 }
 
 /// Nodes in the order in which they were made, and the number of each by its shape.
@@ -61,27 +61,4 @@ impl Index {
         let _ = self.nodes.push(node);
         Ok(number)
     }
-}
-
-/// A list of the same children.
-pub(crate) fn copied(alloc: Global, children: &[NodeId]) -> Result<Vec<NodeId>, AllocError>
-    ensures { IfOk result (λ v. v.items ≡ children.now) }
-{
-    let mut list = Vec::with_capacity(alloc, children.len())?;
-    list.extend_from_slice(children)?;
-    Ok(list)
-}
-
-/// The same in the spare list, which is taken away.
-pub(crate) fn listed(
-    alloc: Global,
-    spare: &mut Vec<NodeId>,
-    children: &[NodeId],
-) -> Result<Vec<NodeId>, AllocError>
-    ensures { IfOk result (λ v. v.items ≡ children.now) }
-{
-    let mut list = mem::replace(spare, Vec::new(alloc));
-    list.clear();
-    list.extend_from_slice(children)?;
-    Ok(list)
 }

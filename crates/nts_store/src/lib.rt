@@ -6,6 +6,7 @@
 //! of a tree.
 #![tactic(auto)]
 
+mod children;
 mod fault;
 mod index;
 mod labels_walk;

@@ -3,11 +3,13 @@ ghost use Rattle.std.specs.Prelude.{◌≡◌, ◌↔◌, ◌<◌, ◌+◌, ◌+
 ghost use Rattle.nts_model.specs.Terms.Trees.{Tree, node, empty, more, label_of, children, row_length, row_at, IsRow, shape, Meets};
 ghost use Rattle.nts_model.specs.Terms.Scoping.{IsWellBound};
 ghost use Rattle.nts_store.specs.Growth.{tree_at, trees_at, IsIn, AllIn, AllBelow, Extends, AreApart, IsTheOne};
+ghost use Rattle.nts_store.specs.Children.{listed};
 ghost use Rattle.nts_store.specs.Formed.{AreFormed};
 ghost use Rattle.nts_store.specs.TypeFlags.{flags_of};
 ghost use Rattle.nts_store.specs.Sorts.{ChildrenFit};
 
-use crate::index::{Index, Shape, copied, listed};
+use crate::children::Children;
+use crate::index::{Index, Shape};
 use crate::levels_walk::all_listed;
 use crate::type_flags::{TypeFlags, binders_of};
 use nts_model::Label;
@@ -23,7 +25,7 @@ pub struct NodeId {
 #[derive(Drop)]
 pub(crate) struct Node {
     pub label: Label,
-    pub children: Vec<NodeId>,
+    pub children: Children,
     pub flags: TypeFlags,
     /// Whether each bound variable of a binder in the tree is of that binder's list.
     pub is_well_bound: bool,
@@ -34,8 +36,6 @@ pub(crate) struct Node {
 pub struct Nodes {
     alloc: Global,
     index: Index,
-    /// A list for the children of a term that is looked up, which is used again where the term is there.
-    spare: Vec<NodeId>,
 }
 
 impl Model for Nodes {
@@ -66,7 +66,6 @@ impl Nodes {
         Nodes {
             alloc,
             index: Index::new(alloc),
-            spare: Vec::new(alloc),
         }
     }
 
@@ -99,16 +98,14 @@ impl Nodes {
     {
         let shape = Shape {
             label,
-            children: listed(self.alloc, &mut self.spare, children)?,
+            children: Children::of(self.alloc, children)?,
         };
         if let Some(number) = self.index.find(&shape) {
-            let Shape { children, .. } = shape;
-            self.spare = children;
             return Ok(NodeId { number });
         }
         let node = Node {
             label,
-            children: copied(self.alloc, children)?,
+            children: Children::of(self.alloc, children)?,
             flags: self.flags_under(label, children),
             is_well_bound: self.is_well_bound_under(label, children)?,
         };
@@ -153,11 +150,11 @@ impl Nodes {
     fn node(&self, t: NodeId) -> &Node
         requires { IsIn self.now t }
         ensures is { tree_at self.now t ≡ node result.now.label
-            (trees_at self.now result.now.children.items) }
-        ensures all { AllIn self.now result.now.children.items }
-        ensures before { AllBelow t.number result.now.children.items }
+            (trees_at self.now (listed result.now.children)) }
+        ensures all { AllIn self.now (listed result.now.children) }
+        ensures before { AllBelow t.number (listed result.now.children) }
         ensures formed { Meets (shape result.now.label)
-            (trees_at self.now result.now.children.items) }
+            (trees_at self.now (listed result.now.children)) }
         ensures flags { result.now.flags ≡ flags_of (tree_at self.now t) }
         ensures well_bound { IsTrue result.now.is_well_bound ↔ IsWellBound (tree_at self.now t) }
     {
@@ -197,7 +194,7 @@ impl Nodes {
         ensures count { result ≡ row_length (children (tree_at self.now t)) }
         ensures row { IsRow (children (tree_at self.now t)) }
     {
-        self.node(t).children.len()
+        self.node(t).children.as_slice().len()
     }
 
     /// One of the children, which always stands before its parent.
@@ -210,7 +207,7 @@ impl Nodes {
         ensures tree { tree_at self.now result ≡ row_at (children (tree_at self.now t)) i }
         ensures formed { ChildrenFit (tree_at self.now t) }
     {
-        self.node(t).children[i]
+        self.node(t).children.as_slice()[i]
     }
 
     /// Whether two terms have equal trees: exactly if they are one.

@@ -1,9 +1,4 @@
-use Rattle.std.proofs.Common.{sym, ◌∙◌, refl, ap, subst}
-use Rattle.std.specs.Prelude.{◌↔◌, IsTrue}
-use Rattle.nts_model.specs.Terms.Trees.{node}
-use Rattle.nts_model.specs.Terms.Scoping.{IsWellBound}
-use Rattle.nts_store.specs.TypeFlags.{flags_of}
-use Rattle.nts_store.specs.Growth.{tree_at, trees_at, IsIn, IsTheOne, Extends}
+use Rattle.std.proofs.Common.{sym, ◌∙◌, refl}
 use Rattle.nts_store.proofs.Growing.{Extends-refl}
 use Rattle.nts_store.specs.declared.nodes.Node.{Node}
 use Rattle.nts_store.specs.declared.index.Shape.{Shape}
@@ -14,46 +9,46 @@ use Rattle.nts_store.proofs.nodes.Nodes.make.Goals as goal
 
 pub returns-in-Some-clause-within : goal.returns-in-Some-clause-within
 returns-in-Some-clause-within c =
-    let again = found_again c.self.inside.index.nodes.items c.args.self.now c.in-Some.number (record { label = c.args.label; children = c.in_ok-listed.field-0 }) c.args.children.now c.self.view_is c.self.invariant.0 c.requires.within c.in_ok-listed.ensures c.in-Some.ensures.found in
-    subst (λ ts. IsIn ts (record { number = c.in-Some.number })) (sym c.self.view_is) again.within
+    let again = found_again c.self.inside.index.nodes.items c.args.self.now c.in-Some.number (record { label = c.args.label; children = c.in_ok-of.field-0 }) c.args.children.now c.self.view_is c.self.invariant.0 c.requires.within c.in_ok-of.ensures c.in-Some.ensures.found in
+    again.within
 
 pub returns-in-Some-clause-tree : goal.returns-in-Some-clause-tree
 returns-in-Some-clause-tree c =
-    let again = found_again c.self.inside.index.nodes.items c.args.self.now c.in-Some.number (record { label = c.args.label; children = c.in_ok-listed.field-0 }) c.args.children.now c.self.view_is c.self.invariant.0 c.requires.within c.in_ok-listed.ensures c.in-Some.ensures.found in
-    ap (λ ts. tree_at ts (record { number = c.in-Some.number })) c.self.view_is ∙ again.is
+    let again = found_again c.self.inside.index.nodes.items c.args.self.now c.in-Some.number (record { label = c.args.label; children = c.in_ok-of.field-0 }) c.args.children.now c.self.view_is c.self.invariant.0 c.requires.within c.in_ok-of.ensures c.in-Some.ensures.found in
+    again.is
 
 pub returns-in-Some-clause-one : goal.returns-in-Some-clause-one
 returns-in-Some-clause-one c =
-    let again = found_again c.self.inside.index.nodes.items c.args.self.now c.in-Some.number (record { label = c.args.label; children = c.in_ok-listed.field-0 }) c.args.children.now c.self.view_is c.self.invariant.0 c.requires.within c.in_ok-listed.ensures c.in-Some.ensures.found in
-    subst (λ ts. IsTheOne ts (record { number = c.in-Some.number })) (sym c.self.view_is) again.one
+    let again = found_again c.self.inside.index.nodes.items c.args.self.now c.in-Some.number (record { label = c.args.label; children = c.in_ok-of.field-0 }) c.args.children.now c.self.view_is c.self.invariant.0 c.requires.within c.in_ok-of.ensures c.in-Some.ensures.found in
+    again.one
 
 pub returns-in-Some-clause-extends : goal.returns-in-Some-clause-extends
-returns-in-Some-clause-extends c = subst (Extends c.args.self.now) (sym c.self.view_is) (Extends-refl c.args.self.now)
+returns-in-Some-clause-extends c = Extends-refl c.args.self.now
 
 abbrev shape_made : (c : goal.In_ok-number) → Shape
-shape_made c = record { label = c.args.label; children = c.in_ok-listed.field-0 }
+shape_made c = record { label = c.args.label; children = c.in_ok-of.field-0 }
 
 abbrev node_made : (c : goal.In_ok-number) → Node
 node_made c =
-    record { label = c.args.label; children = c.in_ok-copied.field-0; flags = c.flags_under.result; is_well_bound = c.in_ok-is_well_bound_under.field-0 }
+    record { label = c.args.label; children = c.in_ok-of-2.field-0; flags = c.flags_under.result; is_well_bound = c.in_ok-is_well_bound_under.field-0 }
 
 has_shape : (c : goal.In_ok-number) → HasShape (node_made c) (shape_made c)
-has_shape c = record { label = refl; children = c.in_ok-copied.ensures ∙ sym c.in_ok-listed.ensures }
+has_shape c = record { label = refl; children = c.in_ok-of-2.ensures ∙ sym c.in_ok-of.ensures }
 
 kept : (c : goal.In_ok-number) → Kept c.self.inside.index.nodes.items c.add.new.self.nodes.items
 kept c =
     kept_more c.self.inside.index c.add.new.self.nodes.items (node_made c) (shape_made c) c.self.invariant.0 c.self.invariant.1
-    (is_node c.self.inside.index.nodes.items c.args.self.now (node_made c) c.args.children.now c.self.view_is c.requires.within c.in_ok-copied.ensures c.requires.formed
-    (c.flags_under.ensures ∙ ap (λ ts. flags_of (node c.args.label (trees_at ts c.args.children.now))) c.self.view_is)
-    (subst (λ ts. IsTrue c.in_ok-is_well_bound_under.field-0 ↔ IsWellBound (node c.args.label (trees_at ts c.args.children.now))) c.self.view_is c.in_ok-is_well_bound_under.ensures))
+    (is_node c.self.inside.index.nodes.items c.args.self.now (node_made c) c.args.children.now c.self.view_is c.requires.within c.in_ok-of-2.ensures c.requires.formed
+    c.flags_under.ensures
+    c.in_ok-is_well_bound_under.ensures)
     (has_shape c) (c.in_default.ensures.absent refl) c.in_ok-number.ensures.nodes
 
 result_is : (c : goal.In_ok-number) → IsMade c.args.self.now (trees c.add.new.self.nodes.items) c.in_ok-number.number c.args.label c.args.children.now
 result_is c =
-    made_anew c.self.inside.index c.add.new.self.nodes.items (node_made c) c.args.self.now c.in_ok-number.number (shape_made c) c.args.children.now c.self.view_is (kept c) c.requires.within c.in_ok-listed.ensures (has_shape c) c.in_ok-number.ensures.number c.in_ok-number.ensures.nodes
+    made_anew c.self.inside.index c.add.new.self.nodes.items (node_made c) c.args.self.now c.in_ok-number.number (shape_made c) c.args.children.now c.self.view_is (kept c) c.requires.within c.in_ok-of.ensures (has_shape c) c.in_ok-number.ensures.number c.in_ok-number.ensures.nodes
 
-pub invariant_of-self-4 : goal.invariant_of-self-4
-invariant_of-self-4 c = ((kept c).shared, c.in_ok-number.ensures.index)
+pub invariant_of-self-2 : goal.invariant_of-self-2
+invariant_of-self-2 c = ((kept c).shared, c.in_ok-number.ensures.index)
 
 pub returns-clause-within : goal.returns-clause-within
 returns-clause-within c = (result_is c).within
