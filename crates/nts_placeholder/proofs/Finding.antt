@@ -12,7 +12,7 @@ use Rattle.nts_model.specs.declared.labels.Label.{Label}
 use Rattle.nts_model.specs.declared.labels.Label.TheVariants as label
 use Rattle.nts_model.specs.Terms.Trees.{Tree, empty, more, node, binders, row_length, row_at, row_take, IsRow, IsBoundBelow, IsClosedUnder}
 use Rattle.nts_store.specs.Levels.{above}
-use Rattle.nts_store.proofs.Equal.{one_answer}
+use Rattle.nts_store.specs.Equal.{one_answer}
 use Rattle.nts_store.proofs.Growing.{row_take-all}
 use Rattle.nts_store.proofs.Pending.{cmp-equal, above-insert, above-last, above-all}
 use Rattle.nts_placeholder.specs.declared.maps.BoundVar.{BoundVar}

@@ -33,7 +33,7 @@ use Rattle.nts_relating.proofs.Naming.{lawful_sides, alone_label}
 use Rattle.nts_model.proofs.Tables.Bringing.{brings-of, brings-refl}
 use Rattle.nts_relating.proofs.Plain.{plain_refl}
 use Rattle.nts_relating.proofs.PairLemmas.{Stepped, PairsBring-last, last_pair, all_sides_at-push, all_sides_at-extended, ArePairsIn-push, ArePairsIn-front, ArePairsIn-extended, Equates-push, Equates-front, AllAlike-push, total-last, not_infer, variables_related, variable_same}
-use Rattle.nts_store.proofs.Equal.{same_id}
+use Rattle.nts_store.specs.Equal.{same_id}
 use Rattle.nts_unify.proofs.Tests.{is_true, is_false}
 
 -- nodes that are no variables

@@ -5,7 +5,7 @@ use Rattle.nts_store.specs.declared.index.Shape.{Shape}
 use Rattle.nts_store.specs.declared.index.Index.{Index}
 use Rattle.nts_store.specs.contracts.index.ShapePartialEq.TheImpl as shape_eq
 use Rattle.nts_store.specs.Index.{HasShape, HasShapeAt, number_in, IsIndex}
-use Rattle.nts_store.proofs.Equal.{one_shape, shape_one}
+use Rattle.nts_store.specs.Equal.{one_shape, shape_one}
 use Rattle.nts_store.proofs.Inserting.{last_has}
 
 -- what has a shape at a place has it where one more stands behind

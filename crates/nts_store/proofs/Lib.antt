@@ -1,4 +1,3 @@
-pub mod Equal
 pub mod Escaping
 pub mod Filling
 pub mod Forming

@@ -1,4 +1,5 @@
 pub mod Children
+pub mod Equal
 pub mod Errors
 pub mod TypeFlags
 pub mod Filled
@@ -8,5 +9,6 @@ pub mod Kept
 pub mod Levels
 pub mod Sorts
 pub mod Store
+pub mod Words
 pub mod Index
 pub use Rattle.nts_model

@@ -1,16 +1,12 @@
 //! The children of a node.
 ghost use Rattle.std.specs.Prelude.{◌≡◌, IfOk};
-ghost use Rattle.std.specs.Cmp.{unsigned_Decides, nat_eq_equiv, partial_equiv_from_equiv, on_equiv, on_per};
+ghost use Rattle.std.specs.Cmp.{nat_eq_equiv, partial_equiv_from_equiv, on_equiv, on_per};
 ghost use Rattle.std.specs.Cmp.Lexicographic.{pointwise, lists_per, lists_equiv};
-ghost use Rattle.std.specs.Hash as fed;
-ghost use Rattle.std.specs.Hash.{on_Alike, items_Alike, same_Alike};
 ghost use Rattle.nts_store.specs.Children.{listed};
 ghost use Rattle.nts_store.specs.contracts.nodes.NodeIdPartialEq.TheImpl as id_eq;
-ghost use Rattle.nts_store.specs.contracts.nodes.NodeIdHash.TheImpl as id_hash;
 
 use crate::nodes::NodeId;
 use std::alloc::{AllocError, Global};
-use std::hash::{Hash, Hasher};
 
 /// A list of terms. Most nodes have at most two children, and these take no memory of their own.
 #[derive(Drop)]
@@ -64,15 +60,4 @@ impl PartialEq for Children {
 
 impl Eq for Children {
     ghost laws = { on_equiv listed (lists_equiv (on_equiv (λ t. t.number) nat_eq_equiv)) };
-}
-
-impl Hash for Children {
-    ghost hash_input = { λ v. fed.slice id_hash.ghosts.hash_input (listed v) };
-
-    ghost respects_eq = { (on_Alike listed (items_Alike (on_Alike (λ t. t.number)
-        (same_Alike fed.usize unsigned_Decides)))).fed };
-
-    fn hash<H: Hasher>(&self, state: &mut H) {
-        self.as_slice().hash(state);
-    }
 }

@@ -1,18 +1,35 @@
 //! The nodes of a store, and where each of them stands.
 ghost use Rattle.std.specs.Prelude.{◌≡◌, ◌++◌, ◌∷◌, [], length, IfOk, IfSome, OnErr, None};
+ghost use Rattle.std.specs.Hash as fed;
+ghost use Rattle.nts_store.specs.Children.{listed};
+ghost use Rattle.nts_store.specs.Words.{label_word, with_all};
 ghost use Rattle.nts_store.specs.Index.{IsIndex, HasShape, HasShapeAt, number_in};
+ghost use Rattle.nts_store.specs.Equal.{one_word};
 
 use crate::children::Children;
 use crate::nodes::Node;
+use crate::words::word_of;
 use nts_model::Label;
 use std::alloc::{AllocError, Global};
 use std::collections::HashMap;
+use std::hash::{Hash, Hasher};
 
 /// The label and the children of a node, by which it is found.
-#[derive(PartialEq, Eq, Hash, Drop)]
+#[derive(PartialEq, Eq, Drop)]
 pub(crate) struct Shape {
     pub label: Label,
     pub children: Children,
+}
+
+/// It is written as one number, where `derive` would write a dozen.
+impl Hash for Shape {
+    ghost hash_input = { λ s. fed.u64 (with_all (label_word s.label) (listed s.children)) };
+
+    ghost respects_eq = { one_word };
+
+    fn hash<H: Hasher>(&self, state: &mut H) {
+        state.write_u64(word_of(self.label, self.children.as_slice()));
+    }
 }
 
 /// Nodes in the order in which they were made, and the number of each by its shape.

@@ -14,6 +14,7 @@ mod levels_walk;
 mod nodes;
 mod sorts;
 mod type_flags;
+mod words;
 
 pub use fault::{EvalError, Fault};
 pub use labels_walk::{LabelTest, all_labels};

@@ -25,7 +25,7 @@ use Rattle.nts_unify.specs.Reading.{recorded_of, content_of, IsConstraint, AreCo
 use Rattle.nts_unify.specs.Lawful.{content_of-extended, IsLawful-extended, AreConstraints-push}
 use Rattle.nts_model.specs.Tables.Recording.{resolved_constraint, resolved_constraints, RelatesSame, IsAmong, SaysNothingNew, AreNews, none, passed, told}
 use Rattle.nts_table.specs.Deduplicated.{said, SidesIn, AllSidesIn, TellsConstraint}
-use Rattle.nts_store.proofs.Equal.{both_true, same_id}
+use Rattle.nts_store.specs.Equal.{both_true, same_id}
 use Rattle.nts_store.proofs.Inserting.{term-apart as one_term}
 
 RelatesSame-trans : {x y z : Recorded} → RelatesSame x y → RelatesSame y z → RelatesSame x z

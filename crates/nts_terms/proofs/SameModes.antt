@@ -9,7 +9,7 @@ use Rattle.nts_terms.specs.declared.modes.TypingMode.{TypingMode}
 use Rattle.nts_terms.specs.declared.modes.TypingMode.TheVariants as mode
 use Rattle.nts_terms.specs.contracts.modes.TypingModePartialEq.TheImpl as mode_eq
 use Rattle.nts_terms.specs.Modes.{numbers_of, mode_of}
-use Rattle.nts_store.proofs.Equal.{both_true}
+use Rattle.nts_store.specs.Equal.{both_true}
 
 same_alias : (a b : AliasId) → IsTrue (id_eq.ghosts.eq a b) ↔ (a.number ≡ b.number)
 same_alias a b = search rules

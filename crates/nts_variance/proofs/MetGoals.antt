@@ -12,7 +12,7 @@ use Rattle.nts_store.specs.contracts.nodes.NodeIdPartialEq.TheImpl as id_eq
 use Rattle.nts_variance.specs.declared.along.Relating.{Relating}
 use Rattle.nts_variance.specs.contracts.along.RelatingPartialEq.TheImpl as goal_eq
 use Rattle.nts_variance.specs.Terms.{pair_at, pairs_at}
-use Rattle.nts_store.proofs.Equal.{same_id}
+use Rattle.nts_store.specs.Equal.{same_id}
 
 same_variance : (a b : Variance) → IsTrue (variance_eq.ghosts.eq a b) ↔ (a ≡ b)
 same_variance a b = search rules

@@ -1,5 +1,5 @@
 use Rattle.std.proofs.Common.{◌≡◌, true, sym, ◌∙◌}
-use Rattle.nts_terms.specs.nts_store.proofs.Equal.{same_label}
+use Rattle.nts_terms.specs.nts_store.specs.Equal.{same_label}
 use Rattle.nts_unify.proofs.labels.is_same.Goals as goal
 
 pub returns-clause-yes : goal.returns-clause-yes

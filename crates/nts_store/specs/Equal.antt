@@ -9,6 +9,8 @@ use Rattle.nts_store.specs.contracts.nodes.NodeIdPartialEq.TheImpl as id_eq
 use Rattle.nts_store.specs.declared.index.Shape.{Shape}
 use Rattle.nts_store.specs.contracts.index.ShapePartialEq.TheImpl as shape_eq
 use Rattle.nts_store.specs.Children.{listed}
+use Rattle.std.specs.Hash as fed
+use Rattle.nts_store.specs.Words.{label_word, with_all}
 
 pub same_label : (a b : Label) → IsTrue (label_eq.ghosts.eq a b) ↔ (a ≡ b)
 same_label a b = search rules
@@ -42,3 +44,7 @@ one_shape a b h = (both_true _ _ _ _ (same_label a.label b.label) (same_ids (lis
 
 pub shape_one : (a b : Shape) → a.label ≡ b.label → listed a.children ≡ listed b.children → IsTrue (shape_eq.ghosts.eq a b)
 shape_one a b l c = (both_true _ _ _ _ (same_label a.label b.label) (same_ids (listed a.children) (listed b.children))).1 (l, c)
+
+-- .. so equal shapes are hashed alike
+pub one_word : (a b : Shape) → IsTrue (shape_eq.ghosts.eq a b) → fed.u64 (with_all (label_word a.label) (listed a.children)) ≡ fed.u64 (with_all (label_word b.label) (listed b.children))
+one_word a b h = let w = one_shape a b h in let l = w.0 in let c = w.1 in cc
