@@ -45,7 +45,9 @@ use Rattle.nts_variance.specs.Taking.{Takes, IsPairSide}
 use Rattle.nts_variance.specs.Equating.{GoalsRelate}
 use Rattle.nts_variance.specs.Rows.{IsListOf, RowsRelate, RefusesRows}
 use Rattle.nts_variance.proofs.Growing.{grown_refl}
+use Rattle.nts_variance.specs.Passing.{is_no_alias}
 use Rattle.nts_variance.proofs.Passes.{resolved_passes}
+use Rattle.nts_variance.proofs.Founding.{rows_no_alias}
 use Rattle.nts_unify.specs.Changing.{IsLater}
 use Rattle.nts_relating.specs.Relating.{IsPlainIn, KeepsPlain}
 use Rattle.nts_variance.proofs.Plainly.{takes_plain, takes_plain_lists, refuses_plain, refuses_plain_lists}
@@ -311,6 +313,7 @@ module _ (declared : ℕ → List Variance) where
               (rw (← under_resolved c f a sound ka first, ← under_resolved c f b sound kb first) r.0, tt));
         };
         passes = λ P p h i. t.passes P p h (resolved_passes P p c a h i.0, resolved_passes P p c b h i.1, tt);
+        founds = λ h i. t.founds h (resolved_passes is_no_alias rows_no_alias c a h i.0, resolved_passes is_no_alias rows_no_alias c b h i.1, tt);
       }
 
   -- in a tree as resolved no variable has a value

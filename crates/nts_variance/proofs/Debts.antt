@@ -142,9 +142,8 @@ owe_value n v t w k xs ss is lower own closed same varies h = λ s m.
     (let below = m.closed 0 closed in
     let kinds = m.kind ∙ same in
     let sorted = type_kind t k is in
-    let other : IsNoOlder n t s = λ j e less q.
-    (let mine : IsTypeVariable s j = subst (λ x. IsTypeVariable x j) (sym q) e in
-    ⊎_elim (λ p. (let two = type_rank w p.0 p.1 in let first = type_rank t k is in omega (arith, two, first, lower))) (λ p. (let from = p.1 in omega (arith, less, from))) (m.variable varies j mine)) in
+    let other : IsNoOlder n t s = λ j e less i mine.
+    ⊎_elim (λ p. (let two = type_rank w p.0 p.1 in let first = type_rank t k is in absurd (omega (arith, two, first, lower)))) (λ p. p.1) (m.variable varies i mine) in
     (record { left = below; right = own; kinds = kinds; rests = inr (varies, kinds ∙ sorted, sorted) }, other, h s (like_closed n v t s below kinds (λ z j e. inl (k, is)))))
 
 -- by equal lists

@@ -40,6 +40,8 @@ mod DueHeads
 pub mod GoalLemmas
 mod Arguments
 pub mod SubRoots
+pub mod Founding
 pub mod Plainly
 mod Bareness
 mod DueExamples
+mod FoundingExamples

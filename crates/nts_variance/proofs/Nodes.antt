@@ -40,6 +40,7 @@ use Rattle.nts_variance_model.proofs.Variances.Generalizing.{settle_joined}
 use Rattle.nts_variance_model.proofs.Variances.SettleRows.{settles_turned, empty_forward, more_beside}
 use Rattle.nts_variance_model.proofs.Variances.Forms.{IsRow-inst, row_length-inst, inst-over, FitsForm-inst, deeply_resolved-over, FitsForm-deeply_resolved, variances_over_length, variances_over_inst, variances_over_resolved, Knows-over, KeepsListed-over, related_over, form_beside, head_closed}
 use Rattle.nts_variance.proofs.Growing.{grown_refl}
+use Rattle.nts_variance.proofs.Founding.{founds_none}
 use Rattle.nts_variance.specs.Steps.{WalkStep, enter, build, owe, steps_of, popped, unpopped, entering, part_place, PartsFit, kinds_left, kind_over, EndsAlone, HasSorts, builds, sizes, StepsLead, ended, entered, built, owed, MadeForRow}
 use Rattle.nts_variance.specs.Parts.{IsAlone}
 use Rattle.nts_variance.specs.Walking.{IsMadeFor, MadeIn, NothingOwed, RelatedTrees, RelatedSides, StandsBy, OwedBy, IsChoice, SettlesOwed, sides, step_weights, KnowsSteps, Walks}
@@ -531,6 +532,7 @@ module _ (declared : ℕ → List Variance) (z : Bool) (u : ℕ) where
               runs = subst (λ ys. StepsLead P Q ys (map g ss) whole) (sym (steps_node g (inst_rows w) F v ws q ts xs row)) all;
               goals = goals;
             });
+        founds = λ h a b k. founds_none c;
         passes = λ P p h a b k. (let x = over_parted P F ts a.0 in (h, entering_passes P v ws q ts (build F (row_length ts) ∷ xs) x.1 (x.0, a.1), b, k));
       }
 
@@ -563,6 +565,7 @@ module _ (declared : ℕ → List Variance) (z : Bool) (u : ℕ) where
               runs = subst (λ t. StepsLead P Q (steps_of g xs) (t ∷ map g ss) whole) (sym (inst_built w F rs sorts)) two;
               goals = goals;
             });
+        founds = λ h a b k. founds_none c;
         passes = λ P p h a b k. (let x = popped_passes P rs ss row b in (h, a.1, (over_passes P F rs a.0 x.0, x.1), k));
       }
 
@@ -596,6 +599,7 @@ module _ (declared : ℕ → List Variance) (z : Bool) (u : ℕ) where
               runs = entered (choice_value J u whole v false true (g t) (g value) x.made (is w h) x.fits) (owed f.settles x.runs);
               goals = goals;
             });
+        founds = λ h a b k. founds_none c;
         passes = λ P p h a b k. (h, (labels P h, (a.0, a.1)), b, k);
       }
 
@@ -625,6 +629,7 @@ module _ (declared : ℕ → List Variance) (z : Bool) (u : ℕ) where
               runs = entered (choice_value J u whole v q q (g t) (g value) x.made (is w h) x.fits) x.runs;
               goals = goals;
             });
+        founds = λ h a b k. founds_none c;
         passes = λ P p h a b k. (h, (labels P h, a.1), b, k);
       }
 
@@ -648,5 +653,6 @@ module _ (declared : ℕ → List Variance) (z : Bool) (u : ℕ) where
               runs = x.runs;
               goals = settle_joined J j.lawful w gs (sides z v r t ∷ []) goals (settles_sides z J j.lawful w v r t x.fits, tt);
             });
+        founds = λ h a b k. founds_none c;
         passes = λ P p h a b k. (h, a.1, b, pass_joined P gs (sides z v r t ∷ []) k (sides_pass P z v r t b.0 a.0));
       }

@@ -91,6 +91,7 @@ module _ (declared : ℕ → List Variance) where
         };
         sound = λ w n h. u.sound w n (back w n h.0, h.1);
         meets = λ w n q i h. u.meets w n q i ((λ l. back w n (h.0 (subst (λ t. size t < size_in declared w q) (left_one w n) l))), h.1);
+        founds = u.founds;
         passes = λ P o h k. (let q = u.passes P o h k in let first = q.1 in (q.0, (sa.labels P q.0 first.0, sb.labels P q.0 first.1, first.2), q.2, q.3));
       }
     where

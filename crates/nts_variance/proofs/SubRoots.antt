@@ -89,7 +89,7 @@ later_place f g k n l = by (ltb n k) refl
     by true e = (let less = ltb-true n k e in absurd (omega (arith, less, l)))
     by false e = rw e refl
 
-either_place : (n k : ℕ) → (n < k) ⊎ (k ≤ n)
+pub either_place : (n k : ℕ) → (n < k) ⊎ (k ≤ n)
 either_place n k = by (ltb n k) refl
   where
     not_less : (n < k → ⊥) → k ≤ n

@@ -1,7 +1,7 @@
 -- Rows of taking pairs: what each leaves.
 use Rattle.std.proofs.Common.{◌≡◌, ◌⊎◌, inl, ⊎_elim, ℕ, Bool, true, false, List, [], ◌∷◌, Some, refl, sym, subst}
 use Rattle.std.proofs.lemmas.List.Elements.{Contains-push}
-use Rattle.nts_variance.specs.Passing.{PairsPass}
+use Rattle.nts_variance.specs.Passing.{PairsPass, is_no_alias}
 use Rattle.nts_model.proofs.Tables.Bringing.{brings-with_constraint}
 use Rattle.nts_model.specs.Tables.Passing.{TreePasses, BringsLabelsOf}
 use Rattle.nts_model.specs.declared.labels.Label.{Label}
@@ -48,7 +48,9 @@ use Rattle.nts_variance.specs.declared.along.Relating.{Relating as Goal}
 use Rattle.nts_variance.specs.Terms.{pairs_at}
 use Rattle.nts_variance.specs.Pairs.{IsBound}
 use Rattle.nts_variance.specs.Taking.{Takes}
+use Rattle.nts_model.proofs.Tables.Tying.{TiesNew-same}
 use Rattle.nts_variance.proofs.Growing.{grown_refl, grown_later}
+use Rattle.nts_variance.proofs.Founding.{founds_none, founds_tied}
 use Rattle.nts_variance.proofs.Leaves.{inst_settled, kept_kinds, owed_seen, owed_related}
 use Rattle.nts_variance.proofs.Likeness.{sides_related}
 use Rattle.nts_variance.proofs.Pairs.{leaves_by, Leaves-fewer}
@@ -75,6 +77,7 @@ module _ (declared : ℕ → List Variance) where
         relates = record {
           related = λ f s on ks g h. (subst (Related declared (λ t. Unit {0}) (λ x. HoldsConstraint f (recorded_as x)) (Among ks) v (deeply_resolved f a)) (one f on) (one_tree tt), tt);
         };
+        founds = λ h k. founds_none c;
         passes = λ P p h k. (h, tt, tt);
       }
 
@@ -92,6 +95,7 @@ module _ (declared : ℕ → List Variance) where
         leaves = leaves_by declared c (with_constraint c x) (pair_of v a b ∷ []) [] []
             (λ q. leaves_regions (judging_of declared q) q.lawful c v a b (λ w s. Fits-inst c w kind.Region a s.fitting ka i) (λ w s. Fits-inst c w kind.Region b s.fitting kb j));
         relates = record { related = λ f s on ks g h. (owed_related declared f ks v a b s i j (on.constraints x (Contains-push c.constraints x)), tt) };
+        founds = λ h k. founds_tied c (with_constraint c x) (λ n j q. q) (TiesNew-same c (with_constraint c x) refl);
         passes = λ P p h k. ((let sides = owed_passes P v a b k.0 k.1 in let y = brings-with_constraint c x in y.labels P (p.variables) h sides.0 sides.1), tt, tt);
       }
 
@@ -105,6 +109,7 @@ module _ (declared : ℕ → List Variance) where
         leaves = leaves_by declared c c (pair_of v (over F ts) (over F us) ∷ []) (pairs_over v (variances_over declared F us) ts us) []
             (λ j. leaves_over (judging_of declared j) j.lawful c v F ts us r q e f g k l m n);
         relates = relates_over declared c v F ts us r q e f g k l m n;
+        founds = λ h i. founds_none c;
         passes = λ P p h i. (let x = over_parted P F ts i.0 in let y = over_parted P F us i.1 in (h, pairs_pass P v (variances_over declared F us) ts us x.1 y.1, tt));
       }
 
@@ -141,6 +146,7 @@ module _ (declared : ℕ → List Variance) where
             tt,
           );
         };
+        founds = λ h i. founds_tied c d later.kinds ties;
         passes = λ P p h i. (brings.labels P (p.variables) h i.0 i.1, tt, tt);
       }
 
@@ -186,5 +192,6 @@ module _ (declared : ℕ → List Variance) where
               (let there = AreOne-continues c g o own (Continues-trans c d g sound b.continues on) knows ((has, tt, refl), tt, tt) one in
               sides_under z g ks v o term (subst (λ y. RelatedSides z declared g ks v y (deeply_resolved g term)) (sym there) (b.related g s on ks answered)));
         };
+        founds = λ h i. b.founds h (side_term z v o term is_no_alias i);
         passes = λ P p h i. (let y = b.passes P p h (side_term z v o term P i) in (y.0, tt, y.1));
       }
