@@ -1,15 +1,18 @@
--- Type variables that are made for older ones, and one that is not, over tables of the type variables ?a and ?b.
-use Rattle.std.proofs.Common.{◌≡◌, ℕ, zero, suc, ◌≤◌, List, [], ◌∷◌, Option, Some, None, false, true, refl, sym, ap, ◌∙◌, arith}
+-- A variable that is made for an older one, and one that is not, over tables of the type variables ?a and ?b.
+use Rattle.std.proofs.Common.{◌≡◌, ℕ, zero, suc, ◌≤◌, [], ◌∷◌, Option, Some, None, refl, sym, ap, ◌∙◌, arith}
+use Rattle.nts_model.specs.declared.labels.VariableKind.{VariableKind}
 use Rattle.nts_model.specs.declared.labels.VariableKind.TheVariants as kind
 use Rattle.nts_model.specs.declared.labels.AliasHead.TheVariants as alias_of
 use Rattle.nts_model.specs.Terms.Trees.{Tree, empty, label_of, variable_tree}
 use Rattle.nts_model.specs.Tables.Contents.{Content, unset, kind_at, sub_link_of}
 use Rattle.nts_model.specs.Tables.Resolving.{deeply_resolved}
 use Rattle.nts_model.specs.Tables.SubUnifying.{SharesSubRoot, itself, linked, turned, through}
-use Rattle.nts_model.specs.Tables.Passing.{TreePasses}
 use Rattle.nts_model.specs.Derivations.Related.{constructor, alias}
-use Rattle.nts_variance.specs.Passing.{is_no_alias}
-use Rattle.nts_variance.specs.SubRoots.{AreAkin, shared, one, by_way, FoundsTypes}
+use Rattle.nts_variance_model.specs.Variances.Relations.{Relating}
+use Rattle.nts_model.specs.declared.labels.Variance.TheVariants as variance
+use Rattle.nts_variance.specs.Plain.{ArePairsPlain, StaysPlain}
+use Rattle.nts_variance.proofs.PlainTerms.{stays_none}
+use Rattle.nts_variance.specs.SubRoots.{AreAkin, shared, one, by_way, FoundsVariables}
 
 -- List, an alias, and the two type variables
 abbrev list_type : Tree
@@ -35,13 +38,18 @@ b_is_akin : AreAkin (with_b (Some 0)) 1 0
 b_is_akin = shared (linked refl)
 
 -- .. and so a table with ?b besides was made from the one of ?a
-b_is_founded : FoundsTypes only_a (with_b (Some 0))
-b_is_founded = record { founded = λ n new has. (0, refl, akin n new has) }
+b_is_founded : FoundsVariables only_a (with_b (Some 0))
+b_is_founded = record { founded = λ n k new has fits. (0, of_kind n k new has, akin n k new has) }
   where
-    akin : (n : ℕ) → 1 ≤ n → kind_at (with_b (Some 0)) n ≡ Some kind.Ty → AreAkin (with_b (Some 0)) n 0
-    akin zero new has = absurd (omega (arith, new))
-    akin (suc zero) new has = b_is_akin
-    akin (suc (suc n)) new has = cc has
+    of_kind : (n : ℕ) (k : VariableKind) → 1 ≤ n → kind_at (with_b (Some 0)) n ≡ Some k → kind_at only_a 0 ≡ Some k
+    of_kind zero k new has = absurd (omega (arith, new))
+    of_kind (suc zero) k new has = has
+    of_kind (suc (suc n)) k new has = cc has
+
+    akin : (n : ℕ) (k : VariableKind) → 1 ≤ n → kind_at (with_b (Some 0)) n ≡ Some k → AreAkin (with_b (Some 0)) n 0
+    akin zero k new has = absurd (omega (arith, new))
+    akin (suc zero) k new has = b_is_akin
+    akin (suc (suc n)) k new has = cc has
 
 -- where no link leads from one to another, each variable is akin to itself alone
 alone_is_akin : {n m : ℕ} → AreAkin (with_b None) n m → n ≡ m
@@ -57,29 +65,41 @@ alone_is_akin (shared h) = one_class h
     one_class (linked {n} {m} e) = absurd (no_link n m e)
     one_class (turned h) = sym (one_class h)
     one_class (through h k) = one_class h ∙ one_class k
-alone_is_akin (one {n} {m} h k e) = of_both n m h k (ap label_of e)
+alone_is_akin (one {n = n} {m = m} {k = j} h k e) = of_both n m j h k (ap label_of e)
   where
-    of_both : (n m : ℕ) → kind_at (with_b None) n ≡ Some kind.Ty → kind_at (with_b None) m ≡ Some kind.Ty → label_of (deeply_resolved (with_b None) (variable_tree kind.Ty n)) ≡ label_of (deeply_resolved (with_b None) (variable_tree kind.Ty m)) → n ≡ m
-    of_both zero zero h k e = refl
-    of_both zero (suc zero) h k e = cc e
-    of_both (suc zero) zero h k e = cc e
-    of_both (suc zero) (suc zero) h k e = refl
-    of_both zero (suc (suc m)) h k e = cc k
-    of_both (suc zero) (suc (suc m)) h k e = cc k
-    of_both (suc (suc n)) m h k e = cc h
+    of_both : (n m : ℕ) (j : VariableKind) → kind_at (with_b None) n ≡ Some j → kind_at (with_b None) m ≡ Some j → label_of (deeply_resolved (with_b None) (variable_tree j n)) ≡ label_of (deeply_resolved (with_b None) (variable_tree j m)) → n ≡ m
+    of_both zero zero j h k e = refl
+    of_both (suc zero) (suc zero) j h k e = refl
+    of_both zero (suc zero) kind.Ty h k e = cc e
+    of_both zero (suc zero) j h k e = cc h
+    of_both (suc zero) zero kind.Ty h k e = cc e
+    of_both (suc zero) zero j h k e = cc h
+    of_both zero (suc (suc m)) j h k e = cc k
+    of_both (suc zero) (suc (suc m)) j h k e = cc k
+    of_both (suc (suc n)) m j h k e = cc h
 alone_is_akin (by_way h k) = alone_is_akin h ∙ alone_is_akin k
 
 -- so ?b was made for no variable of the table of ?a where it joins no class
-b_alone_is_not_founded : FoundsTypes only_a (with_b None) → ⊥
-b_alone_is_not_founded f = (let x = f.founded 1 (omega arith) refl in let same : 1 ≡ x.0 = alone_is_akin x.2 in none x.0 same x.1)
+b_alone_is_not_founded : FoundsVariables only_a (with_b None) → ⊥
+b_alone_is_not_founded f = (let x = f.founded 1 kind.Ty (omega arith) refl (λ e. cc e) in let same : 1 ≡ x.0 = alone_is_akin x.2 in none x.0 same x.1)
   where
     none : (m : ℕ) → 1 ≡ m → kind_at only_a m ≡ Some kind.Ty → ⊥
     none zero e h = cc e
     none (suc m) e h = cc h
 
--- no alias stands in List, and one stands in an alias
-list_has_no_alias : TreePasses is_no_alias list_type
-list_has_no_alias = (refl, ((refl, tt), tt))
+-- no alias stands in List and List, and one stands in List and an alias
+abbrev beside : Tree → Tree → Relating
+beside a b = record { variance = variance.Covariant; left = a; right = b }
 
-item_is_an_alias : TreePasses is_no_alias item → ⊥
-item_is_an_alias h = (let e : false ≡ true = h.0 in cc e)
+lists_are_plain : ArePairsPlain only_a (beside list_type list_type ∷ [])
+lists_are_plain = ((refl, refl), tt)
+
+alias_is_not_plain : ArePairsPlain only_a (beside list_type item ∷ []) → ⊥
+alias_is_not_plain h = (let sides = h.0 in let e = sides.1 in cc e)
+
+-- a table stays plain as it is, and not where ?b is made for no variable of it
+same_stays_plain : StaysPlain only_a only_a
+same_stays_plain = stays_none only_a
+
+alone_stays_not_plain : StaysPlain only_a (with_b None) → ⊥
+alone_stays_not_plain h = b_alone_is_not_founded h.founds

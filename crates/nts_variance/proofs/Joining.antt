@@ -87,7 +87,7 @@ module _ (declared : ℕ → List Variance) where
               (let there : deeply_resolved g a ≡ deeply_resolved g b = AreOne-later c d g a b m.continues on ka kb one in
               (subst (Related declared (λ t. Unit {0}) (λ z. HoldsConstraint g (recorded_as z)) (Among ks) v (deeply_resolved g a)) there (one_tree tt), tt));
         };
-        founds = λ h i. (let l = m.later in founds_tied c d l.kinds m.ties);
+        plain = λ h. (let l = m.later in (record { keeps = m.plain; founds = founds_tied c d l.kinds m.ties }, tt));
         passes = λ P p h i. ((let y = m.brings in y.labels P (p.variables) h), tt, tt);
       }
     where

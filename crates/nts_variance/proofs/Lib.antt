@@ -41,6 +41,7 @@ pub mod GoalLemmas
 mod Arguments
 pub mod SubRoots
 pub mod Founding
+pub mod PlainTerms
 pub mod Plainly
 mod Bareness
 mod DueExamples

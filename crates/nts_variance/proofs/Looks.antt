@@ -64,12 +64,12 @@ use Rattle.nts_variance.proofs.PartLemmas.{IsOverParts, over_parts}
 use Rattle.nts_relating.proofs.Ranks.{kind_of-like}
 use Rattle.nts_variance.proofs.Debts.{closed_patched, like_itself, like_closed, goal_sides, ranked_type, type_kind, type_rank}
 use Rattle.nts_variance.proofs.Dues.{reaches_later, due_sides, fresh_number, one_number, two_owed, variables_turned}
-use Rattle.nts_model.specs.Tables.Passing.{TreePasses}
 use Rattle.nts_model.proofs.Tables.Roots.{kind_at-reaches}
-use Rattle.nts_variance.specs.Passing.{is_no_alias}
-use Rattle.nts_variance.specs.SubRoots.{FoundsTypes}
+use Rattle.nts_relating.specs.Relating.{IsPlainIn}
+use Rattle.nts_variance.specs.SubRoots.{FoundsVariables}
 use Rattle.nts_variance.proofs.Growing.{grown_slot}
-use Rattle.nts_variance.proofs.Founding.{no_alias_tree, founds_slot}
+use Rattle.nts_variance.proofs.Founding.{founds_slot}
+use Rattle.nts_variance.proofs.PlainTerms.{plain_no_alias}
 use Rattle.nts_variance.proofs.CountedPieces.{counted_fresh, counted_region, counted_recorded, counted_piece}
 use Rattle.nts_variance.proofs.Leaves.{owed_by, owed_goals, made_plain, counted_plain, made_fresh, made_region, made_region_quietly}
 use Rattle.nts_variance.proofs.Pieces.{made_piece, plain_unset}
@@ -207,12 +207,13 @@ fresh_like c t k o n m (inr a) linked_to low p =
     inr (a, omega (arith, low, new))
 
 -- .. and is made for a type variable, where there are no aliases
-fresh_founds : (c : Content) (s : Slot) (t : Tree) → IsSound c → Knows c t → IsInfer t ⊎ IsAlias t → (IsInfer t → IsLinkedTo c t s.sub_link) → TreePasses is_no_alias t → FoundsTypes c (with_slot c s)
-fresh_founds c s t sound knows (inl i) linked_to h =
-    let l = linked_to i in
+fresh_founds : (c : Content) (s : Slot) (t : Tree) → IsSound c → Knows c t → IsInfer t ⊎ IsAlias t → (IsInfer t → (s.kind ≡ kind.Ty) × IsLinkedTo c t s.sub_link) → IsPlainIn c t → FoundsVariables c (with_slot c s)
+fresh_founds c s t sound knows (inl i) named h =
+    let own = named i in
+    let l = own.1 in
     let known : Knows c (node (label.Leaf (leaf.Variable kind.Ty l.number)) (children t)) = subst (Knows c) (labelled_node t (label.Leaf (leaf.Variable kind.Ty l.number)) l.is) knows in
-    founds_slot c s l.root (kind_at-reaches c l.number l.root sound l.reaches ∙ known.0.0) l.link
-fresh_founds c s t sound knows (inr a) linked_to h = absurd (no_alias_tree t h a)
+    founds_slot c s l.root (kind_at-reaches c l.number l.root sound l.reaches ∙ known.0.0 ∙ ap Some (sym own.0)) l.link
+fresh_founds c s t sound knows (inr a) named h = absurd (plain_no_alias c t h a)
 
 -- a fresh variable for a type variable or a closed alias
 pub fresh_at : (declared : ℕ → List Variance) (z : Bool) (u x : ℕ) (ts us : List Tree) (e f : Entries) (s : Spot) (r : NodeId) (gs hs : List Relating) (k : VariableKind) (o : Option ℕ) → x < length e.variables → (k ≡ kind.Ty) ⊎ (k ≡ kind.Const) → IsLawful ts e → IsLawful us f → Extends ts us → IsPart ts (content_of ts e) s
@@ -226,7 +227,7 @@ fresh_at declared z u x ts us e f s r gs hs k o below sort lawful later ext part
     let kept : tree_at us s.term ≡ t = ext.kept s.term part.within in
     let tree : tree_at us r ≡ variable_tree k (length c.slots) = is ∙ ap (variable_tree k) (sym (length-slots ts e.variables)) in
     let new : pairs_at us (owed_pairs z s r) ≡ owed_goals s.is_quiet z s.variance (variable_tree k (length c.slots)) t = owed_at us z s.is_quiet s.variance r s.term ∙ (λ i. owed_goals s.is_quiet z s.variance (tree i) (kept i)) in
-    let whole = made_fresh declared z c slot refl lawful.sound (lawful_sides ts e lawful) u refl s.variance s.is_quiet t sort part.knows formed closed sorted either (fresh_founds c slot t lawful.sound part.knows either linked_to) in
+    let whole = made_fresh declared z c slot refl lawful.sound (lawful_sides ts e lawful) u refl s.variance s.is_quiet t sort part.knows formed closed sorted either (fresh_founds c slot t lawful.sound part.knows either (λ i. ((varies i).1, linked_to i))) in
     let made : IsMade declared z u c (content_of us f) s.variance s.is_quiet t (tree_at us r) (pairs_at us (owed_pairs z s r)) = rw (content, tree, new) whole in
     record {
       within = within;

@@ -359,7 +359,7 @@ module _ (declared : ℕ → List Variance) (z : Bool) (u x : ℕ) where
             (ends_at there refl (ends_value s.variance t (tree_at ts v) rest kinds same (rw here at w.ends)))
             (rw there (inr below, inside.1))
             (λ g l. builds_at g there refl (λ r m. (rw here at (w.builds g l)) r (made_value g t (tree_at ts v) r k.infer k.closed same m)));
-        walks = walks_at here there refl refl refl refl (walk_value declared z u c s.variance t (tree_at ts v) rest (stacked (tree_at ts) ms) (pairs_at ts gs) w.lawful.sound k.infer k.closed same k.worlds k.labels);
+        walks = walks_at here there refl refl refl refl (walk_value declared z u c s.variance t (tree_at ts v) rest (stacked (tree_at ts) ms) (pairs_at ts gs) w.lawful.sound k.infer k.closed same k.same k.worlds k.labels);
         less = omega (arith, ap (step_weights c) here, ap (step_weights c) there, weights_value c s.variance t (tree_at ts v) rest k.lower k.same);
         kept = kept_refl c x;
         trees = λ a h. refl;

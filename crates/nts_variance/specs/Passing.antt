@@ -1,9 +1,9 @@
 -- Labels that pairs of trees, and the steps of a walk, may have.
-use Rattle.std.specs.Prelude.{◌≡◌, Bool, true, not, List, [], ◌∷◌}
+use Rattle.std.specs.Prelude.{◌≡◌, Bool, true, List, [], ◌∷◌}
 use Rattle.nts_model.specs.declared.labels.ListHead.TheVariants as list
 use Rattle.nts_model.specs.declared.labels.Label.{Label}
 use Rattle.nts_model.specs.declared.labels.Label.TheVariants as label
-use Rattle.nts_model.specs.Terms.Trees.{Tree, empty, is_alias}
+use Rattle.nts_model.specs.Terms.Trees.{Tree, empty}
 use Rattle.nts_model.specs.Tables.Passing.{PassesVariables, TreePasses}
 use Rattle.nts_variance_model.specs.Variances.Forms.{over}
 use Rattle.nts_variance_model.specs.Variances.Relations.{Relating}
@@ -13,10 +13,6 @@ use Rattle.nts_variance.specs.Steps.{WalkStep, enter, build, owe}
 pub record PassesRows (P : Label → Bool) : Type 0 where
   pub variables : PassesVariables P
   pub lists : P (label.List list.Args) ≡ true
-
--- the test that each label passes but those of aliases
-abbrev pub is_no_alias : Label → Bool
-is_no_alias l = not (is_alias l)
 
 -- each label of both sides passes it
 abbrev pub PairsPass : (Label → Bool) → List Relating → Type 0

@@ -1,5 +1,6 @@
 -- Classes of sub-unification in a table that has grown.
-use Rattle.std.specs.Prelude.{◌≡◌, ℕ, ◌≤◌, ◌<◌, length, Option, Some}
+use Rattle.std.specs.Prelude.{◌≡◌, ◌≢◌, ℕ, ◌≤◌, ◌<◌, length, Option, Some}
+use Rattle.nts_model.specs.declared.labels.VariableKind.{VariableKind}
 use Rattle.nts_model.specs.declared.labels.VariableKind.TheVariants as kind
 use Rattle.nts_model.specs.Terms.Trees.{variable_tree}
 use Rattle.nts_model.specs.Tables.Contents.{Content, link, state_of, kind_at}
@@ -22,12 +23,13 @@ pub record GrowsSubRoots (c d : Content) : Type 0 where
   pub only : (n m : ℕ) → SharesSubRoot d n m → AreJoinedSince made_in c d n m
   pub all : (n m : ℕ) → AreJoinedSince made_in c d n m → SharesSubRoot d n m
 
--- two type variables that are of one class of sub-unification, or one under the table, or lead to each other by such
+-- two variables that are of one class of sub-unification, or of one kind and one under the table, or lead to each other by such
 pub data AreAkin (c : Content) : ℕ → ℕ → Type 0 where
   shared : {n m : ℕ} → SharesSubRoot c n m → AreAkin c n m
-  one : {n m : ℕ} → kind_at c n ≡ Some kind.Ty → kind_at c m ≡ Some kind.Ty → AreOne c (variable_tree kind.Ty n) (variable_tree kind.Ty m) → AreAkin c n m
+  one : {n m : ℕ} {k : VariableKind} → kind_at c n ≡ Some k → kind_at c m ≡ Some k → AreOne c (variable_tree k n) (variable_tree k m) → AreAkin c n m
   by_way : {n m k : ℕ} → AreAkin c n m → AreAkin c m k → AreAkin c n k
 
--- each type variable that the second table has beyond the first was made for one: it is akin to a type variable of the first
-pub record FoundsTypes (c d : Content) : Type 0 where
-  pub founded : (n : ℕ) → length c.slots ≤ n → kind_at d n ≡ Some kind.Ty → (m : ℕ) × (kind_at c m ≡ Some kind.Ty) × AreAkin d n m
+-- each variable that the second table has beyond the first, and that is no region, was made for one: it is akin to a variable of the
+-- first, of its kind
+pub record FoundsVariables (c d : Content) : Type 0 where
+  pub founded : (n : ℕ) (k : VariableKind) → length c.slots ≤ n → kind_at d n ≡ Some k → k ≢ kind.Region → (m : ℕ) × (kind_at c m ≡ Some k) × AreAkin d n m

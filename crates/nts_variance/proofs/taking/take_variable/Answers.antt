@@ -11,7 +11,6 @@ use Rattle.std.specs.Option.{is_some}
 use Rattle.nts_variance.proofs.Bound.{bindable_kind}
 use Rattle.nts_variance.proofs.Debts.{type_kind}
 use Rattle.nts_variance.proofs.DueCalls.{side_fresh, own_number, side_owed, side_known, side_apart, owed_taken}
-use Rattle.nts_variance.proofs.Looks.{type_infer}
 use Rattle.nts_variance.proofs.Pushing.{pair_at-in}
 use Rattle.nts_variance.proofs.Sides.{root_of_side, open_one, type_closed}
 use Rattle.nts_variance.proofs.Refusals.{refuses_side}
