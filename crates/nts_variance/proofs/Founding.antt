@@ -61,7 +61,7 @@ founds_then c d e first g on a b =
     let newer : (m : ℕ) (k : VariableKind) → length c.slots ≤ m → kind_at d m ≡ Some k → k ≢ kind.Region → (l : ℕ) × (kind_at c l ≡ Some k) × AreAkin e m l = λ m k i has fits. (let x = a.founded m k i has fits in (x.0, x.1, akin_later g on x.2)) in
     let older : (n m : ℕ) (k : VariableKind) → kind_at d m ≡ Some k → k ≢ kind.Region → AreAkin e n m → (l : ℕ) × (kind_at c l ≡ Some k) × AreAkin e n l =
     λ n m k has fits h. ⊎_elim (λ (l : m < length c.slots). (m, kind_before c d m k first.kinds l has, h))
-        (λ (l : length c.slots ≤ m). (let x = newer m k l has fits in (x.0, x.1, by_way h x.2))) (either_place m (length c.slots)) in
+    (λ (l : length c.slots ≤ m). (let x = newer m k l has fits in (x.0, x.1, by_way h x.2))) (either_place m (length c.slots)) in
     record {
       founded = λ n k i has fits. ⊎_elim (λ (l : n < length d.slots). newer n k i (kind_before d e n k g.kinds l has) fits)
           (λ (l : length d.slots ≤ n). (let x = b.founded n k l has fits in older n x.0 k x.1 fits x.2)) (either_place n (length d.slots));

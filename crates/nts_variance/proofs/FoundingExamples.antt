@@ -1,5 +1,5 @@
 -- A variable that is made for an older one, and one that is not, over tables of the type variables ?a and ?b.
-use Rattle.std.proofs.Common.{◌≡◌, ℕ, zero, suc, ◌≤◌, [], ◌∷◌, Option, Some, None, refl, sym, ap, ◌∙◌, arith}
+use Rattle.std.proofs.Common.{◌≡◌, ℕ, zero, suc, ◌≤◌, [], ◌∷◌, Option, Some, None, false, refl, sym, ap, ◌∙◌, arith}
 use Rattle.nts_model.specs.declared.labels.VariableKind.{VariableKind}
 use Rattle.nts_model.specs.declared.labels.VariableKind.TheVariants as kind
 use Rattle.nts_model.specs.declared.labels.AliasHead.TheVariants as alias_of
@@ -10,7 +10,9 @@ use Rattle.nts_model.specs.Tables.SubUnifying.{SharesSubRoot, itself, linked, tu
 use Rattle.nts_model.specs.Derivations.Related.{constructor, alias}
 use Rattle.nts_variance_model.specs.Variances.Relations.{Relating}
 use Rattle.nts_model.specs.declared.labels.Variance.TheVariants as variance
-use Rattle.nts_variance.specs.Plain.{ArePairsPlain, StaysPlain}
+use Rattle.nts_variance.specs.Plain.{ArePairsPlain, AreTreesPlain, AreStepsPlain, StaysPlain}
+use Rattle.nts_variance.specs.Steps.{enter, build, owe}
+use Rattle.nts_variance_model.specs.Variances.Forms.{a_constructor, an_alias}
 use Rattle.nts_variance.proofs.PlainTerms.{stays_none}
 use Rattle.nts_variance.specs.SubRoots.{AreAkin, shared, one, by_way, FoundsVariables}
 
@@ -96,6 +98,22 @@ lists_are_plain = ((refl, refl), tt)
 
 alias_is_not_plain : ArePairsPlain only_a (beside list_type item ∷ []) → ⊥
 alias_is_not_plain h = (let sides = h.0 in let e = sides.1 in cc e)
+
+-- .. nor to enter an alias, or to build a node that is one
+lists_are_plain_steps : AreStepsPlain only_a (enter variance.Covariant false list_type ∷ build (a_constructor 1) 0 ∷ owe variance.Covariant item ∷ [])
+lists_are_plain_steps = (refl, (refl, tt))
+
+alias_is_no_plain_step : AreStepsPlain only_a (enter variance.Covariant false item ∷ []) → ⊥
+alias_is_no_plain_step h = (let e = h.0 in cc e)
+
+alias_is_not_built : AreStepsPlain only_a (build (an_alias (alias_of.Ty 0)) 0 ∷ []) → ⊥
+alias_is_not_built h = (let e = h.0 in cc e)
+
+list_is_a_plain_tree : AreTreesPlain only_a (list_type ∷ [])
+list_is_a_plain_tree = (refl, tt)
+
+alias_is_no_plain_tree : AreTreesPlain only_a (item ∷ []) → ⊥
+alias_is_no_plain_tree h = (let e = h.0 in cc e)
 
 -- a table stays plain as it is, and not where ?b is made for no variable of it
 same_stays_plain : StaysPlain only_a only_a
