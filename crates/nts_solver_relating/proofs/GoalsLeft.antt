@@ -9,7 +9,7 @@ use Rattle.nts_model.specs.declared.labels.Variance.TheVariants as variance
 use Rattle.nts_model.specs.declared.labels.ListHead.TheVariants as list
 use Rattle.nts_model.specs.declared.labels.Label.TheVariants as label
 use Rattle.nts_model.specs.declared.labels.PredicateHead.{PredicateHead}
-use Rattle.nts_model.specs.Terms.Trees.{Tree, empty, more, node, children, kind_of, kind_of_label, of_sort, arguments, bound_predicate, IsClosed, IsFormed}
+use Rattle.nts_model.specs.Terms.Trees.{Tree, empty, more, node, children, kind_of, kind_of_label, of_sort, arguments, bound_predicate, any_label, is_alias, IsClosed, IsFormed}
 use Rattle.nts_model.specs.Tables.Passing.{BringsLabelsOf}
 use Rattle.nts_model.specs.Tables.Contents.{Content}
 use Rattle.nts_model.specs.Tables.Resolving.{Knows, IsSound, AllUnset, resolved, deeply_resolved}
@@ -46,6 +46,7 @@ use Rattle.nts_variance.specs.Equating.{GoalsRelate}
 use Rattle.nts_variance.specs.Rows.{IsListOf, RowsRelate, RefusesRows}
 use Rattle.nts_variance.proofs.Growing.{grown_refl}
 use Rattle.nts_variance.proofs.Passes.{resolved_passes}
+use Rattle.nts_relating.proofs.Plain.{plain_rooted}
 use Rattle.nts_unify.specs.Changing.{IsLater}
 use Rattle.nts_relating.specs.Relating.{IsPlainIn, KeepsPlain}
 use Rattle.nts_variance.proofs.Plainly.{takes_plain, takes_plain_lists, refuses_plain, refuses_plain_lists}
@@ -298,6 +299,10 @@ module _ (declared : ℕ → List Variance) where
   under_resolved : (c f : Content) (a : Tree) → IsSound c → Knows c a → Continues c f → deeply_resolved f (resolved c a) ≡ deeply_resolved f a
   under_resolved c f a sound k on = AreOne-continues c f (resolved c a) a on (Knows-resolved c a sound k) k (deeply_resolved-resolved c a sound)
 
+  plain_resolved : (c : Content) (a : Tree) → IsSound c → IsPlainIn c a → IsPlainIn c (resolved c a)
+  plain_resolved c a sound h =
+      sym (plain_rooted c (resolved c (resolved c a))) ∙ ap (any_label is_alias) (deeply_resolved-resolved c a sound) ∙ plain_rooted c (resolved c a) ∙ h
+
   takes_resolved : (c d : Content) (v : Variance) (a b : Tree) (gs : List Pair) → IsSound c → Knows c a → Knows c b → Takes declared c d (record { variance = v; left = resolved c a; right = resolved c b } ∷ []) [] gs → Takes declared c d (record { variance = v; left = a; right = b } ∷ []) [] gs
   takes_resolved c d v a b gs sound ka kb t =
       record {
@@ -311,6 +316,7 @@ module _ (declared : ℕ → List Variance) where
               (rw (← under_resolved c f a sound ka first, ← under_resolved c f b sound kb first) r.0, tt));
         };
         passes = λ P p h i. t.passes P p h (resolved_passes P p c a h i.0, resolved_passes P p c b h i.1, tt);
+        plain = λ h. (let pair = h.0 in let x = t.plain ((plain_resolved c a sound pair.0, plain_resolved c b sound pair.1), tt) in (x.0, tt));
       }
 
   -- in a tree as resolved no variable has a value

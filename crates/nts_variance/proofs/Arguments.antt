@@ -29,6 +29,7 @@ use Rattle.nts_variance.proofs.Calls.{pairs_joined, joined_at}
 use Rattle.nts_variance.proofs.Debts.{goals_to, AreGoals-append}
 use Rattle.nts_variance.proofs.Dues.{aliases_append, due_aliases, no_variables}
 use Rattle.nts_variance.proofs.Growing.{grown_refl, grown_trans, Knows-grown}
+use Rattle.nts_variance.proofs.PlainTerms.{stays_none, stays_then, pairs_stay}
 use Rattle.nts_variance.proofs.Pairs.{Leaves-none, Leaves-then, Leaves-beside, Refuses-then, Refuses-beside}
 use Rattle.nts_variance.proofs.Pushing.{part_sorted}
 use Rattle.nts_variance.proofs.Turns.{answered_front}
@@ -63,7 +64,7 @@ row_from_known c (suc i) (node l x) h = tt
 module _ (declared : ℕ → List Variance) where
   -- nothing taken, and the first pair of those left
   takes_none : (c : Content) (ps : List Pair) → IsSound c → Takes declared c c ps ps []
-  takes_none c ps sound = record { later = grown_refl c; continues = Continues-refl c sound; leaves = Leaves-none declared c ps; relates = record { related = λ f s on ks g h. h }; passes = λ P p h i. (h, i, tt) }
+  takes_none c ps sound = record { later = grown_refl c; continues = Continues-refl c sound; leaves = Leaves-none declared c ps; relates = record { related = λ f s on ks g h. h }; passes = λ P p h i. (h, i, tt); plain = λ h. (stays_none c, h) }
 
   takes_then : (c d e : Content) (ps : List Pair) (q : Pair) (qs gs hs : List Pair) → IsSound c → IsSound d → ArePairsKnown d qs → ArePairsKnown d gs → Takes declared c d ps (q ∷ qs) gs → Takes declared d e (q ∷ []) [] hs → Takes declared c e ps qs (gs ++ hs)
   takes_then c d e ps q qs gs hs first sound kq kg a b =
@@ -77,6 +78,12 @@ module _ (declared : ℕ → List Variance) where
               let one = b.relates.related f s on ks parts.1 tt in
               a.relates.related f s (Continues-trans d e f sound b.continues on) ks parts.0 (one.0, h));
         };
+        plain = λ h.
+            (let x = a.plain h in
+            let left = x.1 in
+            let y = b.plain (left.0, tt) in
+            let stays = y.0 in
+            (stays_then c d e a.later b.later b.continues x.0 stays, pairs_stay d e qs stays.keeps kq left.1));
         passes = λ P p h i. (let x = a.passes P p h i in let left = x.1 in let y = b.passes P p x.0 (left.0, left.1, tt) in (y.0, left.2, pass_joined P gs hs x.2 y.2));
       }
 

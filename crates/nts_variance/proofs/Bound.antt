@@ -41,6 +41,8 @@ use Rattle.nts_variance.specs.Terms.{pairs_at}
 use Rattle.nts_variance.specs.Varying.{IsVaried, IsKept}
 use Rattle.nts_variance.specs.Pairs.{IsBound}
 use Rattle.nts_variance.proofs.Growing.{Knows-grown, grown_later, grown_trans}
+use Rattle.nts_variance.proofs.Founding.{founds_tied}
+use Rattle.nts_variance.proofs.PlainTerms.{stays_then}
 use Rattle.nts_variance.proofs.Runs.{unentered}
 use Rattle.nts_variance.proofs.Pairs.{ended_at, sides_settle, walk_leaves, walk_refuses}
 use Rattle.nts_variance.proofs.VaryTurns.{fits_later, known_pairs, pairs_kept, goals_later}
@@ -133,6 +135,11 @@ bound_along declared z u x ts us ws e f g v k t r gs h ext before lawful univers
       due = λ d le q. rw goals (dues_later d (pairs_at us gs) (grown_later set.later) set.continues all (h.due d le q));
       fewer = λ q. (let few = h.few q in let less = set.fewer in omega (arith, few, less));
       aliases = λ q a k. set.aliases (h.none q) a (Knows-grown a walks.later k) ∙ ap closed_aliases (h.trees a k);
+      plain = λ h.
+          (let x = walks.plain (h, tt) tt in
+          let made = x.2 in
+          let s = set.later in
+          stays_then (content_of ts e) b c walks.later (grown_later s) set.continues x.0 (record { keeps = set.plain made.0; founds = founds_tied b c s.kinds set.ties }));
       passes = λ P p q i.
           (let y = walks.passes P p q (i, tt) tt tt in
           let brings = set.brings in

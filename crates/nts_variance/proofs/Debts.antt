@@ -1,37 +1,26 @@
 -- What the turns of the walk keep, so that each goal which it hands out is one.
-use Rattle.std.proofs.Common.{◌≡◌, ◌≢◌, ◌⊎◌, inl, inr, ⊎_elim, ℕ, ◌+◌, ◌≤◌, ◌<◌, Bool, true, false, List, [], ◌∷◌, ◌++◌, Some, refl, sym, ap, ◌∙◌, subst, arith}
+use Rattle.std.proofs.Common.{◌≡◌, ◌≢◌, ◌⊎◌, inl, inr, ⊎_elim, ℕ, ◌+◌, ◌≤◌, ◌<◌, Bool, true, false, List, [], ◌∷◌, ◌++◌, Some, refl, sym, ap, ◌∙◌, arith}
 use Rattle.nts_model.specs.declared.labels.Sort.TheVariants as sort
 use Rattle.nts_model.specs.declared.labels.Variance.{Variance}
 use Rattle.nts_model.specs.declared.labels.Variance.TheVariants as variance
-use Rattle.nts_model.specs.declared.labels.AliasHead.{AliasHead}
 use Rattle.nts_model.specs.declared.labels.AliasHead.TheVariants as alias_of
-use Rattle.nts_model.specs.declared.labels.TyHead.TheVariants as ty
-use Rattle.nts_model.specs.declared.labels.ConstHead.TheVariants as konst
-use Rattle.nts_model.specs.declared.labels.ListHead.TheVariants as list
 use Rattle.nts_model.specs.declared.labels.VariableKind.TheVariants as kind
 use Rattle.nts_model.specs.declared.labels.Label.TheVariants as label
 use Rattle.nts_model.specs.declared.labels.Leaf.TheVariants as leaf
 use Rattle.nts_model.specs.Terms.Trees.{Tree, empty, more, node, label_of, kind_of, kind_of_label, of_sort, binders, IsRow, row_length, variable_of, IsClosedUnder, IsClosed}
-use Rattle.nts_model.specs.Derivations.Related.{rest_variances, arguments, alias, IsAlias}
-use Rattle.nts_model.specs.Tables.Solvable.{IsSolvable}
-use Rattle.nts_model.specs.Tables.Contents.{Content}
-use Rattle.nts_model.specs.Tables.Resolving.{IsSound, Knows, deeply_resolved, rank_of, variable_rank}
+use Rattle.nts_model.specs.Derivations.Related.{rest_variances, IsAlias}
+use Rattle.nts_model.specs.Tables.Resolving.{rank_of, variable_rank}
 use Rattle.nts_variance_model.specs.Variances.Forms.{Form, a_constructor, a_function, a_value, an_alias, over}
 use Rattle.nts_variance_model.specs.Variances.Judging.{opposite}
 use Rattle.nts_variance_model.specs.Variances.Relations.{Relating as Pair}
 use Rattle.nts_model.specs.Terms.Patching.{IsPatched, patched, in_end, in_row, in_node, in_leaf}
-use Rattle.nts_model.proofs.Tables.Resolved.{deeply_resolved-empty, deeply_resolved-node}
-use Rattle.nts_model.proofs.Tables.ResolvedTerms.{IsClosed-deeply_resolved}
-use Rattle.nts_model.proofs.Tables.Kept.{kind_of-deeply_resolved}
 use Rattle.nts_model.proofs.Tables.Fitting.{IsClosedUnder-more}
 use Rattle.nts_variance.specs.Steps.{WalkStep, enter, build, owe, popped, unpopped, entering, MadeForRow}
 use Rattle.nts_variance.specs.Walking.{NothingOwed, sides}
 use Rattle.nts_variance.specs.Terms.{IsGoal, AreGoals}
 use Rattle.nts_variance.specs.Debts.{IsClosedLike, IsNoOlder, OweGoals}
 use Rattle.nts_variance.specs.Due.{IsTypeVariable}
-use Rattle.nts_variance.proofs.Clean.{holds_terms}
 use Rattle.nts_variance.proofs.Runs.{pushed, popped_row, unpopped_pushed, made_row}
-use Rattle.nts_model.proofs.Tables.TableInstances.{deeply_resolved-more}
 
 -- trees in which closed trees took the place of others
 pub closed_patched : (t r : Tree) → IsPatched t r → (b : ℕ) → IsClosedUnder b t → IsClosedUnder b r
@@ -142,9 +131,8 @@ owe_value n v t w k xs ss is lower own closed same varies h = λ s m.
     (let below = m.closed 0 closed in
     let kinds = m.kind ∙ same in
     let sorted = type_kind t k is in
-    let other : IsNoOlder n t s = λ j e less q.
-    (let mine : IsTypeVariable s j = subst (λ x. IsTypeVariable x j) (sym q) e in
-    ⊎_elim (λ p. (let two = type_rank w p.0 p.1 in let first = type_rank t k is in omega (arith, two, first, lower))) (λ p. (let from = p.1 in omega (arith, less, from))) (m.variable varies j mine)) in
+    let other : IsNoOlder n t s = λ j e less i mine.
+    ⊎_elim (λ p. (let two = type_rank w p.0 p.1 in let first = type_rank t k is in absurd (omega (arith, two, first, lower)))) (λ p. p.1) (m.variable varies i mine) in
     (record { left = below; right = own; kinds = kinds; rests = inr (varies, kinds ∙ sorted, sorted) }, other, h s (like_closed n v t s below kinds (λ z j e. inl (k, is)))))
 
 -- by equal lists

@@ -39,8 +39,8 @@ use Rattle.nts_variance.specs.declared.splitting.Taken.TheVariants as taken
 use Rattle.nts_variance.specs.Varying.{pair_in}
 use Rattle.nts_variance.specs.Taking.{SaysAllOwed, IsTaken, number_at, ArePairsLeft, AreOfOneForm, ArePartsPaired, AreDueSince}
 use Rattle.nts_variance.proofs.Debts.{type_kind}
-use Rattle.nts_variance.proofs.Dues.{value_valued, dues_later, dues_append, dues_to, unset_number, fresh_pairs_append, parts_fresh}
-use Rattle.nts_variance.proofs.Looks.{labelled_node, looked_value, one_number, type_plain, variable_closed}
+use Rattle.nts_variance.proofs.Dues.{value_valued, dues_later, dues_append, dues_to, one_number, two_unset, unset_number, fresh_pairs_append, parts_fresh}
+use Rattle.nts_variance.proofs.Looks.{labelled_node, looked_value, type_infer, type_plain, variable_closed, whole_variable}
 use Rattle.nts_variance.proofs.Runs.{stacked-push}
 use Rattle.nts_variance.proofs.VaryTurns.{known_pairs, goals_later}
 use Rattle.nts_variance.proofs.Calls.{stacked_kept, pairs_joined, joined_at}
@@ -72,20 +72,21 @@ unset_sides c p varies k f = ⊎_elim (λ i. absurd (varies i)) (λ x. ⊎_elim 
 valued : (ts : List Tree) (e : Entries) (t : Tree) (n r : ℕ) (v : NodeId) → IsLawful ts e → Knows (content_of ts e) t → IsTypeVariable t n → HasClass e n r (Known v) → IsValued (content_of ts e) t
 valued ts e t n r v lawful knows is class = value_valued (content_of ts e) t (tree_at ts v) (looked_value ts e t (label.Leaf (leaf.Variable kind.Ty n)) n r v lawful knows (labelled_node t (label.Leaf (leaf.Variable kind.Ty n)) is) refl class).1
 
-pub owed_due : (ts : List Tree) (e : Entries) (p : Pair) → IsLawful ts e → Knows (content_of ts e) p.left → Knows (content_of ts e) p.right → kind_of p.left ≡ kind_of p.right → p.variance ≢ variance.Invariant → (p.left ≡ p.right → (n : ℕ) → IsTypeVariable p.left n → ⊥) → SaysAllOwed e p.left ⊎ SaysAllOwed e p.right → LeavesDue (content_of ts e) (content_of ts e) p (p ∷ [])
+pub owed_due : (ts : List Tree) (e : Entries) (p : Pair) → IsLawful ts e → Knows (content_of ts e) p.left → Knows (content_of ts e) p.right → kind_of p.left ≡ kind_of p.right → p.variance ≢ variance.Invariant → ((n : ℕ) → IsTypeVariable p.left n → IsTypeVariable p.right n → ⊥) → SaysAllOwed e p.left ⊎ SaysAllOwed e p.right → LeavesDue (content_of ts e) (content_of ts e) p (p ∷ [])
 owed_due ts e p lawful left right kinds varies apart (inl (inl a)) = alias_due (content_of ts e) (content_of ts e) p (inl a)
 owed_due ts e p lawful left right kinds varies apart (inr (inl a)) = alias_due (content_of ts e) (content_of ts e) p (inr a)
 owed_due ts e p lawful left right kinds varies apart (inl (inr v)) =
-    λ c le f. (inr (varies, λ same. apart same v.0 v.1, inr (inl (record { number = v.0; is = v.1; before = unset_number c p.left v.0 v.1 (unset_sides c p varies (type_kind p.left v.0 v.1) f).0; after = valued ts e p.left v.0 v.2 v.3 lawful left v.1 v.4 }))), tt)
+    λ c le f. (let u = unset_sides c p varies (type_kind p.left v.0 v.1) f in let two = two_unset c p.left p.right u.0 u.1 (λ same. apart v.0 v.1 (subst (λ t. IsTypeVariable t v.0) same v.1)) apart in (inr (varies, two, inr (inl (record { number = v.0; is = v.1; before = unset_number c p.left v.0 v.1 u.0; after = valued ts e p.left v.0 v.2 v.3 lawful left v.1 v.4 }))), tt))
 owed_due ts e p lawful left right kinds varies apart (inr (inr v)) =
-    λ c le f. (inr (varies, λ same. apart same v.0 (subst (λ t. IsTypeVariable t v.0) (sym same) v.1), inr (inr (record { number = v.0; is = v.1; before = unset_number c p.right v.0 v.1 (unset_sides c p varies (kinds ∙ type_kind p.right v.0 v.1) f).1; after = valued ts e p.right v.0 v.2 v.3 lawful right v.1 v.4 }))), tt)
+    λ c le f. (let u = unset_sides c p varies (kinds ∙ type_kind p.right v.0 v.1) f in let two = two_unset c p.left p.right u.0 u.1 (λ same. apart v.0 (subst (λ t. IsTypeVariable t v.0) (sym same) v.1) v.1) apart in (inr (varies, two, inr (inr (record { number = v.0; is = v.1; before = unset_number c p.right v.0 v.1 u.1; after = valued ts e p.right v.0 v.2 v.3 lawful right v.1 v.4 }))), tt))
 
 -- .. and for two type variables
 pub variables_due : (c d : Content) (p : Pair) (n m : ℕ) → p.variance ≢ variance.Invariant → IsTypeVariable p.left n → IsTypeVariable p.right m → n ≢ m → LeavesDue c d p (p ∷ [])
 variables_due c d p n m varies x y apart = λ b le f.
     (let u = unset_sides b p varies (type_kind p.left n x) f in
     let two : AreTwoUnset b n m = record { first = unset_number b p.left n x u.0; second = unset_number b p.right m y u.1; apart = apart } in
-    (inr (varies, λ same. apart (one_number p.left n m x (subst (λ t. IsTypeVariable t m) (sym same) y)), inl (record { first = n; second = m; left = x; right = y; either = inl two })), tt))
+    let sides_apart = two_unset b p.left p.right u.0 u.1 (λ same. apart (one_number p.left n m x (subst (λ t. IsTypeVariable t m) (sym same) y))) (λ k i j. apart (one_number p.left n k x i ∙ sym (one_number p.right m k y j))) in
+    (inr (varies, sides_apart, inl (record { first = n; second = m; left = x; right = y; either = inl two })), tt))
 
 pub number_label : (l : Label) (n : ℕ) → number_of_type l ≡ Some n → l ≡ label.Leaf (leaf.Variable kind.Ty n)
 number_label (label.Leaf (leaf.Variable kind.Ty m)) n e = (let same : m ≡ n = cc in ap (λ x. label.Leaf (leaf.Variable kind.Ty x)) same)
@@ -115,7 +116,7 @@ owed_goal e p varies owed left right kinds =
     }
 
 -- .. and so the pair is taken
-pub owed_taken : (ts : List Tree) (e : Entries) (p : Relating) (r : Result Taken EvalError) → IsLawful ts e → Knows (content_of ts e) (tree_at ts p.left) → Knows (content_of ts e) (tree_at ts p.right) → p.variance ≢ variance.Invariant → (tree_at ts p.left ≡ tree_at ts p.right → (n : ℕ) → IsTypeVariable (tree_at ts p.left) n → ⊥) → SaysAllOwed e (tree_at ts p.left) ⊎ SaysAllOwed e (tree_at ts p.right)
+pub owed_taken : (ts : List Tree) (e : Entries) (p : Relating) (r : Result Taken EvalError) → IsLawful ts e → Knows (content_of ts e) (tree_at ts p.left) → Knows (content_of ts e) (tree_at ts p.right) → p.variance ≢ variance.Invariant → ((n : ℕ) → IsTypeVariable (tree_at ts p.left) n → IsTypeVariable (tree_at ts p.right) n → ⊥) → SaysAllOwed e (tree_at ts p.left) ⊎ SaysAllOwed e (tree_at ts p.right)
     → IfOk r (λ x. x ≡ taken.Owed) → OnOk r (IsClosed (tree_at ts p.left) × IsClosed (tree_at ts p.right)) → OnOk r (kind_of (tree_at ts p.left) ≡ kind_of (tree_at ts p.right)) → (declared : ℕ → List Variance) → IfOk r (IsTaken declared ts ts e e p)
 owed_taken ts e p (Err x) lawful left right varies apart owed is closed kinds declared = tt
 owed_taken ts e p (Ok x) lawful left right varies apart owed is closed kinds declared =
@@ -145,13 +146,13 @@ side_known ts c false v r t p is h k = rw is (h, k)
 side_known ts c true v r t p is h k = rw is (k, h)
 
 -- a variable and a term that is none are two
-pub side_apart : (ts : List Tree) (z : Bool) (v : Variance) (r t : NodeId) (p : Relating) → p ≡ pair_in z v r t → IsInfer (tree_at ts r) → (IsInfer (tree_at ts t) → ⊥) → tree_at ts p.left ≡ tree_at ts p.right → (n : ℕ) → IsTypeVariable (tree_at ts p.left) n → ⊥
-side_apart ts false v r t p is own no_variable = rw is (λ same n e. no_variable (subst IsInfer same own))
-side_apart ts true v r t p is own no_variable = rw is (λ same n e. no_variable (subst IsInfer (sym same) own))
+pub side_apart : (ts : List Tree) (z : Bool) (v : Variance) (r t : NodeId) (p : Relating) → p ≡ pair_in z v r t → (IsInfer (tree_at ts t) → ⊥) → (n : ℕ) → IsTypeVariable (tree_at ts p.left) n → IsTypeVariable (tree_at ts p.right) n → ⊥
+side_apart ts false v r t p is no_variable = rw is (λ n x y. no_variable (type_infer (tree_at ts t) n y))
+side_apart ts true v r t p is no_variable = rw is (λ n x y. no_variable (type_infer (tree_at ts t) n x))
 
 -- two sides that are one only where aliases are in them are no type variable if they are one
-pub plain_apart : (a b : Tree) → IsFormed a → (a ≡ b → any_label is_alias a ≡ true) → a ≡ b → (n : ℕ) → IsTypeVariable a n → ⊥
-plain_apart a b formed h same n e = (let none = type_plain a n e formed in let some = h same in cc)
+pub plain_apart : (a b : Tree) → IsFormed a → IsFormed b → (a ≡ b → any_label is_alias a ≡ true) → (n : ℕ) → IsTypeVariable a n → IsTypeVariable b n → ⊥
+plain_apart a b first second h n x y = (let none = type_plain a n x first in let some = h (whole_variable a n x first ∙ sym (whole_variable b n y second)) in cc)
 
 -- the term of a pair with a variable
 opposite_invariant : (v : Variance) → opposite v ≡ variance.Invariant → v ≡ variance.Invariant

@@ -1,5 +1,5 @@
 -- Goals that relating may leave and goals that it may not, over tables of the type variables ?a and ?b.
-use Rattle.std.proofs.Common.{◌≡◌, ◌⊎◌, inl, inr, ℕ, zero, suc, List, [], ◌∷◌, Option, Some, None, ◌<◌, ◌≤◌, ◌==◌, if◌then◌else◌, Bool, true, false, refl, sym, ap, ◌∙◌, subst, arith}
+use Rattle.std.proofs.Common.{◌≡◌, ◌⊎◌, inl, inr, ⊎_elim, ℕ, zero, suc, List, [], ◌∷◌, Option, Some, None, ◌<◌, ◌≤◌, ◌==◌, if◌then◌else◌, Bool, true, false, refl, sym, ap, ◌∙◌, subst, arith}
 use Rattle.nts_model.specs.declared.labels.Variance.{Variance}
 use Rattle.nts_model.specs.declared.labels.Variance.TheVariants as variance
 use Rattle.nts_model.specs.declared.labels.VariableKind.TheVariants as kind
@@ -17,7 +17,8 @@ use Rattle.nts_model.specs.Derivations.Related.{constructor, arguments, alias, I
 use Rattle.nts_model.proofs.Tables.AliasLabels.{not_alias}
 use Rattle.nts_model.proofs.Tables.Slots.{field_below}
 use Rattle.nts_variance_model.specs.Variances.Relations.{Relating as Pair}
-use Rattle.nts_variance.specs.Due.{IsValued, GotValue, ShareSubRoots, AreTwoUnset, WasMadeFor, AreTypeVariables, IsGoalDue, AreGoalsDue, AreGoalsOfAliases, IsNoType, IsUnvalued, IsUnvaluedPair, AreUnvaluedPairs, LeavesDue}
+use Rattle.nts_variance.proofs.Dues.{two_turned, two_owed, two_unset}
+use Rattle.nts_variance.specs.Due.{IsValued, GotValue, ShareSubRoots, AreTwoUnset, WasMadeFor, HadNoValue, AreTwoSides, AreTypeVariables, IsGoalDue, AreGoalsDue, AreGoalsOfAliases, IsNoType, IsUnvalued, IsUnvaluedPair, AreUnvaluedPairs, LeavesDue}
 
 -- List and another type without arguments, an alias, the region 'static, and the two type variables
 abbrev list_type : Tree
@@ -222,6 +223,35 @@ one_variable c d n v = (let l = v.left in let r = v.right in let same : v.first 
     neither x y same (inr (inl w)) = (let below = field_below (λ s. s.state) c x unset w.free in let new = w.new in omega (arith, same, below, new))
     neither x y same (inr (inr w)) = (let below = field_below (λ s. s.state) c y unset w.free in let new = w.new in omega (arith, same, below, new))
 
+-- ?a had no value where nothing was known of it, nor where it is new; it had one where it was List
+nothing_had_no_value : HadNoValue nothing_known variable_a
+nothing_had_no_value n x = (let z : Some (label.Leaf (leaf.Variable kind.Ty 0)) ≡ Some (label.Leaf (leaf.Variable kind.Ty n)) = x in let same : 0 ≡ n = cc in inl (subst (λ m. state_of nothing_known m ≡ Some unset) same refl))
+
+new_had_no_value : HadNoValue only_a variable_b
+new_had_no_value n x = (let z : Some (label.Leaf (leaf.Variable kind.Ty 1)) ≡ Some (label.Leaf (leaf.Variable kind.Ty n)) = x in let same : 1 ≡ n = cc in inr (omega (arith, same)))
+
+list_had_a_value : HadNoValue a_is_list variable_a → ⊥
+list_had_a_value h = ⊎_elim (λ e. list_is_set 0 refl e) (λ (new : 2 ≤ 0). omega (arith, new)) (h 0 refl)
+
+-- ?a and List are two sides, where ?a had no value, and not where it was List
+a_and_list_are_two : (c : Content) → state_of c 0 ≡ Some unset → AreTwoSides c variable_a list_type
+a_and_list_are_two c free = two_unset c variable_a list_type free (tt, tt) (λ e. cc e) (λ n x y. cc y)
+
+a_list_is_no_side : AreTwoSides a_is_list variable_a list_type → ⊥
+a_list_is_no_side two = list_had_a_value two.left
+
+-- where nothing is known of ?a and ?b, they are two sides
+variables_are_two : AreTwoSides nothing_known variable_a variable_b
+variables_are_two = two_unset nothing_known variable_a variable_b refl refl (λ e. cc e) (λ n x y. (let z : label_of variable_a ≡ label_of variable_b = x ∙ sym y in cc z))
+
+-- ?a is another side than ?b, of which the table tells nothing
+made_variable_is_another : AreTwoSides only_a variable_a variable_b
+made_variable_is_another = two_turned (two_owed only_a variable_b variable_a 0 refl refl (λ k x. (let z : label_of variable_b ≡ Some (label.Leaf (leaf.Variable kind.Ty k)) = x in let same : 1 ≡ k = cc in omega (arith, same))))
+
+-- two type variables that lead to one variable are not two sides
+one_class_is_not_two : (c : Content) (n m r : ℕ) → Reaches c n r → Reaches c m r → AreTwoSides c (variable_tree kind.Ty n) (variable_tree kind.Ty m) → ⊥
+one_class_is_not_two c n m r a b two = two.classes n m r refl refl a b
+
 -- a constructor is no type variable
 constructor_is_no_variable : (c d : Content) (a : Tree) (i : ℕ) → AreTypeVariables c d a (constructor i empty) → ⊥
 constructor_is_no_variable c d a i v = (let e = v.right in cc e)
@@ -244,15 +274,15 @@ goal_put_off_is_not_due c (inr (varies, apart, inr (inr g))) = constructor_got_n
 
 -- ?a below List, where ?a got the value List in between: the goal is due
 goal_of_a_value_is_due : IsGoalDue nothing_known a_is_list a_below_list
-goal_of_a_value_is_due = inr (λ e. cc e, λ e. cc e, inr (inl a_got_value))
+goal_of_a_value_is_due = inr (λ e. cc e, a_and_list_are_two nothing_known refl, inr (inl a_got_value))
 
 -- ?a below ?b, where neither has a value: the goal is due
 goal_of_variables_is_due : IsGoalDue nothing_known nothing_known a_below_b
-goal_of_variables_is_due = inr (λ e. cc e, λ e. cc e, inl unset_variables)
+goal_of_variables_is_due = inr (λ e. cc e, variables_are_two, inl unset_variables)
 
 -- ?a below ?b, where ?a had no value before, and ?b was made for it since: the goal is due
 goal_of_a_made_variable_is_due : IsGoalDue only_a b_made_for_a a_below_b
-goal_of_a_made_variable_is_due = inr (λ e. cc e, λ e. cc e, inl made_variables)
+goal_of_a_made_variable_is_due = inr (λ e. cc e, made_variable_is_another, inl made_variables)
 
 -- ?a below ?b, where ?a was List before, and ?b, a variable of the table before too, has no value afterwards: the goal is not due, even
 -- if the two share their sub root since
@@ -267,7 +297,13 @@ goal_of_a_known_variable_is_not_due o (inr (varies, apart, inr (inr g))) = b_has
 goal_of_one_variable_is_not_due : (c d : Content) → IsGoalDue c d (pair_of variance.Covariant variable_a variable_a) → ⊥
 goal_of_one_variable_is_not_due c d (inl (inl a)) = variable_is_no_alias 0 a
 goal_of_one_variable_is_not_due c d (inl (inr a)) = variable_is_no_alias 0 a
-goal_of_one_variable_is_not_due c d (inr (varies, apart, x)) = apart refl
+goal_of_one_variable_is_not_due c d (inr (varies, two, x)) = two.trees refl
+
+-- one variable below another, where both led to one before: the goal is not due, whatever became of them
+goal_of_one_class_is_not_due : (c d : Content) (v : Variance) (n m r : ℕ) → Reaches c n r → Reaches c m r → IsGoalDue c d (pair_of v (variable_tree kind.Ty n) (variable_tree kind.Ty m)) → ⊥
+goal_of_one_class_is_not_due c d v n m r a b (inl (inl x)) = variable_is_no_alias n x
+goal_of_one_class_is_not_due c d v n m r a b (inl (inr y)) = variable_is_no_alias m y
+goal_of_one_class_is_not_due c d v n m r a b (inr (varies, two, x)) = one_class_is_not_two c n m r a b two
 
 -- ?a equal to ?b: the goal is not due, in any tables
 equal_variables_are_not_due : (c d : Content) → IsGoalDue c d (pair_of variance.Invariant variable_a variable_b) → ⊥
@@ -343,7 +379,7 @@ pair_is_not_unvalued (inr (inr u)) = (let e = u.0 in cc e)
 value_leaves_due : (c : Content) → LeavesDue c a_is_list a_below_list (a_below_list ∷ [])
 value_leaves_due c b le (inl e) = cc e
 value_leaves_due c b le (inr (inl t)) = absurd (variable_is_a_type 0 t)
-value_leaves_due c b le (inr (inr u)) = (inr (λ e. cc e, λ e. cc e, inr (inl (record { number = 0; is = refl; before = u.0; after = list_is_its_value }))), tt)
+value_leaves_due c b le (inr (inr u)) = (inr (λ e. cc e, a_and_list_are_two b u.0, inr (inl (record { number = 0; is = refl; before = u.0; after = list_is_its_value }))), tt)
 
 -- ?a below List may not leave itself as a goal where nothing is known of ?a afterwards
 put_off_leaves_not_due : LeavesDue nothing_known nothing_known a_below_list (a_below_list ∷ []) → ⊥

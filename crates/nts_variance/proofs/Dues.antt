@@ -1,5 +1,5 @@
 -- Goals that are due: what stays so in later tables, and what parts and pairs can ask for.
-use Rattle.std.proofs.Common.{◌≡◌, ◌≢◌, ◌⊎◌, inl, inr, ⊎_elim, ℕ, Bool, true, false, List, [], ◌∷◌, ◌++◌, Some, refl, sym, ap, ◌∙◌, subst}
+use Rattle.std.proofs.Common.{◌≡◌, ◌≢◌, ◌⊎◌, inl, inr, ⊎_elim, ℕ, ◌≤◌, length, Bool, true, false, List, [], ◌∷◌, ◌++◌, Some, refl, sym, ap, ◌∙◌, subst, arith}
 use Rattle.nts_model.specs.declared.labels.Variance.{Variance}
 use Rattle.nts_model.specs.declared.labels.Variance.TheVariants as variance
 use Rattle.nts_model.specs.declared.labels.AliasHead.TheVariants as alias_of
@@ -7,12 +7,12 @@ use Rattle.nts_model.specs.declared.labels.VariableKind.TheVariants as kind
 use Rattle.nts_model.specs.declared.labels.Leaf.TheVariants as leaf
 use Rattle.nts_model.specs.declared.labels.Label.TheVariants as label
 use Rattle.nts_model.specs.Terms.Trees.{Tree, empty, more, node, infer_of}
-use Rattle.nts_model.specs.Tables.Contents.{Content, unset, state_of}
+use Rattle.nts_model.specs.Tables.Contents.{Content, unset, link, state_of}
 use Rattle.nts_model.specs.Tables.Resolving.{rooted, Knows, Reaches, here, on, UnsetAt, AllUnset}
 use Rattle.nts_model.specs.Tables.Holding.{Continues}
 use Rattle.nts_model.specs.Derivations.Related.{times, first_variance, rest_variances}
 use Rattle.nts_model.proofs.Tables.Held.{AreOne-continues}
-use Rattle.nts_model.proofs.Tables.Slots.{Knows-kept}
+use Rattle.nts_model.proofs.Tables.Slots.{Knows-kept, field_below}
 use Rattle.nts_variance_model.specs.Variances.Forms.{Form, a_constructor, a_function, a_value, an_alias, over, variances_over, pairs_over}
 use Rattle.nts_variance_model.specs.Variances.Relations.{Relating as Pair, ArePairsKnown}
 use Rattle.nts_variance_model.proofs.Variances.Alongside.{times_invariant}
@@ -21,7 +21,7 @@ use Rattle.nts_variance.specs.SubRoots.{was}
 use Rattle.nts_variance.specs.Steps.{WalkStep, enter, build, owe, entering}
 use Rattle.nts_variance.specs.Walking.{IsTableGrown, KnowsSteps, sides}
 use Rattle.nts_variance.specs.Debts.{AreUnvaluedSteps}
-use Rattle.nts_variance.specs.Due.{IsTypeVariable, IsValued, GotValue, ShareSubRoots, WasMadeFor, AreTypeVariables, IsGoalDue, AreGoalsDue, AreGoalsOfAliases, IsNoType, IsUnvalued, AreUnvaluedPairs}
+use Rattle.nts_variance.specs.Due.{IsTypeVariable, IsValued, GotValue, ShareSubRoots, WasMadeFor, AreTwoSides, AreTypeVariables, IsGoalDue, AreGoalsDue, AreGoalsOfAliases, IsNoType, IsUnvalued, AreUnvaluedPairs}
 use Rattle.nts_variance.proofs.Leaves.{kept_kinds}
 use Rattle.nts_variance.proofs.Debts.{type_kind, opposite_varies}
 
@@ -105,16 +105,63 @@ variables_turned x y v =
       either = ⊎_elim (λ u. inl (record { first = u.second; second = u.first; apart = λ e. u.apart (sym e) })) (λ m. inr (⊎_elim (λ w. inr w) (λ w. inl w) m)) v.either;
     }
 
+pub two_turned : {b : Content} {x y : Tree} → AreTwoSides b x y → AreTwoSides b y x
+two_turned h = record { trees = λ e. h.trees (sym e); classes = λ n m r p q f g. h.classes m n r q p g f; left = h.right; right = h.left }
+
 pub due_sides : (b d : Content) (z : Bool) (v : Variance) (r t : Tree) → IsGoalDue b d (record { variance = v; left = r; right = t }) → IsGoalDue b d (sides z v r t)
 due_sides b d false v r t h = h
 due_sides b d true v r t (inl a) = inl (⊎_elim (λ x. inr x) (λ y. inl y) a)
-due_sides b d true v r t (inr h) = inr (opposite_varies v h.0, λ e. h.1 (sym e), ⊎_elim (λ w. inl (variables_turned r t w)) (λ g. inr (⊎_elim (λ x. inr x) (λ y. inl y) g)) h.2)
+due_sides b d true v r t (inr h) = inr (opposite_varies v h.0, two_turned h.1, ⊎_elim (λ w. inl (variables_turned r t w)) (λ g. inr (⊎_elim (λ x. inr x) (λ y. inl y) g)) h.2)
+
+-- two sides
+pub one_number : (t : Tree) (n m : ℕ) → IsTypeVariable t n → IsTypeVariable t m → n ≡ m
+one_number t n m p q = (let same : Some (label.Leaf (leaf.Variable kind.Ty n)) ≡ Some (label.Leaf (leaf.Variable kind.Ty m)) = sym p ∙ q in cc)
+
+-- no link leads on from a variable without a value, and from one that is not of the table
+no_way : (c : Content) (n : ℕ) → ((m : ℕ) → state_of c n ≡ Some (link m) → ⊥) → {r : ℕ} → Reaches c n r → n ≡ r
+no_way c n none here = refl
+no_way c n none (on {m = m} {r = r} h e) = (let same : n ≡ m = no_way c n none h in absurd (none r (ap (state_of c) same ∙ e)))
+
+pub unset_way : (c : Content) (n : ℕ) → state_of c n ≡ Some unset → {r : ℕ} → Reaches c n r → n ≡ r
+unset_way c n free h = no_way c n (λ m e. (let z : Some unset ≡ Some (link m) = sym free ∙ e in cc)) h
+
+new_way : (c : Content) (n : ℕ) → length c.slots ≤ n → {r : ℕ} → Reaches c n r → n ≡ r
+new_way c n new h = no_way c n (λ m e. (let below = field_below (λ x. x.state) c n (link m) e in omega (arith, new, below))) h
+
+-- a type variable without a value, and a tree that is none of the table's type variables
+pub two_owed : (b : Content) (s t : Tree) (n : ℕ) → IsTypeVariable t n → state_of b n ≡ Some unset → ((k : ℕ) → IsTypeVariable s k → length b.slots ≤ k) → AreTwoSides b s t
+two_owed b s t n is free newer =
+    let below = field_below (λ x. x.state) b n unset free in
+    record {
+      trees = λ e. (let new = newer n (subst (λ y. IsTypeVariable y n) (sym e) is) in omega (arith, new, below));
+      classes = λ i j r x y f g.
+          (let new = newer i x in
+          let own : n ≡ j = one_number t n j is y in
+          let first : i ≡ r = new_way b i new f in
+          let second : j ≡ r = unset_way b j (subst (λ k. state_of b k ≡ Some unset) own free) g in
+          omega (arith, new, below, own, first, second));
+      left = λ k x. inr (newer k x);
+      right = λ j y. inl (subst (λ k. state_of b k ≡ Some unset) (one_number t n j is y) free);
+    }
 
 -- a type variable that is of a part
 pub unset_number : (c : Content) (t : Tree) (n : ℕ) → IsTypeVariable t n → AllUnset c t → state_of c n ≡ Some unset
 unset_number c empty n e h = cc
 unset_number c (more a b) n e h = cc
 unset_number c (node l x) n e h = (let same : l ≡ label.Leaf (leaf.Variable kind.Ty n) = cc in subst (λ m. UnsetAt c (infer_of m) (AllUnset c x)) same h)
+
+-- two parts in which no variable has a value
+pub two_unset : (c : Content) (a b : Tree) → AllUnset c a → AllUnset c b → (a ≢ b) → ((n : ℕ) → IsTypeVariable a n → IsTypeVariable b n → ⊥) → AreTwoSides c a b
+two_unset c a b first second trees apart =
+    record {
+      trees = trees;
+      classes = λ n m r x y f g.
+          (let p : n ≡ r = unset_way c n (unset_number c a n x first) f in
+          let q : m ≡ r = unset_way c m (unset_number c b m y second) g in
+          apart n x (subst (IsTypeVariable b) (q ∙ sym p) y));
+      left = λ n x. inl (unset_number c a n x first);
+      right = λ m y. inl (unset_number c b m y second);
+    }
 
 pub fresh_number : (c : Content) (v : Variance) (t : Tree) (n : ℕ) → IsTypeVariable t n → v ≢ variance.Invariant → IsUnvalued c v t → state_of c n ≡ Some unset
 fresh_number c v t n e varies h = ⊎_elim

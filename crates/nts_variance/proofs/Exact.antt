@@ -1,17 +1,14 @@
 -- Pairs whose sides are to be one whatever the variance is: variables of consts and of numbers.
-use Rattle.std.proofs.Common.{◌≡◌, ◌≢◌, ◌⊎◌, inl, inr, ⊎_elim, ℕ, Bool, true, false, List, [], ◌∷◌, Some, None, refl, sym, ap, ◌∙◌, subst}
+use Rattle.std.proofs.Common.{◌≡◌, ◌⊎◌, inl, inr, ⊎_elim, ℕ, Bool, true, false, List, [], ◌∷◌, Some, refl, sym, ap, ◌∙◌, subst}
 use Rattle.std.specs.Prelude.{◌||◌}
 use Rattle.nts_model.specs.declared.labels.Sort.TheVariants as sort
 use Rattle.nts_model.specs.declared.labels.Variance.{Variance}
 use Rattle.nts_model.specs.declared.labels.Variance.TheVariants as variance
 use Rattle.nts_model.specs.declared.labels.VariableKind.{VariableKind}
 use Rattle.nts_model.specs.declared.labels.VariableKind.TheVariants as kind
-use Rattle.nts_model.specs.declared.labels.Leaf.TheVariants as leaf
-use Rattle.nts_model.specs.declared.labels.Label.{Label}
-use Rattle.nts_model.specs.declared.labels.Label.TheVariants as label
-use Rattle.nts_model.specs.Terms.Trees.{Tree, empty, more, node, children, of_sort, label_of, shape, Meets, variable_tree}
+use Rattle.nts_model.specs.Terms.Trees.{Tree, empty, more, node, of_sort, label_of, variable_tree}
 use Rattle.nts_model.specs.Tables.Contents.{Content}
-use Rattle.nts_model.specs.Tables.Resolving.{rooted, deeply_resolved, Knows, IsInfer}
+use Rattle.nts_model.specs.Tables.Resolving.{rooted, deeply_resolved, Knows}
 use Rattle.nts_model.specs.Terms.Fitting.{is_integer, is_float, HasLabel, Fits}
 use Rattle.nts_model.specs.Tables.Worlds.{World, inst, Solves}
 use Rattle.nts_model.specs.Derivations.Related.{times, first_variance, rest_variances}
@@ -21,16 +18,13 @@ use Rattle.nts_variance_model.specs.Variances.Forms.{Form, a_constructor, a_func
 use Rattle.nts_variance_model.proofs.Variances.Alongside.{along_const, beside_number, times_invariant}
 use Rattle.nts_model.proofs.Tables.Fitting.{Fits-inst}
 use Rattle.nts_variance_model.proofs.Variances.Forms.{deeply_resolved-over}
-use Rattle.nts_model.proofs.Tables.Kept.{variable_label}
 use Rattle.nts_model.proofs.Tables.ResolvedTerms.{Fits-deeply_resolved}
 use Rattle.nts_variance_model.proofs.Variances.SettleRows.{settled_along, settled_one, settles_kind, settles_turned}
-use Rattle.nts_model.proofs.Terms.Variables.{infer_label}
 use Rattle.nts_store.specs.Growth.{tree_at}
 use Rattle.nts_unify.specs.Entries.{Entries}
 use Rattle.nts_unify.specs.Reading.{content_of, IsLawful}
-use Rattle.nts_unify.proofs.NodeLemmas.{variable_node}
 use Rattle.nts_variance.specs.declared.along.Relating.{Relating}
-use Rattle.nts_variance.specs.Parts.{form_of_tree, parts_of, number_of_type, IsAlone}
+use Rattle.nts_variance.specs.Parts.{form_of_tree, parts_of, IsAlone}
 use Rattle.nts_variance.specs.Taking.{IsExactKind, IsExact, IsPair, Waits, AreOfOneForm}
 use Rattle.nts_variance.specs.Equating.{StandsFor, AreToBeOne}
 use Rattle.nts_variance.proofs.Clean.{holds_terms}

@@ -1,6 +1,6 @@
 -- A goal's predicate, under a table, and what it says where it is answered.
-use Rattle.std.proofs.Common.{◌≡◌, ◌≢◌, ◌⊎◌, inl, inr, ℕ, ◌+◌, Bool, true, false, List, Some, refl, sym, ap, ◌∙◌, subst}
-use Rattle.std.specs.Prelude.{◌||◌, cond, reverse}
+use Rattle.std.proofs.Common.{◌≡◌, ◌≢◌, ◌⊎◌, inl, inr, Bool, true, false, List, Some, refl, sym, ap, ◌∙◌, subst}
+use Rattle.std.specs.Prelude.{◌||◌, cond}
 use Rattle.nts_model.specs.declared.labels.Sort.TheVariants as sort
 use Rattle.nts_model.specs.declared.labels.Variance.{Variance}
 use Rattle.nts_model.specs.declared.labels.Variance.TheVariants as variance
@@ -8,35 +8,15 @@ use Rattle.nts_model.specs.declared.labels.AliasHead.{AliasHead}
 use Rattle.nts_model.specs.declared.labels.AliasHead.TheVariants as alias_of
 use Rattle.nts_model.specs.declared.labels.PredicateHead.{PredicateHead}
 use Rattle.nts_model.specs.declared.labels.PredicateHead.TheVariants as predicate
-use Rattle.nts_model.specs.declared.labels.ListHead.TheVariants as list
-use Rattle.nts_model.specs.declared.labels.TyHead.TheVariants as ty
-use Rattle.nts_model.specs.declared.labels.ConstHead.TheVariants as konst
-use Rattle.nts_model.specs.declared.labels.Label.{Label}
 use Rattle.nts_model.specs.declared.labels.Label.TheVariants as label
-use Rattle.nts_model.specs.declared.labels.VariableKind.TheVariants as kind
-use Rattle.nts_model.specs.declared.labels.Leaf.TheVariants as leaf
-use Rattle.nts_model.specs.Terms.Trees.{Tree, empty, more, node, binders, kind_of, of_sort, shape, is_alias, any_term, FitsPlace, IsBoundBelow, IsClosed, IsClosedUnder, IsFormed, Meets, variable_of}
-use Rattle.nts_model.specs.Tables.Contents.{Content}
-use Rattle.nts_model.specs.Tables.Resolving.{Knows, IsSound, value_at, rooted, rooted_variable, resolved, deeply_resolved}
-use Rattle.nts_model.specs.Tables.Holding.{Continues}
-use Rattle.nts_model.specs.Derivations.Related.{IsAlias, alias, arguments, pair, no_sorts, unbound, directed, direction_of}
+use Rattle.nts_model.specs.Terms.Trees.{Tree, kind_of, of_sort, shape, any_term, FitsPlace, Meets}
+use Rattle.nts_model.specs.Derivations.Related.{IsAlias, alias, pair, direction_of}
 use Rattle.nts_variance_model.specs.Variances.Relations.{Relating as Pair}
-use Rattle.nts_model.specs.Lists.{Among}
-use Rattle.nts_variance_model.specs.Variances.AnsweredGoals.{IsAnswered}
-use Rattle.nts_model.proofs.Tables.Resolved.{deeply_resolved-node, deeply_resolved-empty}
-use Rattle.nts_model.proofs.Tables.Fitting.{IsClosed-values}
-use Rattle.nts_model.proofs.Tables.Open.{values_closed_of}
-use Rattle.nts_model.proofs.Tables.Kept.{kind_of-resolved, kind_of-rooted}
-use Rattle.nts_model.proofs.Tables.Slots.{Knows-kept}
-use Rattle.nts_variance_model.proofs.Variances.SettleRows.{alias_or_none}
 use Rattle.nts_store.specs.Growth.{tree_at, IsIn, Extends}
 use Rattle.nts_variance.specs.declared.along.Relating.{Relating as Goal}
 use Rattle.nts_variance.specs.Terms.{pair_at, IsGoal}
-use Rattle.nts_variance.proofs.Leaves.{kept_kinds}
-use Rattle.nts_variance.proofs.Looks.{alias_tree}
-use Rattle.nts_variance.specs.Goals.{in_order, ordered, is_alias_node, expects_first, goal_head, goal_of}
+use Rattle.nts_variance.specs.Goals.{in_order, ordered, is_alias_node, expects_first, goal_head}
 use Rattle.nts_model.proofs.Tables.AlikeNodes.{alias_label_is as alias_is_alias}
-use Rattle.nts_model.proofs.Tables.TableInstances.{deeply_resolved-more}
 use Rattle.nts_variance.proofs.Exact.{or_left as left_or}
 
 -- an alias stays one

@@ -1,14 +1,14 @@
 -- Tables that grow.
-use Rattle.std.proofs.Common.{◌≡◌, ◌≢◌, ℕ, ◌<◌, List, length, Some, sym, ◌∙◌, arith}
+use Rattle.std.proofs.Common.{◌≡◌, ◌≢◌, ℕ, ◌<◌, length, Some, sym, ◌∙◌, arith}
 use Rattle.nts_model.specs.declared.labels.VariableKind.TheVariants as kind
 use Rattle.nts_model.specs.Terms.Trees.{Tree}
-use Rattle.nts_model.specs.Tables.Contents.{Content, Slot, Recorded, unset, kind_at, with_slot}
+use Rattle.nts_model.specs.Tables.Contents.{Content, Slot, unset, kind_at, with_slot}
 use Rattle.nts_model.specs.Tables.Resolving.{Knows}
 use Rattle.nts_model.proofs.Tables.Slots.{Knows-kept, KeepsKinds-with_slot}
 use Rattle.nts_model.proofs.Tables.Tying.{has_kind}
 use Rattle.nts_model.proofs.Tables.SubUnified.{JoinsSubRoots-refl}
 use Rattle.std.proofs.Common.{length-append, [], ◌∷◌}
-use Rattle.nts_unify.specs.Changing.{IsLater, AddsVisible, nothing_more, one_more}
+use Rattle.nts_unify.specs.Changing.{IsLater, nothing_more}
 use Rattle.nts_variance.specs.Walking.{IsTableGrown}
 use Rattle.nts_variance.proofs.SubRoots.{grows_joined, grows_slot, grows_then}
 use Rattle.nts_unify.proofs.Keeping.{AddsVisible-trans as visible_trans}

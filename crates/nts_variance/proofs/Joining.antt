@@ -24,6 +24,7 @@ use Rattle.nts_variance.proofs.Bound.{bindable_kind}
 use Rattle.nts_variance.specs.Equating.{AreToBeOne}
 use Rattle.nts_variance.proofs.Exact.{one_settled}
 use Rattle.nts_variance.proofs.Growing.{grown_later}
+use Rattle.nts_variance.proofs.Founding.{founds_tied}
 use Rattle.nts_variance.proofs.Leaves.{kept_kinds}
 use Rattle.nts_variance.proofs.Sides.{open_one}
 use Rattle.nts_variance.proofs.Takes.{pair_of, takes_class}
@@ -86,6 +87,7 @@ module _ (declared : ℕ → List Variance) where
               (let there : deeply_resolved g a ≡ deeply_resolved g b = AreOne-later c d g a b m.continues on ka kb one in
               (subst (Related declared (λ t. Unit {0}) (λ z. HoldsConstraint g (recorded_as z)) (Among ks) v (deeply_resolved g a)) there (one_tree tt), tt));
         };
+        plain = λ h. (let l = m.later in (record { keeps = m.plain; founds = founds_tied c d l.kinds m.ties }, tt));
         passes = λ P p h i. ((let y = m.brings in y.labels P (p.variables) h), tt, tt);
       }
     where

@@ -6,6 +6,9 @@ use Rattle.std.proofs.lemmas.Bool.{or_parts}
 use Rattle.nts_model.proofs.Tables.Bringing.{brings-with_slot, brings-with_constraint}
 use Rattle.nts_model.specs.Tables.Passing.{TreePasses, TablePasses}
 use Rattle.nts_variance.specs.Passing.{PassesRows}
+use Rattle.nts_variance.specs.Plain.{StaysPlain}
+use Rattle.nts_relating.specs.Relating.{IsPlainIn, KeepsPlain}
+use Rattle.nts_variance.specs.SubRoots.{FoundsVariables}
 use Rattle.nts_variance.proofs.Passes.{sides_pass, owed_passes}
 use Rattle.nts_model.specs.declared.labels.Sort.{Sort}
 use Rattle.nts_model.specs.declared.labels.Sort.TheVariants as sort
@@ -55,9 +58,12 @@ use Rattle.nts_variance_model.proofs.Variances.SettleRows.{settled_along, settle
 use Rattle.nts_variance_model.proofs.Variances.Generalizing.{owed, judged_agrees, owed_met, FreshIn, fresh_in}
 use Rattle.nts_unify.specs.Changing.{IsSeen, is_free_region}
 use Rattle.nts_unify.proofs.Keeping.{KeepsKnowing-with_constraint}
-use Rattle.nts_variance.proofs.Clean.{clean_leaf, clean_erased, clean_unset, clean_number}
+use Rattle.nts_variance.proofs.Clean.{clean_leaf, clean_erased, clean_unset, clean_number, resolved_unset}
 use Rattle.nts_variance.proofs.CountedPieces.{counted_itself, number_none, leaf_none}
+use Rattle.nts_model.proofs.Tables.Tying.{TiesNew-same}
 use Rattle.nts_variance.proofs.Growing.{grown_refl, grown_trans, grown_later, grown_slot}
+use Rattle.nts_variance.proofs.Founding.{founds_tied, founds_region}
+use Rattle.nts_variance.proofs.PlainTerms.{keeps_same, stays_none, stays_then}
 use Rattle.nts_variance.specs.Counting.{IsCountedFor}
 use Rattle.nts_variance.specs.Parts.{has_parts, IsAlone}
 use Rattle.nts_variance.specs.Walking.{IsMadeFor, RelatedTrees, RelatedSides, sides, IsMade}
@@ -203,6 +209,7 @@ module _ (declared : ℕ → List Variance) (z : Bool) (u : ℕ) where
           is = sym (same j w h judged settled s t' x);
           goals = tt;
         };
+        plain = λ h. (stays_none c, h);
         passes = λ P q h k. (h, k, tt);
       }
 
@@ -374,6 +381,12 @@ module _ (declared : ℕ → List Variance) (z : Bool) (c : Content) (s : Slot) 
   fresh_clean : (u : ℕ) → NamesAll region_level u (resolved (with_slot c s) (variable_tree s.kind (length c.slots)))
   fresh_clean u = clean_unset (with_slot c s) u s.kind (length c.slots) (IsSound-with_slot c s sound free) (field-with_slot_new (λ x. x.state) c s ∙ ap Some free)
 
+  fresh_keeps : KeepsPlain c (with_slot c s)
+  fresh_keeps = keeps_same c (with_slot c s) (λ a k. resolved-with_slot c s sound free a)
+
+  fresh_plain : IsPlainIn (with_slot c s) (variable_tree s.kind (length c.slots))
+  fresh_plain = ap (any_label is_alias) (resolved_unset (with_slot c s) s.kind (length c.slots) (IsSound-with_slot c s sound free) (field-with_slot_new (λ x. x.state) c s ∙ ap Some free))
+
   fresh_knows : Knows (with_slot c s) (variable_tree s.kind (length c.slots))
   fresh_knows = ((field-with_slot_new (λ x. x.kind) c s, tt, refl), tt, tt)
 
@@ -393,9 +406,9 @@ module _ (declared : ℕ → List Variance) (z : Bool) (c : Content) (s : Slot) 
       fresh_in J law c s free sound known_sides w x h settled x' names value
 
   -- for a type variable or a closed alias: the variable owes a goal
-  fresh_loudly : (v : Variance) (t : Tree) → (s.kind ≡ kind.Ty) ⊎ (s.kind ≡ kind.Const) → Knows c t → IsValue s.kind t → kind_of t ≡ Some (of_sort (sort_of_variable s.kind)) → IsInfer t ⊎ IsAlias t
+  fresh_loudly : (v : Variance) (t : Tree) → (s.kind ≡ kind.Ty) ⊎ (s.kind ≡ kind.Const) → Knows c t → IsValue s.kind t → kind_of t ≡ Some (of_sort (sort_of_variable s.kind)) → IsInfer t ⊎ IsAlias t → (IsPlainIn c t → FoundsVariables c (with_slot c s))
       → IsMade declared z s.universe c (with_slot c s) v false t (variable_tree s.kind (length c.slots)) (sides z v (variable_tree s.kind (length c.slots)) t ∷ [])
-  fresh_loudly v t sort knows fits sorted varies =
+  fresh_loudly v t sort knows fits sorted varies founded =
       let d = with_slot c s in
       let r = variable_tree s.kind (length c.slots) in
       record {
@@ -414,6 +427,7 @@ module _ (declared : ℕ → List Variance) (z : Bool) (c : Content) (s : Slot) 
             let old : inst g.world t ≡ inst w t = inst-agrees c w g.world t g.agrees knows in
             let there : Settles J v (inst g.world r) (inst g.world t) = subst (λ a. Settles J v a (inst g.world t)) (sym e.is) (subst (Settles J v x) (sym old) y) in
             record { extension = g; is = e.is; goals = (settles_sides z J j.lawful g.world v r t there, tt) });
+        plain = λ h. (record { keeps = fresh_keeps; founds = founded h }, fresh_plain);
         passes = λ P q h k. (fresh_table P q h, fresh_tree P q, sides_pass P z v r t (fresh_tree P q) k);
       }
     where
@@ -422,9 +436,9 @@ module _ (declared : ℕ → List Variance) (z : Bool) (c : Content) (s : Slot) 
       sides_known true v r t a b = (b, a, tt)
 
   -- .. and none where one around says it
-  fresh_quietly : (v : Variance) (t : Tree) → (s.kind ≡ kind.Ty) ⊎ (s.kind ≡ kind.Const) → Knows c t → IsValue s.kind t → kind_of t ≡ Some (of_sort (sort_of_variable s.kind)) → IsInfer t ⊎ IsAlias t
+  fresh_quietly : (v : Variance) (t : Tree) → (s.kind ≡ kind.Ty) ⊎ (s.kind ≡ kind.Const) → Knows c t → IsValue s.kind t → kind_of t ≡ Some (of_sort (sort_of_variable s.kind)) → IsInfer t ⊎ IsAlias t → (IsPlainIn c t → FoundsVariables c (with_slot c s))
       → IsMade declared z s.universe c (with_slot c s) v true t (variable_tree s.kind (length c.slots)) []
-  fresh_quietly v t sort knows fits sorted varies =
+  fresh_quietly v t sort knows fits sorted varies founded =
       let d = with_slot c s in
       record {
         later = grown_slot c s free;
@@ -439,6 +453,7 @@ module _ (declared : ℕ → List Variance) (z : Bool) (c : Content) (s : Slot) 
             (let J = judging_of declared j in
             let e = chosen_for J j.lawful w v t x h settled sort knows fits x' names formed y in
             record { extension = e.extension; is = e.is; goals = tt });
+        plain = λ h. (record { keeps = fresh_keeps; founds = founded h }, fresh_plain);
         passes = λ P q h k. (fresh_table P q h, fresh_tree P q, tt);
       }
 
@@ -476,6 +491,10 @@ module _ (declared : ℕ → List Variance) (z : Bool) (c : Content) (s : Slot) 
               is = m.is;
               goals = tt;
             });
+        plain = λ h.
+            (let same : (a : Tree) → resolved (with_constraint d x) a ≡ resolved d a = λ a. resolved-same d (with_constraint d x) a (SameStates-with_constraint d x) in
+            let recorded : StaysPlain d (with_constraint d x) = record { keeps = keeps_same d (with_constraint d x) (λ a k. same a); founds = founds_tied d (with_constraint d x) (λ n j i. i) (TiesNew-same d (with_constraint d x) refl) } in
+            (stays_then c d (with_constraint d x) (grown_slot c s free) (grown_later seen_later.later) (Continues-with_constraint d x sound') (record { keeps = fresh_keeps; founds = founds_region c s e }) recorded, ap (any_label is_alias) (same r) ∙ fresh_plain));
         passes = λ P q h k. (
           (let sides = owed_by_passes P z v r t (fresh_tree P q) k in let b = brings-with_constraint d x in b.labels P (q.variables) (fresh_table P q h) sides.0 sides.1),
           fresh_tree P q,
@@ -507,19 +526,20 @@ module _ (declared : ℕ → List Variance) (z : Bool) (c : Content) (s : Slot) 
             let right : IsRegion (inst w t) = Fits-inst c w kind.Region t h.fitting knows region in
             let m = chosen_region J j.lawful w v t x h settled e right x' names formed y in
             record { extension = m.extension; is = m.is; goals = tt });
+        plain = λ h. (record { keeps = fresh_keeps; founds = founds_region c s e }, fresh_plain);
         passes = λ P q h k. (fresh_table P q h, fresh_tree P q, tt);
       }
 
   module _ (u : ℕ) (of_u : s.universe ≡ u) where
     -- a fresh variable for a type variable or a closed alias
-    pub made_fresh : (v : Variance) (q : Bool) (t : Tree) → (s.kind ≡ kind.Ty) ⊎ (s.kind ≡ kind.Const) → Knows c t → IsFormed t → IsClosed t → kind_of t ≡ Some (of_sort (sort_of_variable s.kind)) → IsInfer t ⊎ IsAlias t
+    pub made_fresh : (v : Variance) (q : Bool) (t : Tree) → (s.kind ≡ kind.Ty) ⊎ (s.kind ≡ kind.Const) → Knows c t → IsFormed t → IsClosed t → kind_of t ≡ Some (of_sort (sort_of_variable s.kind)) → IsInfer t ⊎ IsAlias t → (IsPlainIn c t → FoundsVariables c (with_slot c s))
         → IsMade declared z u c (with_slot c s) v q t (variable_tree s.kind (length c.slots)) (owed_goals q z v (variable_tree s.kind (length c.slots)) t)
-    made_fresh v false t sort knows formed closed sorted varies =
+    made_fresh v false t sort knows formed closed sorted varies founded =
         subst (λ i. IsMade declared z i c (with_slot c s) v false t (variable_tree s.kind (length c.slots)) (sides z v (variable_tree s.kind (length c.slots)) t ∷ [])) of_u
-        (fresh_loudly v t sort knows (value_of_kind s.kind sort t sorted closed formed) sorted varies)
-    made_fresh v true t sort knows formed closed sorted varies =
+        (fresh_loudly v t sort knows (value_of_kind s.kind sort t sorted closed formed) sorted varies founded)
+    made_fresh v true t sort knows formed closed sorted varies founded =
         subst (λ i. IsMade declared z i c (with_slot c s) v true t (variable_tree s.kind (length c.slots)) []) of_u
-        (fresh_quietly v t sort knows (value_of_kind s.kind sort t sorted closed formed) sorted varies)
+        (fresh_quietly v t sort knows (value_of_kind s.kind sort t sorted closed formed) sorted varies founded)
 
     -- a fresh region variable for a free region: what it owes is recorded
     pub made_region : (v : Variance) (t : Tree) → s.kind ≡ kind.Region → Knows c t → IsRegion t

@@ -40,6 +40,9 @@ mod DueHeads
 pub mod GoalLemmas
 mod Arguments
 pub mod SubRoots
+pub mod Founding
+pub mod PlainTerms
 pub mod Plainly
 mod Bareness
 mod DueExamples
+mod FoundingExamples

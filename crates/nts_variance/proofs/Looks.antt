@@ -21,7 +21,7 @@ use Rattle.nts_model.specs.declared.labels.Label.{Label}
 use Rattle.nts_model.specs.declared.labels.Label.TheVariants as label
 use Rattle.nts_model.specs.Terms.Trees.{Tree, empty, more, node, kind_of, kind_of_label, of_sort, sort_of_variable, label_of, children, any_label, is_alias, is_infer, in_order, shape, Meets, IsClosed, IsFormed, infer_of, variable_tree}
 use Rattle.nts_model.specs.Tables.Contents.{Content, Slot, unset, kind_at, state_of, with_slot, with_constraint}
-use Rattle.nts_model.specs.Tables.Resolving.{IsInfer, Knows, KnowsVariable, Reaches, here, resolved}
+use Rattle.nts_model.specs.Tables.Resolving.{IsInfer, IsSound, Knows, KnowsVariable, Reaches, here, resolved}
 use Rattle.nts_model.specs.Tables.SubUnifying.{linked, turned}
 use Rattle.nts_model.specs.Terms.Regions.{IsRegion}
 use Rattle.nts_model.specs.Derivations.Related.{IsAlias}
@@ -57,14 +57,19 @@ use Rattle.nts_variance.specs.Walking.{IsMade}
 use Rattle.nts_variance.specs.Counting.{IsCountedFor}
 use Rattle.nts_variance.specs.Parts.{has_parts, form_of_tree, parts_of, none_escapes, closed_alias, const_variable, number_of_type, StandsAlone}
 use Rattle.nts_variance.specs.Terms.{pairs_at, AreGoals, ArePairs, IsPart}
-use Rattle.nts_variance.specs.Due.{IsTypeVariable, IsUnvalued, ShareSubRoots, WasMadeFor, AreTypeVariables, AreGoalsDue}
+use Rattle.nts_variance.specs.Due.{IsTypeVariable, IsUnvalued, ShareSubRoots, WasMadeFor, AreTwoSides, AreTypeVariables, AreGoalsDue}
 use Rattle.nts_variance.specs.Varying.{pair_in, owed_pairs, constraint_of_pair, with_owed, fresh, IsMadeAt, IsTypeValue, IsMadeAgain, IsOwn, IsKept}
 use Rattle.nts_variance.proofs.Pushing.{pair_at-in}
 use Rattle.nts_variance.proofs.PartLemmas.{IsOverParts, over_parts}
 use Rattle.nts_relating.proofs.Ranks.{kind_of-like}
 use Rattle.nts_variance.proofs.Debts.{closed_patched, like_itself, like_closed, goal_sides, ranked_type, type_kind, type_rank}
-use Rattle.nts_variance.proofs.Dues.{reaches_later, due_sides, fresh_number, variables_turned}
+use Rattle.nts_variance.proofs.Dues.{reaches_later, due_sides, fresh_number, one_number, two_owed, variables_turned}
+use Rattle.nts_model.proofs.Tables.Roots.{kind_at-reaches}
+use Rattle.nts_relating.specs.Relating.{IsPlainIn}
+use Rattle.nts_variance.specs.SubRoots.{FoundsVariables}
 use Rattle.nts_variance.proofs.Growing.{grown_slot}
+use Rattle.nts_variance.proofs.Founding.{founds_slot}
+use Rattle.nts_variance.proofs.PlainTerms.{plain_no_alias}
 use Rattle.nts_variance.proofs.CountedPieces.{counted_fresh, counted_region, counted_recorded, counted_piece}
 use Rattle.nts_variance.proofs.Leaves.{owed_by, owed_goals, made_plain, counted_plain, made_fresh, made_region, made_region_quietly}
 use Rattle.nts_variance.proofs.Pieces.{made_piece, plain_unset}
@@ -82,11 +87,16 @@ node_meets t l e f = (let g : IsFormed (node l (children t)) = subst IsFormed e 
 pub looked_value : (ts : List Tree) (e : Entries) (t : Tree) (l : Label) (n r : ℕ) (v : NodeId) → IsLawful ts e → Knows (content_of ts e) t → t ≡ node l (children t) → infer_of l ≡ Some n → HasClass e n r (Known v) → IsIn ts v × IsVariableValue (content_of ts e) t (tree_at ts v)
 looked_value ts e t l n r v lawful knows is i class = (let k = head_known ts e t l n r v lawful knows is i class in (k.within, value_of ts e t v k))
 
+-- a type variable has nothing else
+pub whole_variable : (t : Tree) (n : ℕ) → IsTypeVariable t n → IsFormed t → t ≡ variable_tree kind.Ty n
+whole_variable t n e formed =
+    let is = labelled_node t (label.Leaf (leaf.Variable kind.Ty n)) e in
+    is ∙ ap (node (label.Leaf (leaf.Variable kind.Ty n))) (no_children (children t) (node_meets t _ is formed))
+
 -- a type variable is closed
 pub variable_closed : (t : Tree) (n : ℕ) → label_of t ≡ Some (label.Leaf (leaf.Variable kind.Ty n)) → IsFormed t → IsClosed t × (kind_of t ≡ Some (of_sort sort.Ty)) × IsInfer t
 variable_closed t n e formed =
-    let is = labelled_node t (label.Leaf (leaf.Variable kind.Ty n)) e in
-    let whole : t ≡ variable_tree kind.Ty n = is ∙ ap (node (label.Leaf (leaf.Variable kind.Ty n))) (no_children (children t) (node_meets t _ is formed)) in
+    let whole : t ≡ variable_tree kind.Ty n = whole_variable t n e formed in
     (subst IsClosed (sym whole) (tt, tt), ap kind_of whole, subst IsInfer (sym whole) (n, refl))
 
 pub looked_type_value : (ts : List Tree) (e : Entries) (t : Tree) (n r : ℕ) (v : NodeId) → IsLawful ts e → Knows (content_of ts e) t → IsFormed t → label_of t ≡ Some (label.Leaf (leaf.Variable kind.Ty n)) → HasClass e n r (Known v) → IsIn ts v × IsTypeValue (content_of ts e) t (tree_at ts v)
@@ -148,9 +158,6 @@ type_infer empty n e = cc
 type_infer (more a b) n e = cc
 type_infer (node l c) n e = (let same : l ≡ label.Leaf (leaf.Variable kind.Ty n) = cc in (n, ap infer_of same))
 
-pub one_number : (t : Tree) (n m : ℕ) → IsTypeVariable t n → IsTypeVariable t m → n ≡ m
-one_number t n m p q = (let same : Some (label.Leaf (leaf.Variable kind.Ty n)) ≡ Some (label.Leaf (leaf.Variable kind.Ty m)) = sym p ∙ q in cc)
-
 fresh_joins : (c : Content) (s : Slot) (k : VariableKind) (t : Tree) → s.state ≡ unset → (IsInfer t → (k ≡ kind.Ty) × IsLinkedTo c t s.sub_link) → (n m : ℕ) → IsTypeVariable t n → IsTypeVariable (variable_tree k (length c.slots)) m → ShareSubRoots (with_slot c s) n m
 fresh_joins c s k t free named n m p q =
     let l = (named (type_infer t n p)).1 in
@@ -171,9 +178,8 @@ fresh_due b c s false z v k t free (inl i) varies named before part =
     let loud : IsUnvalued b v t = ⊎_elim (λ (no : false ≡ true). cc) (λ f. f) part in
     let unset_before : state_of b l.number ≡ Some unset = fresh_number b v t l.number l.is (varies i) loud in
     let made : WasMadeFor b (with_slot c s) l.number (length c.slots) = record { free = unset_before; new = before; shared = share_fresh c s t free l } in
-    let below = field_below (λ x. x.state) b l.number unset unset_before in
-    let apart : variable_tree k (length c.slots) ≢ t = λ same.
-    (let one = one_number t l.number (length c.slots) l.is (subst (λ y. IsTypeVariable y (length c.slots)) same new) in omega (arith, one, below, before)) in
+    let apart : AreTwoSides b (variable_tree k (length c.slots)) t =
+    two_owed b (variable_tree k (length c.slots)) t l.number l.is unset_before (λ n x. (let same = one_number (variable_tree k (length c.slots)) n (length c.slots) x new in omega (arith, same, before))) in
     let two : AreTypeVariables b (with_slot c s) t (variable_tree k (length c.slots)) = record { first = l.number; second = length c.slots; left = l.is; right = new; either = inr (inl made) } in
     (due_sides b (with_slot c s) z v (variable_tree k (length c.slots)) t (inr (varies i, apart, inl (variables_turned t (variable_tree k (length c.slots)) two))), tt)
 
@@ -200,6 +206,15 @@ fresh_like c t k o n m (inr a) linked_to low p =
     let new : length c.slots ≡ m = cc in
     inr (a, omega (arith, low, new))
 
+-- .. and is made for a type variable, where there are no aliases
+fresh_founds : (c : Content) (s : Slot) (t : Tree) → IsSound c → Knows c t → IsInfer t ⊎ IsAlias t → (IsInfer t → (s.kind ≡ kind.Ty) × IsLinkedTo c t s.sub_link) → IsPlainIn c t → FoundsVariables c (with_slot c s)
+fresh_founds c s t sound knows (inl i) named h =
+    let own = named i in
+    let l = own.1 in
+    let known : Knows c (node (label.Leaf (leaf.Variable kind.Ty l.number)) (children t)) = subst (Knows c) (labelled_node t (label.Leaf (leaf.Variable kind.Ty l.number)) l.is) knows in
+    founds_slot c s l.root (kind_at-reaches c l.number l.root sound l.reaches ∙ known.0.0 ∙ ap Some (sym own.0)) l.link
+fresh_founds c s t sound knows (inr a) named h = absurd (plain_no_alias c t h a)
+
 -- a fresh variable for a type variable or a closed alias
 pub fresh_at : (declared : ℕ → List Variance) (z : Bool) (u x : ℕ) (ts us : List Tree) (e f : Entries) (s : Spot) (r : NodeId) (gs hs : List Relating) (k : VariableKind) (o : Option ℕ) → x < length e.variables → (k ≡ kind.Ty) ⊎ (k ≡ kind.Const) → IsLawful ts e → IsLawful us f → Extends ts us → IsPart ts (content_of ts e) s
     → IsFormed (tree_at ts s.term) → IsClosed (tree_at ts s.term) → kind_of (tree_at ts s.term) ≡ Some (of_sort (sort_of_variable k)) → IsInfer (tree_at ts s.term) ⊎ IsAlias (tree_at ts s.term) → (IsInfer (tree_at ts s.term) → (s.variance ≢ variance.Invariant) × (k ≡ kind.Ty)) → (IsInfer (tree_at ts s.term) → IsLinkedTo (content_of ts e) (tree_at ts s.term) o)
@@ -212,7 +227,7 @@ fresh_at declared z u x ts us e f s r gs hs k o below sort lawful later ext part
     let kept : tree_at us s.term ≡ t = ext.kept s.term part.within in
     let tree : tree_at us r ≡ variable_tree k (length c.slots) = is ∙ ap (variable_tree k) (sym (length-slots ts e.variables)) in
     let new : pairs_at us (owed_pairs z s r) ≡ owed_goals s.is_quiet z s.variance (variable_tree k (length c.slots)) t = owed_at us z s.is_quiet s.variance r s.term ∙ (λ i. owed_goals s.is_quiet z s.variance (tree i) (kept i)) in
-    let whole = made_fresh declared z c slot refl lawful.sound (lawful_sides ts e lawful) u refl s.variance s.is_quiet t sort part.knows formed closed sorted either in
+    let whole = made_fresh declared z c slot refl lawful.sound (lawful_sides ts e lawful) u refl s.variance s.is_quiet t sort part.knows formed closed sorted either (fresh_founds c slot t lawful.sound part.knows either (λ i. ((varies i).1, linked_to i))) in
     let made : IsMade declared z u c (content_of us f) s.variance s.is_quiet t (tree_at us r) (pairs_at us (owed_pairs z s r)) = rw (content, tree, new) whole in
     record {
       within = within;

@@ -7,7 +7,6 @@ use Rattle.nts_model.specs.declared.labels.Variance.{Variance}
 use Rattle.nts_model.specs.contracts.labels.VariancePartialEq.TheImpl as variance_eq
 use Rattle.nts_model.specs.Terms.Trees.{Tree}
 use Rattle.nts_model.specs.Lists.{Among}
-use Rattle.nts_store.specs.declared.nodes.NodeId.{NodeId}
 use Rattle.nts_store.specs.contracts.nodes.NodeIdPartialEq.TheImpl as id_eq
 use Rattle.nts_variance.specs.declared.along.Relating.{Relating}
 use Rattle.nts_variance.specs.contracts.along.RelatingPartialEq.TheImpl as goal_eq

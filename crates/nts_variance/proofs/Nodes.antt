@@ -10,7 +10,7 @@ use Rattle.nts_model.specs.declared.labels.ConstHead.TheVariants as konst
 use Rattle.nts_model.specs.declared.labels.ListHead.TheVariants as list
 use Rattle.nts_model.specs.declared.labels.Label.{Label}
 use Rattle.nts_model.specs.declared.labels.Label.TheVariants as label
-use Rattle.nts_model.specs.Terms.Trees.{Tree, empty, more, node, size, NodeKind, kind_of, binders, IsRow, row_length, Place, a_type, FitsPlace, HavePlaces, AllFit, IsClosedUnder, IsClosed, IsFormed}
+use Rattle.nts_model.specs.Terms.Trees.{Tree, empty, more, node, size, NodeKind, kind_of, binders, IsRow, row_length, Place, a_type, FitsPlace, HavePlaces, AllFit, IsClosedUnder, IsClosed, IsFormed, any_label, is_alias}
 use Rattle.nts_model.specs.Terms.Scoping.{KeepsListed}
 use Rattle.nts_model.specs.Tables.Contents.{Content}
 use Rattle.nts_model.specs.Tables.Resolving.{IsInfer, Knows, IsSound, resolved, rooted, deeply_resolved, variable_rank}
@@ -40,6 +40,7 @@ use Rattle.nts_variance_model.proofs.Variances.Generalizing.{settle_joined}
 use Rattle.nts_variance_model.proofs.Variances.SettleRows.{settles_turned, empty_forward, more_beside}
 use Rattle.nts_variance_model.proofs.Variances.Forms.{IsRow-inst, row_length-inst, inst-over, FitsForm-inst, deeply_resolved-over, FitsForm-deeply_resolved, variances_over_length, variances_over_inst, variances_over_resolved, Knows-over, KeepsListed-over, related_over, form_beside, head_closed}
 use Rattle.nts_variance.proofs.Growing.{grown_refl}
+use Rattle.nts_variance.proofs.PlainTerms.{stays_none, plain_over, over_plain, entering_plain, popped_plain}
 use Rattle.nts_variance.specs.Steps.{WalkStep, enter, build, owe, steps_of, popped, unpopped, entering, part_place, PartsFit, kinds_left, kind_over, EndsAlone, HasSorts, builds, sizes, StepsLead, ended, entered, built, owed, MadeForRow}
 use Rattle.nts_variance.specs.Parts.{IsAlone}
 use Rattle.nts_variance.specs.Walking.{IsMadeFor, MadeIn, NothingOwed, RelatedTrees, RelatedSides, StandsBy, OwedBy, IsChoice, SettlesOwed, sides, step_weights, KnowsSteps, Walks}
@@ -531,6 +532,9 @@ module _ (declared : ℕ → List Variance) (z : Bool) (u : ℕ) where
               runs = subst (λ ys. StepsLead P Q ys (map g ss) whole) (sym (steps_node g (inst_rows w) F v ws q ts xs row)) all;
               goals = goals;
             });
+        plain = λ h k.
+            (let x = plain_over c F ts (deeply_resolved-over c F ts fits) h.0 in
+            (stays_none c, entering_plain c v ws q ts (build F (row_length ts) ∷ xs) x.1 (x.0, h.1), k));
         passes = λ P p h a b k. (let x = over_parted P F ts a.0 in (h, entering_passes P v ws q ts (build F (row_length ts) ∷ xs) x.1 (x.0, a.1), b, k));
       }
 
@@ -563,13 +567,14 @@ module _ (declared : ℕ → List Variance) (z : Bool) (u : ℕ) where
               runs = subst (λ t. StepsLead P Q (steps_of g xs) (t ∷ map g ss) whole) (sym (inst_built w F rs sorts)) two;
               goals = goals;
             });
+        plain = λ h k. (let x = popped_plain c rs ss row k in (stays_none c, h.1, (over_plain c F rs (resolved_built c F rs sorts) h.0 x.0, x.1)));
         passes = λ P p h a b k. (let x = popped_passes P rs ss row b in (h, a.1, (over_passes P F rs a.0 x.0, x.1), k));
       }
 
   -- a variable gives way to its value, and is owed what was made for that
-  pub walk_value : (c : Content) (v : Variance) (t value : Tree) (xs : List WalkStep) (ss : List Tree) (gs : List Relating) → IsSound c → IsInfer t → IsClosed value → kind_of value ≡ kind_of t → ((w : World) → Solves c w → inst w t ≡ inst w value) → ((P : Label → Bool) → TablePasses P c → TreePasses P value)
+  pub walk_value : (c : Content) (v : Variance) (t value : Tree) (xs : List WalkStep) (ss : List Tree) (gs : List Relating) → IsSound c → IsInfer t → IsClosed value → kind_of value ≡ kind_of t → resolved c t ≡ resolved c value → ((w : World) → Solves c w → inst w t ≡ inst w value) → ((P : Label → Bool) → TablePasses P c → TreePasses P value)
       → Walks declared z u c c (enter v false t ∷ xs) (enter v true value ∷ owe v t ∷ xs) ss ss gs gs
-  walk_value c v t value xs ss gs sound infer closed kinds is labels =
+  walk_value c v t value xs ss gs sound infer closed kinds same is labels =
       record {
         later = grown_refl c;
         continues = Continues-refl c sound;
@@ -596,6 +601,7 @@ module _ (declared : ℕ → List Variance) (z : Bool) (u : ℕ) where
               runs = entered (choice_value J u whole v false true (g t) (g value) x.made (is w h) x.fits) (owed f.settles x.runs);
               goals = goals;
             });
+        plain = λ h k. (stays_none c, (ap (any_label is_alias) (sym same) ∙ h.0, h.1), k);
         passes = λ P p h a b k. (h, (labels P h, (a.0, a.1)), b, k);
       }
 
@@ -625,6 +631,7 @@ module _ (declared : ℕ → List Variance) (z : Bool) (u : ℕ) where
               runs = entered (choice_value J u whole v q q (g t) (g value) x.made (is w h) x.fits) x.runs;
               goals = goals;
             });
+        plain = λ h k. (stays_none c, (ap (any_label is_alias) (sym same) ∙ h.0, h.1), k);
         passes = λ P p h a b k. (h, (labels P h, a.1), b, k);
       }
 
@@ -648,5 +655,6 @@ module _ (declared : ℕ → List Variance) (z : Bool) (u : ℕ) where
               runs = x.runs;
               goals = settle_joined J j.lawful w gs (sides z v r t ∷ []) goals (settles_sides z J j.lawful w v r t x.fits, tt);
             });
+        plain = λ h k. (stays_none c, h, k);
         passes = λ P p h a b k. (h, a.1, b, pass_joined P gs (sides z v r t ∷ []) k (sides_pass P z v r t b.0 a.0));
       }

@@ -42,6 +42,9 @@ use Rattle.nts_variance.specs.Parts.{StandsAlone}
 use Rattle.nts_variance.specs.Terms.{pairs_at, step_at}
 use Rattle.nts_variance.specs.Varying.{IsWalk, LookRefuses, WalkRefuses, IsVaried}
 use Rattle.nts_variance.proofs.Growing.{grown_later}
+use Rattle.nts_variance.proofs.Founding.{founds_tied}
+use Rattle.nts_variance.proofs.PlainTerms.{keeps_same}
+use Rattle.nts_relating.proofs.Plain.{plain_one}
 use Rattle.nts_variance.proofs.Clean.{resolved_unset}
 use Rattle.nts_variance.proofs.Runs.{stacked-push, unentered}
 use Rattle.nts_variance.proofs.Pairs.{ended_at}
@@ -109,6 +112,10 @@ module _ (declared : ℕ → List Variance) (z : Bool) (u : ℕ) where
               is = (gen.sound e.world e.solves).1 ∙ inst-agrees c w e.world t e.agrees knows ∙ sym same;
               goals = tt;
             });
+        plain = λ h. (
+          record { keeps = keeps_same c d keeps.trees; founds = founds_tied c d (let l = keeps.later in l.kinds) (ties_of_keeps c d sound_later keeps) },
+          plain_one d r t gen.alike ∙ ap (any_label is_alias) (keeps.trees t knows) ∙ h,
+        );
         passes = λ P p h k. (let x = gen.labels P (p.variables) h k in (x.0, x.1, tt));
       }
 

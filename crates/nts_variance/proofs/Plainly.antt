@@ -39,6 +39,7 @@ use Rattle.nts_relating.proofs.Plain.{neither}
 use Rattle.nts_variance.specs.Taking.{Takes}
 use Rattle.nts_variance.specs.Rows.{argument_pairs}
 use Rattle.nts_variance.proofs.Growing.{grown_later}
+use Rattle.nts_variance.proofs.Founding.{founds_tied}
 use Rattle.nts_variance.proofs.Leaves.{inst_settled, kept_kinds}
 use Rattle.nts_variance.proofs.Likeness.{sides_related}
 use Rattle.nts_variance.proofs.Pushing.{of_any}
@@ -171,6 +172,7 @@ module _ (declared : ℕ → List Variance) where
         relates = record {
           related = λ f s on ks g h. (sides_related declared d f ks sound s on solvable false variance.Invariant a b la lb made.alike (kept.plain b kb pb) formed k sorted (inl refl), tt);
         };
+        plain = λ h. (record { keeps = kept; founds = founds_tied c d later.kinds ties }, tt);
         passes = λ P p h i. (brings.labels P (p.variables) h i.0 i.1, tt, tt);
       }
 
@@ -215,6 +217,7 @@ module _ (declared : ℕ → List Variance) where
           leaves = made_leaves c d (node a_list x) (node a_list y) (pairs_over variance.Invariant [] x y) sound made ties
               (λ j w s settled h. ap (node a_list) (one_rows j c w x y first s settled ka.1 kb.1 (plain_row c x pa) (plain_row c y pb) ra rb long h));
           relates = record { related = λ f s on ks g h. rows_related d f ks x y sound s on solvable la.1 lb.1 al (plain_row d y (kept.plain (node a_list y) kb pb)) fb.1 fb.0 ra };
+          plain = λ h. (record { keeps = kept; founds = founds_tied c d later.kinds ties }, tt);
           passes = λ P p h i. (let z = rows_pass P variance.Invariant [] x y ra rb long i in let list_passes = p.lists in (brings.labels P (p.variables) h (list_passes, z.0) (list_passes, z.1), tt, tt));
         };
       }

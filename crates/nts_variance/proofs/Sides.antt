@@ -1,16 +1,14 @@
 -- Sides of pairs: what their labels say.
 use Rattle.std.proofs.Common.{◌≡◌, ◌≢◌, ℕ, List, Bool, true, false, Option, Some, None, refl, sym, ap, ◌∙◌, subst}
 use Rattle.std.specs.Prelude.{◌&&◌}
-use Rattle.nts_model.specs.declared.labels.AliasHead.{AliasHead}
-use Rattle.nts_model.specs.declared.labels.AliasHead.TheVariants as alias_of
 use Rattle.nts_model.specs.declared.labels.Sort.{Sort}
 use Rattle.nts_model.specs.declared.labels.VariableKind.TheVariants as kind
 use Rattle.nts_model.specs.declared.labels.Leaf.TheVariants as leaf
 use Rattle.nts_model.specs.declared.labels.Label.{Label}
 use Rattle.nts_model.specs.declared.labels.Label.TheVariants as label
-use Rattle.nts_model.specs.Terms.Trees.{Tree, empty, node, label_of, children, is_alias, kind_of, kind_of_label, of_sort, shape, Meets, IsClosed, IsFormed, infer_of, variable_of, variable_tree}
+use Rattle.nts_model.specs.Terms.Trees.{Tree, empty, node, label_of, children, is_alias, kind_of, kind_of_label, of_sort, shape, Meets, IsClosed, IsFormed, variable_of, variable_tree}
 use Rattle.nts_model.specs.Tables.Contents.{Content}
-use Rattle.nts_model.specs.Tables.Resolving.{resolved, rooted, Knows, IsInfer}
+use Rattle.nts_model.specs.Tables.Resolving.{resolved, rooted, Knows}
 use Rattle.nts_model.specs.Tables.Holding.{AreOne}
 use Rattle.nts_model.specs.Derivations.Related.{alias_label, IsAlias}
 use Rattle.nts_model.proofs.Tables.Resolved.{resolved-variable_reaches}

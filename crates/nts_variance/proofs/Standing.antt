@@ -2,7 +2,7 @@
 use Rattle.std.proofs.Common.{◌≡◌, ℕ, ◌<◌, List, [], ◌∷◌, ◌++◌, refl, sym, ap, ◌∙◌, subst}
 use Rattle.nts_model.specs.declared.labels.Variance.{Variance}
 use Rattle.nts_model.specs.Tables.Contents.{Content}
-use Rattle.nts_model.specs.Terms.Trees.{Tree, size, kind_of}
+use Rattle.nts_model.specs.Terms.Trees.{Tree, size, kind_of, any_label, is_alias}
 use Rattle.nts_model.specs.Tables.Resolving.{Knows, rooted, deeply_resolved}
 use Rattle.nts_model.specs.Tables.Worlds.{inst}
 use Rattle.nts_model.specs.Tables.Holding.{AreOne, HoldsConstraint}
@@ -91,6 +91,11 @@ module _ (declared : ℕ → List Variance) where
         };
         sound = λ w n h. u.sound w n (back w n h.0, h.1);
         meets = λ w n q i h. u.meets w n q i ((λ l. back w n (h.0 (subst (λ t. size t < size_in declared w q) (left_one w n) l))), h.1);
+        plain = λ h.
+            (let r = u.plain h in
+            let left = r.1 in
+            let first = left.0 in
+            (r.0, ((ap (any_label is_alias) (sym sa.same) ∙ first.0, ap (any_label is_alias) (sym sb.same) ∙ first.1), left.1)));
         passes = λ P o h k. (let q = u.passes P o h k in let first = q.1 in (q.0, (sa.labels P q.0 first.0, sb.labels P q.0 first.1, first.2), q.2, q.3));
       }
     where

@@ -1,10 +1,9 @@
 -- Classes of sub-unification in tables that grow, step by step.
 use Rattle.std.proofs.Common.{◌≡◌, ◌⊎◌, inl, inr, ⊎_elim, ℕ, ◌≤◌, ◌<◌, ◌+◌, Bool, true, false, cond, length, length-append, [], ◌∷◌, Option, Some, None, refl, sym, ap, ◌∙◌, arith}
-use Rattle.std.specs.Prelude.{slice_get}
 use Rattle.std.proofs.Math.Dec.{ltb}
 use Rattle.std.proofs.lemmas.Bool.{lt-ltb, ltb-true}
 use Rattle.nts_model.specs.declared.labels.VariableKind.{VariableKind}
-use Rattle.nts_model.specs.Tables.Contents.{Content, Slot, SlotState, unset, link, known, map_slot, state_of, kind_at, sub_link_of, with_slot}
+use Rattle.nts_model.specs.Tables.Contents.{Content, Slot, unset, link, state_of, kind_at, sub_link_of, with_slot}
 use Rattle.nts_model.specs.Tables.SubUnifying.{SharesSubRoot, itself, linked, turned, through, BecameOne, AreJoined, before, since, back, along, JoinsSubRoots}
 use Rattle.nts_model.proofs.Tables.Slots.{field_below, field-with_slot_new, field-with_slot_old}
 use Rattle.nts_model.proofs.Tables.SubUnified.{shares-mapped, either_link, some_kind}
@@ -89,7 +88,7 @@ later_place f g k n l = by (ltb n k) refl
     by true e = (let less = ltb-true n k e in absurd (omega (arith, less, l)))
     by false e = rw e refl
 
-either_place : (n k : ℕ) → (n < k) ⊎ (k ≤ n)
+pub either_place : (n k : ℕ) → (n < k) ⊎ (k ≤ n)
 either_place n k = by (ltb n k) refl
   where
     not_less : (n < k → ⊥) → k ≤ n

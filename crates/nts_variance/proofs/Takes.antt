@@ -1,7 +1,10 @@
 -- Rows of taking pairs: what each leaves.
+use Rattle.nts_variance_model.proofs.Variances.Forms.{deeply_resolved-over}
 use Rattle.std.proofs.Common.{◌≡◌, ◌⊎◌, inl, ⊎_elim, ℕ, Bool, true, false, List, [], ◌∷◌, Some, refl, sym, subst}
 use Rattle.std.proofs.lemmas.List.Elements.{Contains-push}
 use Rattle.nts_variance.specs.Passing.{PairsPass}
+use Rattle.nts_variance.specs.Plain.{ArePairsPlain}
+use Rattle.nts_relating.specs.Relating.{IsPlainIn, KeepsPlain}
 use Rattle.nts_model.proofs.Tables.Bringing.{brings-with_constraint}
 use Rattle.nts_model.specs.Tables.Passing.{TreePasses, BringsLabelsOf}
 use Rattle.nts_model.specs.declared.labels.Label.{Label}
@@ -48,7 +51,11 @@ use Rattle.nts_variance.specs.declared.along.Relating.{Relating as Goal}
 use Rattle.nts_variance.specs.Terms.{pairs_at}
 use Rattle.nts_variance.specs.Pairs.{IsBound}
 use Rattle.nts_variance.specs.Taking.{Takes}
+use Rattle.nts_model.proofs.Tables.Tying.{TiesNew-same}
 use Rattle.nts_variance.proofs.Growing.{grown_refl, grown_later}
+use Rattle.nts_model.proofs.Tables.Sound.{resolved-same, SameStates-with_constraint}
+use Rattle.nts_variance.proofs.Founding.{founds_tied}
+use Rattle.nts_variance.proofs.PlainTerms.{keeps_same, stays_none, plain_over, plain_pairs}
 use Rattle.nts_variance.proofs.Leaves.{inst_settled, kept_kinds, owed_seen, owed_related}
 use Rattle.nts_variance.proofs.Likeness.{sides_related}
 use Rattle.nts_variance.proofs.Pairs.{leaves_by, Leaves-fewer}
@@ -75,6 +82,7 @@ module _ (declared : ℕ → List Variance) where
         relates = record {
           related = λ f s on ks g h. (subst (Related declared (λ t. Unit {0}) (λ x. HoldsConstraint f (recorded_as x)) (Among ks) v (deeply_resolved f a)) (one f on) (one_tree tt), tt);
         };
+        plain = λ h. (stays_none c, tt);
         passes = λ P p h k. (h, tt, tt);
       }
 
@@ -92,6 +100,7 @@ module _ (declared : ℕ → List Variance) where
         leaves = leaves_by declared c (with_constraint c x) (pair_of v a b ∷ []) [] []
             (λ q. leaves_regions (judging_of declared q) q.lawful c v a b (λ w s. Fits-inst c w kind.Region a s.fitting ka i) (λ w s. Fits-inst c w kind.Region b s.fitting kb j));
         relates = record { related = λ f s on ks g h. (owed_related declared f ks v a b s i j (on.constraints x (Contains-push c.constraints x)), tt) };
+        plain = λ h. (record { keeps = keeps_same c (with_constraint c x) (λ t k. resolved-same c (with_constraint c x) t (SameStates-with_constraint c x)); founds = founds_tied c (with_constraint c x) (λ n j q. q) (TiesNew-same c (with_constraint c x) refl) }, tt);
         passes = λ P p h k. ((let sides = owed_passes P v a b k.0 k.1 in let y = brings-with_constraint c x in y.labels P (p.variables) h sides.0 sides.1), tt, tt);
       }
 
@@ -105,6 +114,11 @@ module _ (declared : ℕ → List Variance) where
         leaves = leaves_by declared c c (pair_of v (over F ts) (over F us) ∷ []) (pairs_over v (variances_over declared F us) ts us) []
             (λ j. leaves_over (judging_of declared j) j.lawful c v F ts us r q e f g k l m n);
         relates = relates_over declared c v F ts us r q e f g k l m n;
+        plain = λ h.
+            (let sides = h.0 in
+            let x = plain_over c F ts (deeply_resolved-over c F ts f) sides.0 in
+            let y = plain_over c F us (deeply_resolved-over c F us g) sides.1 in
+            (stays_none c, plain_pairs c v (variances_over declared F us) ts us x.1 y.1));
         passes = λ P p h i. (let x = over_parted P F ts i.0 in let y = over_parted P F us i.1 in (h, pairs_pass P v (variances_over declared F us) ts us x.1 y.1, tt));
       }
 
@@ -125,8 +139,8 @@ module _ (declared : ℕ → List Variance) where
       }
 
   pub takes_equal : (c d : Content) (a b : Tree) (i k : Sort) → IsSound d → IsSolvable d → IsLater c d → Knows c a → Knows c b → IsFormed a → IsFormed b → kind_of a ≡ Some (of_sort i) → kind_of b ≡ Some (of_sort k) → any_label is_alias a ≡ false → any_label is_alias b ≡ false
-      → (any_label is_infer a ≡ false) ⊎ (any_label is_infer b ≡ false) → AreRelated c d a b → TiesNew c d → BringsLabelsOf c d a b → Takes declared c d (pair_of variance.Invariant a b ∷ []) [] []
-  takes_equal c d a b i k sound solvable later ka kb fa fb sa sb pa pb values made ties brings =
+      → (any_label is_infer a ≡ false) ⊎ (any_label is_infer b ≡ false) → AreRelated c d a b → TiesNew c d → BringsLabelsOf c d a b → (IsPlainIn c a → IsPlainIn c b → KeepsPlain c d) → Takes declared c d (pair_of variance.Invariant a b ∷ []) [] []
+  takes_equal c d a b i k sound solvable later ka kb fa fb sa sb pa pb values made ties brings kept =
       let la = Knows-kept c d a (kept_kinds c d made.continues) ka in
       let lb = Knows-kept c d b (kept_kinds c d made.continues) kb in
       record {
@@ -141,6 +155,7 @@ module _ (declared : ℕ → List Variance) where
             tt,
           );
         };
+        plain = λ h. (let sides = h.0 in (record { keeps = kept sides.0 sides.1; founds = founds_tied c d later.kinds ties }, tt));
         passes = λ P p h i. (brings.labels P (p.variables) h i.0 i.1, tt, tt);
       }
 
@@ -170,6 +185,10 @@ module _ (declared : ℕ → List Variance) where
   side_term false v r t P h = h.1
   side_term true v r t P h = h.0
 
+  plain_term : (z : Bool) (c : Content) (v : Variance) (r t : Tree) → ArePairsPlain c (sides z v r t ∷ []) → IsPlainIn c t
+  plain_term false c v r t h = (let x = h.0 in x.1)
+  plain_term true c v r t h = (let x = h.0 in x.0)
+
   pub takes_bound : (z : Bool) (ts us : List Tree) (e f : Entries) (v : Variance) (k : VariableKind) (x : ℕ) (o : Tree) (t : NodeId) (gs : List Goal) → IsBound declared z ts us e f v k x t gs → IsSound (content_of ts e) → Knows (content_of ts e) o → kind_at (content_of ts e) x ≡ Some k
       → AreOne (content_of ts e) o (variable_tree k x) → ((w : World) → Solves (content_of ts e) w → inst w o ≡ inst w (variable_tree k x)) → Takes declared (content_of ts e) (content_of us f) (sides z v o (tree_at ts t) ∷ []) [] (pairs_at us gs)
   takes_bound z ts us e f v k x o t gs b sound knows has one same =
@@ -186,5 +205,6 @@ module _ (declared : ℕ → List Variance) where
               (let there = AreOne-continues c g o own (Continues-trans c d g sound b.continues on) knows ((has, tt, refl), tt, tt) one in
               sides_under z g ks v o term (subst (λ y. RelatedSides z declared g ks v y (deeply_resolved g term)) (sym there) (b.related g s on ks answered)));
         };
+        plain = λ h. (b.plain (plain_term z c v o term h), tt);
         passes = λ P p h i. (let y = b.passes P p h (side_term z v o term P i) in (y.0, tt, y.1));
       }

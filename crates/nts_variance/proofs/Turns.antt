@@ -19,6 +19,7 @@ use Rattle.nts_model.proofs.Tables.Instances.{Agrees-refl, Agrees-trans, inst-ag
 use Rattle.nts_model.proofs.Tables.Held.{Continues-refl, Continues-trans}
 use Rattle.nts_variance_model.proofs.Variances.Generalizing.{judged_agrees, settle_agrees, settle_joined}
 use Rattle.nts_variance.proofs.Growing.{grown_refl, grown_trans}
+use Rattle.nts_variance.proofs.PlainTerms.{stays_none, stays_then, steps_stay, trees_stay}
 use Rattle.nts_variance.specs.Steps.{WalkStep, enter, build, owe, step_of, steps_of, entered}
 use Rattle.nts_variance.specs.Walking.{IsChoice, SettlesOwed, KnowsStep, KnowsSteps, KnowsTrees, Walks, IsMade}
 use Rattle.nts_variance.proofs.Runs.{unentered}
@@ -75,6 +76,7 @@ module _ (declared : ℕ → List Variance) (z : Bool) (u : ℕ) where
           runs = runs;
           goals = goals;
         };
+        plain = λ h k. (stays_none c, h, k);
         passes = λ P q h a b k. (h, a, b, k);
       }
 
@@ -106,6 +108,7 @@ module _ (declared : ℕ → List Variance) (z : Bool) (u : ℕ) where
               runs = y.runs;
               goals = y.goals;
             });
+        plain = λ h k. (let x = a.plain h k in let y = b.plain x.1 x.2 in (stays_then c d e a.later b.later b.continues x.0 y.0, y.1, y.2));
         passes = λ P q h i j k. (let x = a.passes P q h i j k in b.passes P q x.0 x.1 x.2 x.3);
       }
 
@@ -134,5 +137,6 @@ module _ (declared : ℕ → List Variance) (z : Bool) (u : ℕ) where
               runs = rw (one, two, three) x.runs;
               goals = settle_joined J j.lawful e.world gs new (settle_agrees J j.lawful c w e.world gs e.agrees kg goals) y.goals;
             });
+        plain = λ h k. (let x = m.plain h.0 in let stays = x.0 in (stays, steps_stay c d xs stays.keeps kx h.1, (x.1, trees_stay c d ss stays.keeps ks k)));
         passes = λ P p h a b k. (let x = m.passes P p h a.0 in (x.0, a.1, (x.1, b), pass_joined P gs new k x.2));
       }

@@ -17,6 +17,7 @@ use Rattle.nts_variance_model.proofs.Variances.Leaving.{leaves_goal}
 use Rattle.nts_variance_model.proofs.Variances.Meeting.{All, AllBelow, AreSmaller, AreMet, met_taken, met_again, met_passed}
 use Rattle.nts_variance.specs.Taking.{Takes, Sense, HoldsIn, AllHoldIn, size_in, HoldBelow, Counts, IsUnderway}
 use Rattle.nts_variance.proofs.Growing.{grown_refl, grown_trans}
+use Rattle.nts_variance.proofs.PlainTerms.{stays_none, stays_then, plain_joined, plain_parted, pairs_stay}
 use Rattle.nts_variance.proofs.Nodes.{answered_sides}
 use Rattle.nts_variance.proofs.Pairs.{leaves_by, Leaves-none, Leaves-then, Leaves-beside, Refuses-then, Refuses-beside}
 use Rattle.nts_variance.proofs.Turns.{answered_front}
@@ -90,6 +91,7 @@ module _ (declared : ℕ → List Variance) where
         leaves = Leaves-none declared c (p ∷ []);
         sound = λ w v h. h.0;
         meets = λ w v q i h. absurd i;
+        plain = λ h. (stays_none c, h);
         passes = λ P q h k. (h, k, tt, tt);
       }
 
@@ -100,6 +102,7 @@ module _ (declared : ℕ → List Variance) where
         continues = u.continues;
         leaves = u.leaves;
         relates = record { related = λ f s on ks g h. (u.sound (record { table = f; answers = ks }) (record { sound = s; continues = on; answered = g; equal = h }) tt, tt) };
+        plain = u.plain;
         passes = λ P q h k. (let x = u.passes P q h k in (x.0, x.2, x.3));
       }
 
@@ -117,6 +120,14 @@ module _ (declared : ℕ → List Variance) where
         meets = λ w v x i h.
             (let all = met_taken Size Holds (Counts declared d es gs) (Counts declared e (es ++ os) (gs ++ hs)) met ns left q older (λ w v. smaller w v.sound v.continues) holds (are_met c d p (q ∷ left) es gs met u) in
             all.each w v x i (to_below w (Size w x) (ns ++ left) h));
+        plain = λ h.
+            (let x = u.plain h in
+            let first = x.1 in
+            let y = t.plain (first.0, tt) in
+            let stays = y.0 in
+            let new = plain_parted e ns os y.1 in
+            let old = plain_parted e left es (pairs_stay d e (left ++ es) stays.keeps (joined_known d left es kl ke) first.1) in
+            (stays_then c d e u.later t.later t.continues x.0 stays, plain_joined e (ns ++ left) (es ++ os) (plain_joined e ns left new.0 old.0) (plain_joined e es os old.1 new.1)));
         passes = λ P o h k.
             (let x = u.passes P o h k in
             let first = x.1 in
@@ -144,7 +155,7 @@ module _ (declared : ℕ → List Variance) where
   -- pairs that were met may be forgotten
   pub underway_fewer : (c d : Content) (p : Relating) (left es gs met rest : List Relating) → ((q : Relating) → Among rest q → Among met q) → IsUnderway declared c d p left es gs met → IsUnderway declared c d p left es gs rest
   underway_fewer c d p left es gs met rest fewer u =
-      record { later = u.later; continues = u.continues; leaves = u.leaves; sound = u.sound; meets = λ w v q i h. u.meets w v q (fewer q i) h; passes = u.passes }
+      record { later = u.later; continues = u.continues; leaves = u.leaves; sound = u.sound; meets = λ w v q i h. u.meets w v q (fewer q i) h; passes = u.passes; plain = u.plain }
 
   -- a pair that was met before is passed over
   pub underway_passed : (c d : Content) (p q : Relating) (left es gs met : List Relating) → Among met q → IsUnderway declared c d p (q ∷ left) es gs met → IsUnderway declared c d p left es gs met
@@ -156,6 +167,7 @@ module _ (declared : ℕ → List Variance) where
         leaves = Leaves-to c d (p ∷ []) (q ∷ (left ++ es)) (left ++ es) gs (λ j w h. h.1) u.leaves;
         sound = λ w v h. u.sound w v (met_again Size Holds (Counts declared d es gs) met left q i are w v (to_all w left h), h);
         meets = λ w v x k h. (let passed = met_passed Size Holds (Counts declared d es gs) met left q i are in passed.each w v x k (to_below w (Size w x) left h));
+        plain = λ h. (let x = u.plain h in let left = x.1 in (x.0, left.1));
         passes = λ P o h k. (let x = u.passes P o h k in let first = x.1 in (x.0, first.2, x.2, x.3));
       }
 
@@ -165,7 +177,7 @@ module _ (declared : ℕ → List Variance) where
 
   -- a pair that is left, and one that becomes a goal
   pub takes_left : (c : Content) (q : Relating) → IsSound c → Takes declared c c (q ∷ []) (q ∷ []) []
-  takes_left c q sound = record { later = grown_refl c; continues = Continues-refl c sound; leaves = Leaves-none declared c (q ∷ []); relates = record { related = λ f s on ks g h. h }; passes = λ P p h i. (h, i, tt) }
+  takes_left c q sound = record { later = grown_refl c; continues = Continues-refl c sound; leaves = Leaves-none declared c (q ∷ []); relates = record { related = λ f s on ks g h. h }; passes = λ P p h i. (h, i, tt); plain = λ h. (stays_none c, h) }
 
   pub takes_owed : (c : Content) (q : Relating) → IsSound c → Takes declared c c (q ∷ []) [] (q ∷ [])
   takes_owed c q sound =
@@ -174,6 +186,7 @@ module _ (declared : ℕ → List Variance) where
         continues = Continues-refl c sound;
         leaves = leaves_by declared c c (q ∷ []) [] (q ∷ []) (λ j. leaves_goal (judging_of declared j) j.lawful c q);
         relates = record { related = λ f s on ks g h. (answered_sides declared false f ks q.variance q.left q.right g.0, tt) };
+        plain = λ h. (stays_none c, tt);
         passes = λ P p h i. (h, tt, i);
       }
 
@@ -194,6 +207,12 @@ module _ (declared : ℕ → List Variance) where
         leaves = Leaves-to c d (p ∷ []) (left ++ (es ++ q ∷ [])) ((q ∷ left) ++ es) gs (sorted_back q left es) u.leaves;
         sound = λ w v h. u.sound w (record { sound = v.sound; continues = v.continues; answered = v.answered; equal = related_joined w.table w.answers es (q ∷ []) v.equal (h.0, tt) }) h.1;
         meets = λ w v x i h. absurd i;
+        plain = λ h.
+            (let x = u.plain h in
+            let outer = plain_parted d left (es ++ q ∷ []) x.1 in
+            let inner = plain_parted d es (q ∷ []) outer.1 in
+            let last = inner.1 in
+            (x.0, (last.0, plain_joined d left es outer.0 inner.0)));
         passes = λ P o h k. (let x = u.passes P o h k in let parts = pass_parted P es (q ∷ []) x.2 in let last = parts.1 in (x.0, (last.0, last.1, x.1), parts.0, x.3));
       }
 
@@ -206,5 +225,6 @@ module _ (declared : ℕ → List Variance) where
         leaves = t.leaves;
         sound = λ w v h. (t.relates.related w.table v.sound v.continues w.answers v.answered v.equal).0;
         meets = λ w v x i h. absurd i;
+        plain = t.plain;
         passes = λ P o h k. (let x = t.passes P o h k in (x.0, tt, x.1, x.2));
       }

@@ -37,7 +37,7 @@ use Rattle.nts_variance.specs.declared.vary_walk.Task.{Task}
 use Rattle.nts_variance.specs.declared.vary_walk.Task.TheVariants as task
 use Rattle.nts_variance.specs.declared.vary_walk.Spot.{Spot}
 use Rattle.nts_variance.specs.Steps.{WalkStep, enter, build, owe, steps_of, stacked, popped, unpopped, entering, part_place, PartsFit, kinds_left, EndsAlone, builds, StepsLead, MadeForRow}
-use Rattle.nts_variance.specs.Due.{IsTypeVariable, GotValue, IsUnvalued, AreGoalsDue}
+use Rattle.nts_variance.specs.Due.{IsTypeVariable, GotValue, AreTwoSides, IsUnvalued, AreGoalsDue}
 use Rattle.nts_variance.specs.Walking.{IsTableGrown, IsMadeFor, MadeIn, NothingOwed, IsChoice, SettlesOwed, sides, step_weights, KnowsStep, KnowsSteps, KnowsTrees, Walks}
 use Rattle.nts_variance.specs.Counting.{IsCounted}
 use Rattle.nts_variance.specs.Parts.{form_of_tree, parts_of}
@@ -46,7 +46,7 @@ use Rattle.nts_variance.specs.Terms.{pair_at, pairs_at, AreGoals, ArePairs, step
 use Rattle.nts_variance.specs.Varying.{AreInside, BuildsKnown, IsWalk, IsTurn, IsMadeAt, IsTypeValue, IsMadeAgain, ArePartsPushed, IsOwn, WalkRefuses, IsVaried, IsKept}
 use Rattle.nts_variance.proofs.Growing.{grown_refl, grown_trans, Knows-grown, region_never}
 use Rattle.nts_variance.proofs.Clean.{clean_over}
-use Rattle.nts_variance.proofs.Dues.{dues_later, dues_append, dues_to, due_sides, fresh_number, value_valued, fresh_steps_later, steps_to, node_fresh}
+use Rattle.nts_variance.proofs.Dues.{dues_later, dues_append, dues_to, due_sides, two_owed, fresh_number, value_valued, fresh_steps_later, steps_to, node_fresh}
 use Rattle.nts_variance.proofs.Debts.{owe_at, owe_value, owe_through, owe_node, owe_built, goals_to, AreGoals-append, goal_sides}
 use Rattle.nts_variance.proofs.Counting.{counted_at, counted_to, counted_start, counted_made, counted_through, counted_node, counted_built, counted_owed}
 use Rattle.nts_variance.proofs.Runs.{stacked-push, pushed, unpopped_pushed, popped_row, made_row, unentered}
@@ -359,7 +359,7 @@ module _ (declared : ℕ → List Variance) (z : Bool) (u x : ℕ) where
             (ends_at there refl (ends_value s.variance t (tree_at ts v) rest kinds same (rw here at w.ends)))
             (rw there (inr below, inside.1))
             (λ g l. builds_at g there refl (λ r m. (rw here at (w.builds g l)) r (made_value g t (tree_at ts v) r k.infer k.closed same m)));
-        walks = walks_at here there refl refl refl refl (walk_value declared z u c s.variance t (tree_at ts v) rest (stacked (tree_at ts) ms) (pairs_at ts gs) w.lawful.sound k.infer k.closed same k.worlds k.labels);
+        walks = walks_at here there refl refl refl refl (walk_value declared z u c s.variance t (tree_at ts v) rest (stacked (tree_at ts) ms) (pairs_at ts gs) w.lawful.sound k.infer k.closed same k.same k.worlds k.labels);
         less = omega (arith, ap (step_weights c) here, ap (step_weights c) there, weights_value c s.variance t (tree_at ts v) rest k.lower k.same);
         kept = kept_refl c x;
         trees = λ a h. refl;
@@ -595,7 +595,7 @@ module _ (declared : ℕ → List Variance) (z : Bool) (u x : ℕ) where
             let own = old.0 in
             let got = own.1 in
             let owed = rw (here, on) at o in
-            let apart : tree_at ts m ≢ t = owed.1 got.number got.is (field_below (λ v. v.state) b got.number unset got.before) in
+            let apart : AreTwoSides b (tree_at ts m) t = two_owed b (tree_at ts m) t got.number got.is got.before (owed.1 got.number got.is (field_below (λ v. v.state) b got.number unset got.before)) in
             (old.1, dues_to b c goals (dues_append b c (pairs_at ts gs) (sides z s.variance (tree_at ts m) t ∷ []) g (due_sides b c z s.variance (tree_at ts m) t (inr (own.0, apart, inr (inr got))), tt))));
       }
 

@@ -17,12 +17,12 @@ pub record IsClosedLike (n : ℕ) (v : Variance) (t s : Tree) : Type 0 where
   pub kind : kind_of s ≡ kind_of t
   pub variable : v ≢ variance.Invariant → (m : ℕ) → IsTypeVariable s m → ((k : ℕ) × IsTypeVariable t k) ⊎ (IsAlias t × (n ≤ m))
 
--- the tree s is not the part t, if that is a type variable with a number below n
+-- the tree s is no type variable with a number below n, if the part t is one
 abbrev pub IsNoOlder : ℕ → Tree → Tree → Type 0
-IsNoOlder n t s = (m : ℕ) → IsTypeVariable t m → m < n → s ≢ t
+IsNoOlder n t s = (m : ℕ) → IsTypeVariable t m → m < n → (k : ℕ) → IsTypeVariable s k → n ≤ k
 
--- whatever is made for the parts that are to be entered, what is owed to a part is a goal, and is not the part itself, if that is a
--- type variable with a number below n
+-- whatever is made for the parts that are to be entered, what is owed to a part is a goal, and is no type variable with a number below
+-- n, if the part is one
 abbrev pub OweGoals : ℕ → List WalkStep → List Tree → Type 0
 OweGoals n [] ss = Unit {0}
 OweGoals n (enter v q t ∷ xs) ss = (s : Tree) → IsClosedLike n v t s → OweGoals n xs (s ∷ ss)

@@ -52,6 +52,18 @@ pub record WasMadeFor (c d : Content) (n m : ℕ) : Type 0 where
   pub new : length c.slots ≤ m
   pub shared : ShareSubRoots d n m
 
+-- if the tree is a type variable, it had no value in the table c, and was one with no older variable, or it is new since
+abbrev pub HadNoValue : Content → Tree → Type 0
+HadNoValue c t = (n : ℕ) → IsTypeVariable t n → (state_of c n ≡ Some unset) ⊎ (length c.slots ≤ n)
+
+-- the sides of a pair are two: they are no one tree, and no type variables that led to one variable in the table c; nor is one a type
+-- variable that had a value there
+pub record AreTwoSides (c : Content) (a b : Tree) : Type 0 where
+  pub trees : a ≢ b
+  pub classes : (n m r : ℕ) → IsTypeVariable a n → IsTypeVariable b m → Reaches c n r → Reaches c m r → ⊥
+  pub left : HadNoValue c a
+  pub right : HadNoValue c b
+
 -- two type variables: in the table c they were two without values, or one was made since for the other
 pub record AreTypeVariables (c d : Content) (a b : Tree) : Type 0 where
   pub first : ℕ
@@ -64,7 +76,7 @@ pub record AreTypeVariables (c d : Content) (a b : Tree) : Type 0 where
 -- stands on a side; or the pair varies, its sides are two, and both are type variables, or one is a type variable that got its value
 -- since
 abbrev pub IsGoalDue : Content → Content → Pair → Type 0
-IsGoalDue c d p = (IsAlias p.left ⊎ IsAlias p.right) ⊎ ((p.variance ≢ variance.Invariant) × (p.left ≢ p.right) × (AreTypeVariables c d p.left p.right ⊎ (GotValue c d p.left ⊎ GotValue c d p.right)))
+IsGoalDue c d p = (IsAlias p.left ⊎ IsAlias p.right) ⊎ ((p.variance ≢ variance.Invariant) × AreTwoSides c p.left p.right × (AreTypeVariables c d p.left p.right ⊎ (GotValue c d p.left ⊎ GotValue c d p.right)))
 
 abbrev pub AreGoalsDue : Content → Content → List Pair → Type 0
 AreGoalsDue c d [] = Unit {0}

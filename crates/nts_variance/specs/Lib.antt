@@ -14,3 +14,4 @@ pub mod Goals
 pub mod Rows
 pub mod SubRoots
 pub mod Bare
+pub mod Plain

@@ -21,7 +21,9 @@ use Rattle.nts_variance.specs.declared.along.Relating.{Relating as Goal}
 use Rattle.nts_variance.specs.Walking.{IsTableGrown, IsMadeFor, RelatedSides, sides}
 use Rattle.nts_variance.specs.Terms.{pairs_at, AreGoals, ArePairs}
 use Rattle.nts_variance.specs.Due.{IsUnvalued, AreGoalsDue}
+use Rattle.nts_relating.specs.Relating.{IsPlainIn}
 use Rattle.nts_variance.specs.Passing.{PassesRows, PairsPass}
+use Rattle.nts_variance.specs.Plain.{StaysPlain}
 
 -- the variable x was made one with a tree that may be made for the term, which is no variable where the term is neither a variable
 -- nor a closed alias, and the goals are left: under each later table in which these are answered the two are related. Invariantly
@@ -42,3 +44,4 @@ pub record IsBound (declared : ℕ → List Variance) (z : Bool) (ts us : List T
   pub aliases : v ≡ variance.Invariant → (a : Tree) → Knows (content_of ts e) a → closed_aliases (resolved (content_of us f) a) ≡ closed_aliases (resolved (content_of ts e) a)
   pub due : (b : Content) → length b.slots ≤ length (content_of ts e).slots → IsUnvalued b v (tree_at ts t) → AreGoalsDue b (content_of us f) (pairs_at us gs)
   pub passes : (P : Label → Bool) → PassesRows P → TablePasses P (content_of ts e) → TreePasses P (tree_at ts t) → TablePasses P (content_of us f) × PairsPass P (pairs_at us gs)
+  pub plain : IsPlainIn (content_of ts e) (tree_at ts t) → StaysPlain (content_of ts e) (content_of us f)

@@ -35,16 +35,19 @@ use Rattle.nts_variance.specs.Terms.{pair_at, pairs_at, IsGoal, AreGoals, ArePai
 use Rattle.nts_variance.specs.Due.{IsTypeVariable, AreUnvaluedPairs, AreGoalsDue, LeavesDue}
 use Rattle.nts_variance.specs.Varying.{IsMadeAgain}
 use Rattle.nts_variance.specs.Passing.{PassesRows, PairsPass}
+use Rattle.nts_variance.specs.Plain.{ArePairsPlain, StaysPlain}
 
 -- the pairs ps were taken in the table c: in the table d, which has all that c has, they leave the pairs qs and the goals gs. Under
 -- each later table in which the goals are answered they are related if what is left is; and each settled solution in which they
--- settle goes on to one of the table d in which what is left settles. It brings no labels but those of the pairs and of variables
+-- settle goes on to one of the table d in which what is left settles. It brings no labels but those of the pairs and of variables,
+-- and where no alias stands in the pairs, none comes to trees that have none, and each new variable was made for an older one
 pub record Takes (declared : ℕ → List Variance) (c d : Content) (ps qs gs : List Pair) : Type 0 where
   pub later : IsTableGrown c d
   pub continues : Continues c d
   pub leaves : Leaves declared c d ps qs gs
   pub relates : RelatesBy declared d ps qs gs
   pub passes : (P : Label → Bool) → PassesRows P → TablePasses P c → PairsPass P ps → TablePasses P d × PairsPass P qs × PairsPass P gs
+  pub plain : ArePairsPlain c ps → StaysPlain c d × ArePairsPlain d qs
 
 -- a variable of a const or a number
 abbrev pub IsExactKind : VariableKind → Type 0
@@ -182,6 +185,7 @@ module _ (declared : ℕ → List Variance) where
     pub sound : (w : Sense) → Counts d es gs w → AllHoldIn w left → HoldsIn w p
     pub meets : (w : Sense) → Counts d es gs w → (q : Pair) → Among met q → HoldBelow w (size_in w q) left → HoldsIn w q
     pub passes : (P : Label → Bool) → PassesRows P → TablePasses P c → PairsPass P (p ∷ []) → TablePasses P d × PairsPass P left × PairsPass P es × PairsPass P gs
+    pub plain : ArePairsPlain c (p ∷ []) → StaysPlain c d × ArePairsPlain d (left ++ es)
 
   -- .. by terms of the store
   pub record IsCall (ts us : List Tree) (e f : Entries) (p : Relating) (ps ms es gs : List Relating) : Type 0 where

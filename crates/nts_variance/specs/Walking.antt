@@ -22,7 +22,9 @@ use Rattle.nts_unify.specs.Changing.{AddsVisible}
 use Rattle.nts_variance.specs.Parts.{IsAlone}
 use Rattle.nts_variance.specs.SubRoots.{GrowsSubRoots}
 use Rattle.nts_variance.specs.Steps.{WalkStep, enter, build, owe, steps_of, StepsLead}
+use Rattle.nts_relating.specs.Relating.{IsPlainIn}
 use Rattle.nts_variance.specs.Passing.{PassesRows, PairsPass, TreesPass, StepsPass}
+use Rattle.nts_variance.specs.Plain.{AreStepsPlain, AreTreesPlain, StaysPlain}
 
 -- the table has its variables and its universes, and may have more; its classes of sub-unification are those that it had, but for
 -- variables that became one, and new ones, each of which was made in a class; what was recorded since is visible for the leak check,
@@ -124,6 +126,7 @@ module _ (declared : ℕ → List Variance) (z : Bool) (u : ℕ) where
         → (whole : Tree) → NamesAll term_level u whole → StepsLead (IsChoice (judging_of declared j) u whole) (SettlesOwed (judging_of declared j)) (steps_of (inst w) xs) (map (inst w) ss) whole
         → GoesOn (judging_of declared j) c d w whole ys rs hs
     pub passes : (P : Label → Bool) → PassesRows P → TablePasses P c → StepsPass P xs → TreesPass P ss → PairsPass P gs → TablePasses P d × StepsPass P ys × TreesPass P rs × PairsPass P hs
+    pub plain : AreStepsPlain c xs → AreTreesPlain c ss → StaysPlain c d × AreStepsPlain d ys × AreTreesPlain d rs
 
   -- a tree made at once for a part, in which no region is that the universe u cannot name, with the goals that it leaves
   pub record IsMade (c d : Content) (v : Variance) (q : Bool) (t r : Tree) (new : List Relating) : Type 0 where
@@ -139,3 +142,4 @@ module _ (declared : ℕ → List Variance) (z : Bool) (u : ℕ) where
         → (s : Tree) → IsSettled (judging_of declared j) s → NamesAll term_level u s → IsFormed s → Settles (judging_of declared j) v s (inst w t)
         → StandsIn (judging_of declared j) c d w u r s new
     pub passes : (P : Label → Bool) → PassesRows P → TablePasses P c → TreePasses P t → TablePasses P d × TreePasses P r × PairsPass P new
+    pub plain : IsPlainIn c t → StaysPlain c d × IsPlainIn d r

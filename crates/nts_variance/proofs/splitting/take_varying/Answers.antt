@@ -29,9 +29,9 @@ returns-in-None-infer_number-2-clause-taken c = λ apart. c.take_heads.ensures.t
 pub returns-then-is_owed-clause-taken : goal.returns-then-is_owed-clause-taken
 returns-then-is_owed-clause-taken c = λ apart.
     let s = c.owe.ensures in
-    owed_taken c.args.nodes.now c.args.table.now.entries c.args.pair c.owe.result c.requires.lawful c.requires.pair.left.knows c.requires.pair.right.knows c.requires.varies (plain_apart (tree_at c.args.nodes.now c.args.pair.left) (tree_at c.args.nodes.now c.args.pair.right) (c.terms_are_formed.ensures.formed c.args.pair.left c.requires.pair.left.within) apart) (inl (c.is_owed.ensures.yes c.if-is_owed.true)) s.owed s.closed s.kinds (variances_in c.args.declarations.now)
+    owed_taken c.args.nodes.now c.args.table.now.entries c.args.pair c.owe.result c.requires.lawful c.requires.pair.left.knows c.requires.pair.right.knows c.requires.varies (plain_apart (tree_at c.args.nodes.now c.args.pair.left) (tree_at c.args.nodes.now c.args.pair.right) (c.terms_are_formed.ensures.formed c.args.pair.left c.requires.pair.left.within) (c.terms_are_formed.ensures.formed c.args.pair.right c.requires.pair.right.within) apart) (inl (c.is_owed.ensures.yes c.if-is_owed.true)) s.owed s.closed s.kinds (variances_in c.args.declarations.now)
 
 pub returns-then-is_owed-2-clause-taken : goal.returns-then-is_owed-2-clause-taken
 returns-then-is_owed-2-clause-taken c = λ apart.
     let s = c.owe-then-is_owed-2.ensures in
-    owed_taken c.args.nodes.now c.args.table.now.entries c.args.pair c.owe-then-is_owed-2.result c.requires.lawful c.requires.pair.left.knows c.requires.pair.right.knows c.requires.varies (plain_apart (tree_at c.args.nodes.now c.args.pair.left) (tree_at c.args.nodes.now c.args.pair.right) (c.terms_are_formed.ensures.formed c.args.pair.left c.requires.pair.left.within) apart) (inr (c.is_owed-2.ensures.yes c.if-is_owed-2.true)) s.owed s.closed s.kinds (variances_in c.args.declarations.now)
+    owed_taken c.args.nodes.now c.args.table.now.entries c.args.pair c.owe-then-is_owed-2.result c.requires.lawful c.requires.pair.left.knows c.requires.pair.right.knows c.requires.varies (plain_apart (tree_at c.args.nodes.now c.args.pair.left) (tree_at c.args.nodes.now c.args.pair.right) (c.terms_are_formed.ensures.formed c.args.pair.left c.requires.pair.left.within) (c.terms_are_formed.ensures.formed c.args.pair.right c.requires.pair.right.within) apart) (inr (c.is_owed-2.ensures.yes c.if-is_owed-2.true)) s.owed s.closed s.kinds (variances_in c.args.declarations.now)

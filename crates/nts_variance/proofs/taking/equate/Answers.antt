@@ -20,4 +20,4 @@ returns-in-Ok-clause-taken c = λ declared.
     let known = c.requires.pair in
     let s = c.in-Ok.ensures in
     let d = content_of c.relate_nodes.new.nodes c.relate_nodes.new.table.entries in
-    (s.lawful, rw c.requires.invariant (takes_equal declared (content_of ts c.args.table.now.entries) d (tree_at ts p.left) (tree_at ts p.right) known.left.sort known.right.sort s.lawful.sound s.lawful.proper.solvable s.later known.left.knows known.right.knows (c.terms_are_formed.ensures.formed p.left known.left.within) (c.terms_are_formed.ensures.formed p.right known.right.within) known.left.kind known.right.kind (c.is_plain.ensures.left plain) (c.is_plain.ensures.right plain) (c.is_plain.ensures.values plain) s.related s.ties s.labels))
+    (s.lawful, rw c.requires.invariant (takes_equal declared (content_of ts c.args.table.now.entries) d (tree_at ts p.left) (tree_at ts p.right) known.left.sort known.right.sort s.lawful.sound s.lawful.proper.solvable s.later known.left.knows known.right.knows (c.terms_are_formed.ensures.formed p.left known.left.within) (c.terms_are_formed.ensures.formed p.right known.right.within) known.left.kind known.right.kind (c.is_plain.ensures.left plain) (c.is_plain.ensures.right plain) (c.is_plain.ensures.values plain) s.related s.ties s.labels s.plain))

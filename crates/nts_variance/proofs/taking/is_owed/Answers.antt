@@ -6,7 +6,8 @@ use Rattle.nts_unify.specs.declared.contents.State.TheVariants.{Unset, Known}
 use Rattle.nts_variance.specs.Parts.{closed_alias, number_of_type}
 use Rattle.nts_variance.proofs.CountedPieces.{infer_alias}
 use Rattle.nts_variance.proofs.DueCalls.{if_is_ok, if_is_err, class_one, number_variable}
-use Rattle.nts_variance.proofs.Looks.{closed_alias_tree, type_infer, one_number}
+use Rattle.nts_variance.proofs.Dues.{one_number}
+use Rattle.nts_variance.proofs.Looks.{closed_alias_tree, type_infer}
 use Rattle.nts_variance.proofs.Sides.{tight_alias}
 use Rattle.nts_variance.proofs.taking.is_owed.Goals as goal
 

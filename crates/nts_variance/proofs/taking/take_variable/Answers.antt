@@ -11,7 +11,6 @@ use Rattle.std.specs.Option.{is_some}
 use Rattle.nts_variance.proofs.Bound.{bindable_kind}
 use Rattle.nts_variance.proofs.Debts.{type_kind}
 use Rattle.nts_variance.proofs.DueCalls.{side_fresh, own_number, side_owed, side_known, side_apart, owed_taken}
-use Rattle.nts_variance.proofs.Looks.{type_infer}
 use Rattle.nts_variance.proofs.Pushing.{pair_at-in}
 use Rattle.nts_variance.proofs.Sides.{root_of_side, open_one, type_closed}
 use Rattle.nts_variance.proofs.Refusals.{refuses_side}
@@ -75,4 +74,4 @@ returns-in-Ok-clause-taken c =
     let value = c.in-Ok.ensures.value in
     let known = side_known ts (content_of ts e) z c.args.variance c.args.own c.args.term c.args.pair c.requires.pair c.requires.own.knows c.requires.term.knows in
     let s = c.owe.ensures in
-    owed_taken ts e c.args.pair c.owe.result c.requires.lawful known.0 known.1 c.requires.varies (side_apart ts z c.args.variance c.args.own c.args.term c.args.pair c.requires.pair (type_infer (tree_at ts c.args.own) c.args.side.variable is) c.requires.node) (side_owed ts e z c.args.variance c.args.own c.args.term c.args.pair c.requires.pair (inr (c.args.side.variable, is, value.0, c.in-Ok.field-0, value.1))) s.owed s.closed s.kinds (variances_in c.args.declarations.now)
+    owed_taken ts e c.args.pair c.owe.result c.requires.lawful known.0 known.1 c.requires.varies (side_apart ts z c.args.variance c.args.own c.args.term c.args.pair c.requires.pair c.requires.node) (side_owed ts e z c.args.variance c.args.own c.args.term c.args.pair c.requires.pair (inr (c.args.side.variable, is, value.0, c.in-Ok.field-0, value.1))) s.owed s.closed s.kinds (variances_in c.args.declarations.now)
