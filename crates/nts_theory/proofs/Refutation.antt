@@ -7,6 +7,7 @@ pub mod Agreeing
 pub mod Trying
 pub mod Covering
 pub mod OfferMeeting
+pub mod Equating
 pub mod Entering
 pub mod Carriers
 pub mod UsedRules

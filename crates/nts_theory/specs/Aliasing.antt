@@ -1,6 +1,6 @@
 -- Goals that an alias is equal to a term, or that the one is a subtype of the other: they hold where the alias normalizes to the
 -- term, or, if that is an alias too, where both normalize to one. Of a subtype it is enough that what they normalize to is one.
-use Rattle.std.specs.Prelude.{◌≡◌, ◌⊎◌, Bool, true, Some, List, [], ◌∷◌, ◌++◌}
+use Rattle.std.specs.Prelude.{◌≡◌, ◌⊎◌, true, Some, List, [], ◌∷◌, ◌++◌, false}
 use Rattle.nts_model.specs.declared.labels.Sort.TheVariants as sort
 use Rattle.nts_model.specs.declared.labels.VariableKind.{VariableKind}
 use Rattle.nts_model.specs.declared.labels.VariableKind.TheVariants as variable
@@ -9,7 +9,7 @@ use Rattle.nts_model.specs.declared.labels.AliasRelationDirection.{AliasRelation
 use Rattle.nts_model.specs.declared.labels.AliasRelationDirection.TheVariants as direction
 use Rattle.nts_model.specs.declared.labels.PredicateHead.TheVariants as predicate
 use Rattle.nts_model.specs.declared.labels.Label.TheVariants as label
-use Rattle.nts_model.specs.Terms.Trees.{Tree, node, kind_of, of_sort}
+use Rattle.nts_model.specs.Terms.Trees.{Tree, node, kind_of, of_sort, any_label, is_alias, IsClosed}
 use Rattle.nts_model.specs.Tables.Contents.{Content}
 use Rattle.nts_model.specs.Answers.Applying.{IsNew}
 use Rattle.nts_model.specs.Derivations.Related.{pair, unbound, subtype_goal, IsAlias}
@@ -28,6 +28,15 @@ pub record EquatesAlias (g a t : Tree) : Type 0 where
   pub alias : IsAlias a
   pub plain : IsAlias t → ⊥
   pub kind : kind_of t ≡ kind_of a
+
+-- .. that the two are equal, and no alias stands in the term, which is closed
+pub record IsPlainEquality (g : Tree) : Type 0 where
+  pub left : Tree
+  pub right : Tree
+  pub is : EquatesAlias g left right
+  pub equal : is.by ≡ direction.Equate
+  pub ends : IsClosed right
+  pub no_alias : any_label is_alias right ≡ false
 
 -- .. and the premise is left of it that the alias normalizes to the term
 pub record NormalizesSide (e g : Tree) (p : Premise) : Type 0 where

@@ -20,12 +20,12 @@ use Rattle.nts_model.specs.Tables.Recording.{resolved_constraints, AreNews}
 use Rattle.nts_model.specs.Derivations.Related.{Constraint, pair}
 use Rattle.nts_model.specs.Lists.{Among}
 use Rattle.nts_model.specs.Derivations.Sequents.{inductive, Premise}
-use Rattle.nts_model.specs.Derivations.Rules.{Mode, coherence, GoalKind, other_goal, statement_kind, step_kind, statement_of}
+use Rattle.nts_model.specs.Derivations.Rules.{Mode, GoalKind, other_goal, statement_kind, step_kind, statement_of, IsHandlers}
 use Rattle.nts_model.specs.Terms.Substitutions.{leaf_tree, filled}
 use Rattle.nts_model.specs.Canonical.Numbered.{position}
-use Rattle.nts_model.specs.Derivations.Handlers.{Handler, Candidate, IsAsked, premise_by}
-use Rattle.nts_model.specs.Refutation.Choosing.{Freshens, EquatesAll, IsCandidateMet}
-use Rattle.nts_model.specs.Refutation.Forcing.{Adds, AddsAll}
+use Rattle.nts_model.specs.Derivations.Handlers.{Handler, Candidate, IsAsked}
+use Rattle.nts_model.specs.Refutation.Choosing.{IsCandidateMet}
+use Rattle.nts_model.specs.Refutation.Forcing.{Adds}
 use Rattle.nts_model.specs.Refutation.Opening.{entered_table, opened_in, placeholder_in}
 use Rattle.nts_model.specs.Searching.Driving.{unconstrained}
 use Rattle.nts_model.specs.Canonical.Inputs.{Input, IsInput, CanonicalInput, PositionKind, type_variable, integer_variable, float_variable, const_variable, region_variable, placeholder, canonical_of, originals}
@@ -34,7 +34,7 @@ use Rattle.nts_model.specs.Derivations.Proving.{HoldsTerms, AreConstraintsOf}
 use Rattle.nts_theory.specs.Affirming.{SaysAffirmed, IsDenied, HasOwnWay}
 use Rattle.nts_theory.specs.Outliving.{IsOutlives}
 use Rattle.nts_theory.specs.Subtyping.{LeavesPremises, IsNoSubtype}
-use Rattle.nts_theory.specs.Aliasing.{NormalizesSides, NormalizesLesser, IsLesserGoal}
+use Rattle.nts_theory.specs.Aliasing.{IsPlainEquality, NormalizesSides, NormalizesLesser, IsLesserGoal}
 use Rattle.nts_theory.specs.RelatingCandidates.{IsCutIn, HasPlainEquations, plain_part, Begins, IsUnrelated, HasTypesApart}
 use Rattle.nts_model.specs.Answers.Responses.{Findings, AreFindings, Response, response_of, IsResponseTo, Applies, RefusesResponse}
 
@@ -145,6 +145,12 @@ pub record IsTraitGoal (e g : Tree) : Type 0 where
   pub statement : IsTraitStatement (statement_of g)
   pub no_alias : any_label is_alias (pair e g) ≡ false
 
+-- a goal that a handler's rules may say, in whose terms no alias stands: that a trait holds, or that an alias with arguments is a term, or
+-- normalizes to one
+pub record IsPlainClauseGoal (e g : Tree) : Type 0 where
+  pub statement : IsHandlers (statement_of g)
+  pub no_alias : any_label is_alias (pair e g) ≡ false
+
 -- what is said of an alias and a term: that the one is the other, or that the one normalizes to the other
 abbrev pub IsAliasStatement : Tree → Type 0
 IsAliasStatement (node (label.Clause (clause.Projection i)) ts) = Unit {0}
@@ -154,6 +160,16 @@ IsAliasStatement t = ⊥
 -- a goal that says so, or a trait goal in whose terms or environment an alias stands
 abbrev pub IsAliasGoal : Tree → Tree → Type 0
 IsAliasGoal e g = IsAliasStatement (statement_of g) ⊎ IsTraitStatement (statement_of g) × (any_label is_alias (pair e g) ≡ true)
+
+-- where goals about aliases are answered by what is offered for them: outside of coherence, and there where no alias stands in their
+-- terms
+abbrev pub IsOpenToOffers : Mode → Tree → Tree → Type 0
+IsOpenToOffers mode e g = IsCutIn mode ⊎ IsPlainClauseGoal e g
+
+-- where goals that an alias is equal to a term are answered by what it normalizes to: outside of coherence, and there where they bind
+-- nothing, and no alias stands in the term
+abbrev pub IsOpenToNormalizing : Mode → Tree → Type 0
+IsOpenToNormalizing mode g = IsCutIn mode ⊎ IsPlainEquality g
 
 -- a goal that the handler is asked for, opened if it binds variables: it is known to the table in which it is answered
 pub record IsReady (c : Content) (e g : Tree) : Type 0 where
@@ -221,9 +237,9 @@ mutual
     tells_own : {ks : List PositionKind} {c : Content} {e g : Tree} {qs : List Tree} {v : Verdict} (x : Candidate) → IsOwnWayIn h c e g x → HasPlainEquations x → Replies Q h mode (entered_table c g) e (opened_in c g) qs x v → Tells Q h mode ks c e g qs v
     tells_subtype : {ks : List PositionKind} {c : Content} {e g : Tree} {qs : List Tree} {v : Verdict} (ps : List Premise) (met found : Content) → IsCutIn mode → LeavesPremises Q.variances (entered_table c g) met e (opened_in c g) ps
         → Reaches Q h mode ps met found → IsFound (entered_table c g) e (opened_in c g) found → SaysOf (entered_table c g) found qs v → Tells Q h mode ks c e g qs v
-    tells_alias : {ks : List PositionKind} {c : Content} {e g : Tree} {qs : List Tree} {v : Verdict} (vs : List Verdict) → IsCutIn mode → IsAliasReady c e g → Outcomes Q h mode (entered_table c g) e (opened_in c g) qs (h.offers mode e (opened_in c g)) vs → StandsForAll qs vs v
+    tells_alias : {ks : List PositionKind} {c : Content} {e g : Tree} {qs : List Tree} {v : Verdict} (vs : List Verdict) → IsOpenToOffers mode e (opened_in c g) → IsAliasReady c e g → Outcomes Q h mode (entered_table c g) e (opened_in c g) qs (h.offers mode e (opened_in c g)) vs → StandsForAll qs vs v
         → Tells Q h mode ks c e g qs v
-    tells_normal : {ks : List PositionKind} {c : Content} {e g : Tree} {qs : List Tree} {v : Verdict} (ps : List Premise) (met found : Content) → IsCutIn mode → IsWay Q h mode (entered_table c g) met e (opened_in c g) ps → Reaches Q h mode ps met found
+    tells_normal : {ks : List PositionKind} {c : Content} {e g : Tree} {qs : List Tree} {v : Verdict} (ps : List Premise) (met found : Content) → IsOpenToNormalizing mode g → IsWay Q h mode (entered_table c g) met e (opened_in c g) ps → Reaches Q h mode ps met found
         → IsFound (entered_table c g) e (opened_in c g) found → SaysOf (entered_table c g) found qs v → Tells Q h mode ks c e g qs v
 
   -- each candidate fails, or the one way by the engine, or the handler denies the goal; or the one type is no subtype of the other, or
@@ -235,8 +251,8 @@ mutual
     own_fails : {c : Content} {e g : Tree} {qs : List Tree} (x : Candidate) → IsOwnWayIn h c e g x → HasPlainEquations x → Fails Q h mode (kind_for h (opened_in c g)) (entered_table c g) e x → Refutes Q h mode c e g qs
     is_no_subtype : {c : Content} {e g : Tree} {qs : List Tree} → IsCutIn mode → IsNoSubtype Q.variances (entered_table c g) (opened_in c g) → Refutes Q h mode c e g qs
     subtype_refused : {c : Content} {e g : Tree} {qs : List Tree} (ps : List Premise) (met : Content) → IsCutIn mode → LeavesPremises Q.variances (entered_table c g) met e (opened_in c g) ps → RefusesOne Q h mode other_goal ps met → Refutes Q h mode c e g qs
-    aliases_fail : {c : Content} {e g : Tree} {qs : List Tree} → IsCutIn mode → IsAliasReady c e g → Outcomes Q h mode (entered_table c g) e (opened_in c g) qs (h.offers mode e (opened_in c g)) [] → Refutes Q h mode c e g qs
-    normal_refused : {c : Content} {e g : Tree} {qs : List Tree} (ps : List Premise) (met : Content) → IsCutIn mode → NormalizesSides (entered_table c g) met e (opened_in c g) ps → RefusesOne Q h mode other_goal ps met
+    aliases_fail : {c : Content} {e g : Tree} {qs : List Tree} → IsOpenToOffers mode e (opened_in c g) → IsAliasReady c e g → Outcomes Q h mode (entered_table c g) e (opened_in c g) qs (h.offers mode e (opened_in c g)) [] → Refutes Q h mode c e g qs
+    normal_refused : {c : Content} {e g : Tree} {qs : List Tree} (ps : List Premise) (met : Content) → IsOpenToNormalizing mode g → NormalizesSides (entered_table c g) met e (opened_in c g) ps → RefusesOne Q h mode other_goal ps met
         → ((a b : Tree) → IsLesserGoal (opened_in c g) a b → LesserRefused Q h mode (entered_table c g) e (opened_in c g)) → Refutes Q h mode c e g qs
 
   -- what is left of a goal that an alias is equal to a term, or the one a subtype of the other: of a subtype, that the result of the one

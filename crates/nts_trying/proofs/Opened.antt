@@ -170,13 +170,13 @@ module _ {a b : List Tree} {t u : Table} {g o : Goal} (posed : IsPosed a t g) (o
   pub alias_told : AreFormed b → IsPosed b u o → AliasGoalIn b o → (h : Ruling) (mode : TypingMode) (qs : List GenericArg) (e : List Tree) (r : Canonical Response) → trees_of b qs ≡ trees_of a qs → IsAliasTold h mode b u o qs e r → IsTold h mode a t g qs e r
   alias_told formed p says h mode qs e r same (inl x) ks =
       let outcomes = subst (λ z. Outcomes h (mode_of mode) there (tree_at b o.param_env.node) (tree_at b o.predicate.node) z (offers_of h.handler (mode_of mode) b o) x.verdicts) same x.outcomes in
-      tells_alias x.verdicts x.outside (alias_ready formed p says) (opened_outcomes h mode (trees_of a qs) x.verdicts outcomes) (subst (λ z. StandsForAll z x.verdicts (verdict_at e r)) same x.stands)
+      tells_alias x.verdicts (inl x.outside) (alias_ready formed p says) (opened_outcomes h mode (trees_of a qs) x.verdicts outcomes) (subst (λ z. StandsForAll z x.verdicts (verdict_at e r)) same x.stands)
   alias_told formed p says h mode qs e r same (inr (n, x)) ks = tells_nothing there (inr opens.table) n (subst (λ z. IsPlainResponse there z (response_at e r)) same x)
 
   pub alias_refuted : AreFormed b → IsPosed b u o → AliasGoalIn b o → (h : Ruling) (mode : TypingMode) (qs : List GenericArg) → trees_of b qs ≡ trees_of a qs → IsAliasRefuted h mode b u o qs → IsRefuted h mode a t g qs
   alias_refuted formed p says h mode qs same x =
       let outcomes = subst (λ z. Outcomes h (mode_of mode) there (tree_at b o.param_env.node) (tree_at b o.predicate.node) z (offers_of h.handler (mode_of mode) b o) []) same x.outcomes in
-      aliases_fail x.outside (alias_ready formed p says) (opened_outcomes h mode (trees_of a qs) [] outcomes)
+      aliases_fail (inl x.outside) (alias_ready formed p says) (opened_outcomes h mode (trees_of a qs) [] outcomes)
 
   -- .. of which nothing is told there
   pub nothing_through : (h : Ruling) (mode : TypingMode) (qs : List GenericArg) (e : List Tree) (r : Canonical Response) → trees_of b qs ≡ trees_of a qs → is_yes r.value.certainty ≡ false → IsPlainResponse there (trees_of b qs) (response_at e r) → IsTold h mode a t g qs e r
@@ -401,14 +401,14 @@ module _ {a b : List Tree} {t u : Table} {g o : Goal} (posed : IsPosed a t g) (o
       let v = verdict_at e r in
       let one = subst (λ z. Reading (λ c i j. SaysLeft h (mode_of mode) (λ d ps. IsWay h (mode_of mode) c d i j ps) c i j z v)) same x in
       let y = through_opening (λ c i j. SaysLeft h (mode_of mode) (λ d ps. IsWay h (mode_of mode) c d i j ps) c i j (trees_of a qs) v) one in
-      tells_normal y.left y.met y.found y.outside y.sides y.reaches y.is_found y.says
+      tells_normal y.left y.met y.found (inl y.outside) y.sides y.reaches y.is_found y.says
   normal_told h mode qs e r same (inr (unsure, plain)) ks = nothing_through h mode qs e r same unsure plain ks
 
   pub normal_stops : (h : Ruling) (mode : TypingMode) (qs : List GenericArg) → NormalRefuted h (mode_of mode) there (tree_at b o.param_env.node) (tree_at b o.predicate.node) → IsRefuted h mode a t g qs
   normal_stops h mode qs x =
       let y = through_opening (λ c e p. NormalRefuted h (mode_of mode) c e p) x in
       let one = y.one in
-      normal_refused one.left one.met one.outside one.sides one.refused y.lesser
+      normal_refused one.left one.met (inl one.outside) one.sides one.refused y.lesser
 
   pub subtype_refuted : (h : Ruling) (mode : TypingMode) (qs : List GenericArg) → SubtypesRefuted h (mode_of mode) there (tree_at b o.param_env.node) (tree_at b o.predicate.node) → IsRefuted h mode a t g qs
   subtype_refuted h mode qs (outside, inl none) =

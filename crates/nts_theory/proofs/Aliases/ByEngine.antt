@@ -1,5 +1,5 @@
 -- A goal that a rule of the engine gives without premises once it is opened is proved; so is what a handler affirms.
-use Rattle.std.proofs.Common.{◌≡◌, inl, inr, ℕ, ◌+◌, List, [], Some, refl, sym, ap, ◌∙◌, subst, true}
+use Rattle.std.proofs.Common.{◌≡◌, inl, inr, ℕ, ◌+◌, List, [], refl, sym, ap, ◌∙◌, subst, true}
 use Rattle.nts_model.specs.declared.labels.Sort.{Sort}
 use Rattle.nts_model.specs.declared.labels.Constant.{Constant}
 use Rattle.nts_model.specs.declared.labels.Leaf.{Leaf}

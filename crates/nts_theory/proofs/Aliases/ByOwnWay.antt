@@ -10,10 +10,10 @@ use Rattle.nts_model.specs.Tables.Contents.{Content}
 use Rattle.nts_model.specs.Tables.Resolving.{Knows, deeply_resolved, IsSound}
 use Rattle.nts_model.specs.Tables.Levels.{IsLevelled, AreRegionsLevelled, AreCurrent}
 use Rattle.nts_model.specs.Tables.Holding.{Continues}
-use Rattle.nts_model.specs.Terms.Substitutions.{leaf_tree, Instance, instance_of, filled}
+use Rattle.nts_model.specs.Terms.Substitutions.{Instance, instance_of, filled}
 use Rattle.nts_model.specs.Derivations.Related.{Constraint, pair, unbound, value}
 use Rattle.nts_model.specs.Lists.{Among}
-use Rattle.nts_model.specs.Derivations.Sequents.{Premise, misc, Hides, IsOfTerms}
+use Rattle.nts_model.specs.Derivations.Sequents.{Premise, misc, Hides}
 use Rattle.nts_model.specs.Derivations.Rules.{Meaning, Mode, other_goal, statement_kind, goal_kind, step_kind, proof_kind, Stands, statement_of, opened, AreFresh, bound, IsBuiltIn, const_typed, formed, of_value, IsPlainRule, IsRule, related}
 use Rattle.nts_model.specs.Derivations.Handlers.{Handler, Candidate, meaning, goals_in, AreValuesOf, Judgements, JudgementsAreKept}
 use Rattle.nts_model.specs.Derivations.Proofs.{Assumed, passed, by_rule}
@@ -28,7 +28,7 @@ use Rattle.nts_model.proofs.Terms.Unpositioned.{IsFormedTerm, formed_term, fille
 use Rattle.nts_model.proofs.Terms.Composing.{itself, instance_of-itself}
 use Rattle.nts_model.proofs.Terms.Identified.{one_itself, one_trans}
 use Rattle.nts_model.proofs.Tables.TableInstances.{reading_of, instance_of-reading}
-use Rattle.nts_theory.specs.Affirming.{has_type, is_well_formed, plain_way, goals_there, IsOwnWay, by_type, by_goals, HasOwnWay}
+use Rattle.nts_theory.specs.Affirming.{has_type, is_well_formed, goals_there, IsOwnWay, by_type, by_goals, HasOwnWay}
 use Rattle.nts_theory.proofs.Derivations.ByCandidate.{IsGranted, GrantsEqual, alike_granted, read_itself}
 use Rattle.nts_theory.proofs.Derivations.Monotone.{rule_more, related_more}
 use Rattle.nts_theory.proofs.Derivations.Owing.{IsServedFrom, at_premise, derive_all_from, owes_from, from_then, from_both, from_one, from_all}

@@ -3,21 +3,18 @@
 use Rattle.std.proofs.Common.{◌≡◌, ◌⊎◌, inl, inr, ⊎_elim, ℕ, List, [], ◌∷◌, refl, sym, ap, ◌∙◌, subst}
 use Rattle.std.specs.Prelude.{map}
 use Rattle.nts_model.specs.declared.labels.Variance.{Variance}
-use Rattle.nts_model.specs.declared.labels.Variance.TheVariants as variance
 use Rattle.nts_model.specs.Terms.Trees.{Tree, empty, more, any_label, is_canonical}
 use Rattle.nts_model.specs.Tables.Contents.{Content}
-use Rattle.nts_model.specs.Tables.Resolving.{deeply_resolved, Knows, IsSound}
-use Rattle.nts_model.specs.Tables.Alike.{Alike}
+use Rattle.nts_model.specs.Tables.Resolving.{deeply_resolved, IsSound}
 use Rattle.nts_model.specs.Terms.Substitutions.{filled, instance_of}
 use Rattle.nts_model.specs.Derivations.Related.{Constraint, unbound}
 use Rattle.nts_model.specs.Lists.{Among}
 use Rattle.nts_model.specs.Derivations.Sequents.{Premise, type_relating, Grants, Hides}
 use Rattle.nts_model.specs.Derivations.Rules.{Mode, Equation, related, alike, GoalKind, goal_kind, step_kind, proof_kind, Stands, relating, statement_of, IsApplied}
 use Rattle.nts_model.specs.Derivations.Proofs.{Assumed, passed}
-use Rattle.nts_model.specs.Derivations.Handlers.{Handler, meaning, Candidate, certain, premise_by, AreValuesOf, IsAsked, IsCandidateFor, IsLawfulHandler}
-use Rattle.nts_model.specs.Derivations.Proving.{HoldsTerms, IsTermOf, AreConstraintsOf, AreEquated, HoldsEquationAt, HoldsButForGoals, read_constraints, sequent_at}
-use Rattle.nts_model.specs.Searching.Stacks.{IsProvedFrom, IsProvedFromAt}
-use Rattle.nts_variance_model.specs.Variances.AnsweredGoals.{RelatedUnder}
+use Rattle.nts_model.specs.Derivations.Handlers.{Handler, meaning, Candidate, certain, premise_by, IsAsked, IsCandidateFor, IsLawfulHandler}
+use Rattle.nts_model.specs.Derivations.Proving.{HoldsTerms, IsTermOf, AreConstraintsOf, HoldsEquationAt, HoldsButForGoals, read_constraints, sequent_at}
+use Rattle.nts_model.specs.Searching.Stacks.{IsProvedFrom}
 use Rattle.nts_theory.specs.RelatingCandidates.{HoldsEquationFrom, HoldsByRelating}
 use Rattle.nts_model.proofs.Tables.ResolvedTerms.{IsFormed-deeply_resolved}
 use Rattle.nts_model.proofs.Tables.TableInstances.{reading_of}
@@ -27,7 +24,7 @@ use Rattle.nts_theory.proofs.Derivations.Served.{IsClosedEnvironment, keeps_or_n
 use Rattle.nts_theory.proofs.Derivations.Relating.{Chooses, chooses_grows, chooses_itself}
 use Rattle.nts_theory.proofs.Derivations.ByCandidate.{formed_here, closed_here, among_mapped, read_filled, read_itself, equates_grows, equation_follows}
 use Rattle.nts_theory.proofs.Derivations.FromCandidate.{steps_passed}
-use Rattle.nts_theory.proofs.Derivations.Owing.{IsServedFrom, OwesFrom, from_then, from_both, from_none, owes_from}
+use Rattle.nts_theory.proofs.Derivations.Owing.{IsServedFrom, OwesFrom, from_then, from_both, owes_from}
 use Rattle.nts_theory.proofs.Aliases.ByParts.{bare, bare_holds, read, kind_here, at_goal, own_open, EquatesAt, StandsAt, EquatesAll, StandAll, parts_follow, parts_apply, met_follows, related_equates, by_parts}
 
 module _ (h : Handler) (V : ℕ → List Variance) (mode : Mode) (A : List Assumed) (c : Content) (s : IsSound c) (t : HoldsTerms c) (k : AreConstraintsOf c) (e g : Tree)

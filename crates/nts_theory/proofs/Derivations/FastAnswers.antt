@@ -1,6 +1,6 @@
 -- A goal that a fast path answers yes is proved under each table, whatever is assumed; and goals that hold by a rule that asks for
 -- nothing may be answered so.
-use Rattle.std.proofs.Common.{◌≡◌, inl, inr, ⊎_elim, ℕ, List, [], sym, subst}
+use Rattle.std.proofs.Common.{◌≡◌, inl, ⊎_elim, ℕ, List, [], sym, subst}
 use Rattle.nts_model.specs.declared.labels.Variance.{Variance}
 use Rattle.nts_model.specs.Terms.Trees.{Tree, IsClosed}
 use Rattle.nts_model.specs.Tables.Contents.{Content}

@@ -1,22 +1,20 @@
 -- What a handler judges: goals that it affirms and denies, and judgements that keep the law and do not.
-use Rattle.std.proofs.Common.{◌≡◌, ℕ, Bool, true, false, List, [], ◌∷◌, None, Some, map, refl, sym, ap, ◌∙◌, subst}
-use Rattle.std.specs.Prelude.{IsTrue, ◌==◌}
+use Rattle.std.proofs.Common.{◌≡◌, ℕ, true, false, List, [], ◌∷◌, None, Some, refl, sym, ◌∙◌, subst}
+use Rattle.std.specs.Prelude.{◌==◌}
 use Rattle.nts_model.specs.declared.labels.VariableKind.TheVariants as kind
 use Rattle.nts_model.specs.declared.labels.Relation.TheVariants as relation
 use Rattle.nts_model.specs.declared.labels.TyHead.TheVariants as ty
 use Rattle.nts_model.specs.declared.labels.Constant.TheVariants as constant
-use Rattle.nts_model.specs.declared.labels.Leaf.{Leaf}
 use Rattle.nts_model.specs.declared.labels.Leaf.TheVariants as leaf
-use Rattle.nts_model.specs.declared.labels.ClauseHead.TheVariants as clause
 use Rattle.nts_model.specs.declared.labels.PredicateHead.TheVariants as predicate
 use Rattle.nts_model.specs.declared.labels.ListHead.TheVariants as list
 use Rattle.nts_model.specs.declared.labels.Label.TheVariants as label
-use Rattle.nts_model.specs.Terms.Trees.{Tree, empty, more, node}
+use Rattle.nts_model.specs.Terms.Trees.{Tree, empty, node}
 use Rattle.nts_model.specs.Terms.Substitutions.{leaf_tree, Instance, instance_of}
 use Rattle.nts_model.specs.Derivations.Related.{Constraint, unbound, value}
 use Rattle.nts_model.specs.Derivations.Rules.{related}
 use Rattle.nts_model.specs.Derivations.Handlers.{Handler, Candidate, Judgements, no_judgements, never_leaks, never_at_once, JudgementsAreKept}
-use Rattle.nts_theory.specs.Affirming.{evaluatable, has_type, is_well_formed, SaysOfTwo, outlives_it, is_its_type, plain_way, goals_there, IsOwnWay, by_type, by_goals, HasOwnWay, IsAffirmed, feature_allowed, has_objects, named_const, value_const, error_const, evaluated_const, SaysAffirmed, IsDenied}
+use Rattle.nts_theory.specs.Affirming.{evaluatable, has_type, is_well_formed, SaysOfTwo, outlives_it, is_its_type, plain_way, goals_there, IsOwnWay, by_type, by_goals, HasOwnWay, IsAffirmed, has_objects, named_const, SaysAffirmed, IsDenied}
 
 -- of the first trait alone objects can be made, and nothing else is so
 abbrev first_alone : Judgements

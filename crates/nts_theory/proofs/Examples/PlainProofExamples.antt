@@ -263,7 +263,7 @@ module _ (v : ℕ → List Variance) (truth : Truth) where
 
   -- what a reached goal rests on is reached, if its aliases stand as they are
   rests_on_reached : (k : GoalKind) (g q : Tree) (p : IsReachedGoal g) → (goal_kind rules g ≡ normalization → ⊥) → KeepsAliases (statement_of q) → (let r = p.reached in Stands IsAliasFree (RestsOnAt rules r.node r.at) k (relating nowhere q)) → IsReachedGoal q
-  rests_on_reached k g q p other keeps (inl (i, rests)) = (let r = p.reached in rests_proved by_item_alone v truth p.of_proof r.node r.at r.reached (λ e. other (sym (ap (goal_kind rules) r.predicate) ∙ e)) (relating nowhere q) rests)
+  rests_on_reached k g q p other keeps (inl (i, rests)) = (let r = p.reached in rests_proved by_item_alone v truth p.of_proof r.node r.at r.reached (relating nowhere q) rests)
   rests_on_reached k g q p other keeps (inr (loose, stands)) = absurd (loose keeps)
 
   -- Auto(List) follows by the impl, which asks whether Item is List
@@ -299,7 +299,7 @@ module _ (v : ℕ → List Variance) (truth : Truth) where
 -- a goal that has a plain proof is reached by it
 goal_reached : (h : Handler) (v : ℕ → List Variance) (truth : Truth) (e g : Tree) → HasMetProof (meaning h v) truth e g → InPlainProof (meaning h v) (λ x. IsTrueBy truth x.relation x.left x.right) e g
 goal_reached h v truth e g p =
-    let there = root_reached h v truth (ground_proof (meaning h v) (λ x. IsTrueBy truth x.relation x.left x.right) p.proof p.ground) in
+    let there = root_reached h v truth (ground_proof (meaning h v) (λ x. IsTrueBy truth x.relation x.left x.right) p.proof p.ground p.no_open_goals) in
     rw (sym p.environment, sym p.predicate) there
 
 -- without the rule that Item normalizes to List the impl proves nothing

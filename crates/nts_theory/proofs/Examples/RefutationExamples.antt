@@ -4,7 +4,6 @@ use Rattle.nts_model.specs.declared.labels.Variance.{Variance}
 use Rattle.nts_model.specs.declared.labels.VariableKind.TheVariants as kind
 use Rattle.nts_model.specs.declared.labels.Relation.TheVariants as relation
 use Rattle.nts_model.specs.declared.labels.FreeRegion.TheVariants as region
-use Rattle.nts_model.specs.declared.labels.AliasHead.TheVariants as alias_of
 use Rattle.nts_model.specs.declared.labels.ClauseHead.TheVariants as clause
 use Rattle.nts_model.specs.declared.labels.ListHead.TheVariants as list
 use Rattle.nts_model.specs.declared.labels.Sort.TheVariants as sort
@@ -22,7 +21,7 @@ use Rattle.nts_model.specs.Terms.Placeholders.{leaf_level}
 use Rattle.nts_model.specs.Tables.Levels.{NamesAll}
 use Rattle.nts_model.specs.Refutation.Opening.{placeholder_in}
 use Rattle.nts_model.proofs.Tables.Naming.{fresh_in}
-use Rattle.nts_model.specs.Derivations.Rules.{Mode, coherence, Application, Meaning, coinductive_trait, normalization, other_goal, goal_kind, strictly, normalization_goal, opened, IsHandlers, IsRule, bound}
+use Rattle.nts_model.specs.Derivations.Rules.{Mode, coherence, Application, Meaning, coinductive_trait, strictly, opened, IsHandlers, IsRule, bound}
 use Rattle.nts_model.specs.Derivations.Proofs.{Node, Step, IsSoundStep, IsJustified}
 use Rattle.nts_model.specs.Derivations.Handlers.{Handler, never_leaks, never_at_once, no_judgements, meaning}
 use Rattle.nts_model.specs.Canonical.Inputs.{is_static}
@@ -339,7 +338,7 @@ pub fact_used : (xs : List Constraint) (v : ℕ → List Variance) (truth : Trut
     → (t ≡ list_type) × ((x : Constraint) → Among xs x → IsTrueIn truth x)
 fact_used xs v truth e t closed p =
     let h = fact_under xs in
-    let there = root_reached h v truth (ground_proof (meaning h v) (IsTrueIn truth) p.proof p.ground) in
+    let there = root_reached h v truth (ground_proof (meaning h v) (IsTrueIn truth) p.proof p.ground p.no_open_goals) in
     let here : InPlainProof (meaning h v) (IsTrueIn truth) e (auto_of t) = rw (sym p.environment, sym p.predicate) there in
     let used = plain_used h v truth in
     let u = used.plain e (node (label.Clause (clause.Trait 0)) (arguments (more t empty))) here tt (auto_closed t closed) in

@@ -14,7 +14,7 @@ use Rattle.nts_model.specs.Tables.Worlds.{World, inst}
 use Rattle.nts_model.specs.Terms.Substitutions.{leaf_tree, replace}
 use Rattle.nts_model.specs.Derivations.Related.{Constraint, unbound}
 use Rattle.nts_model.specs.Derivations.Sequents.{Premise, Hidden}
-use Rattle.nts_model.specs.Derivations.Rules.{Mode, Meaning, goal_kind, Stands, statement_of, opened, opened_at, IsHandlers, IsBuiltIn, IsPlainRule, bound, IsRule}
+use Rattle.nts_model.specs.Derivations.Rules.{Mode, Meaning, goal_kind, Stands, statement_of, opened, opened_at, IsHandlers, IsBuiltIn, IsPlainRule, IsRule}
 use Rattle.nts_model.specs.Derivations.Rules.{region_lives, type_lives, subtyped, coerced, const_typed, error_typed, allowed, dyn_compatible, formed, constant_evaluated, value_evaluated, error_evaluated, alias_evaluated, aliases_relate}
 use Rattle.nts_model.specs.Derivations.Handlers.{Candidate, Judgements}
 use Rattle.nts_model.specs.Refutation.Opening.{binds, placeholder_in, opened_in}

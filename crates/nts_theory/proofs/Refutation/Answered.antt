@@ -3,13 +3,12 @@
 use Rattle.std.proofs.Common.{◌≡◌, inl, inr, ℕ, ◌≤◌, ◌<◌, List, [], ◌∷◌, ◌++◌, map, length, Some, refl, sym, ap, subst, ◌∙◌, arith}
 use Rattle.std.specs.Prelude.{◌⊎◌}
 use Rattle.std.proofs.lemmas.Bool.{cases_lt}
-use Rattle.nts_model.specs.declared.labels.VariableKind.{VariableKind}
 use Rattle.nts_model.specs.declared.labels.FreeRegion.{FreeRegion}
 use Rattle.nts_model.specs.declared.labels.FreeRegion.TheVariants as region
 use Rattle.nts_model.specs.declared.labels.Leaf.{Leaf}
 use Rattle.nts_model.specs.declared.labels.Leaf.TheVariants as leaf
 use Rattle.nts_model.specs.Terms.Trees.{Tree, empty, IsFormed}
-use Rattle.nts_model.specs.Tables.Contents.{Content, kind_at}
+use Rattle.nts_model.specs.Tables.Contents.{Content}
 use Rattle.nts_model.specs.Tables.Resolving.{Knows}
 use Rattle.nts_model.specs.Terms.Placeholders.{CanName, free_region_level, leaf_level}
 use Rattle.nts_model.specs.Tables.Worlds.{World, inst, IsFitting, IsNameable, Solves, Agrees}
@@ -20,14 +19,13 @@ use Rattle.nts_model.specs.Derivations.Sequents.{Premise}
 use Rattle.nts_model.specs.Tables.Passing.{AllLabels}
 use Rattle.nts_model.specs.Canonical.Inputs.{Input, IsInput, originals, canonical_of, OccursIn}
 use Rattle.nts_model.specs.Answers.Responses.{Response, Applies, IsResponseTo}
-use Rattle.nts_model.specs.Refutation.Containing.{IsAliasFree, IsPlainWorld, Truth, original_level, IsSolution, IsSolutionOf, AnswerContains, HasNoSolution, Carrier, IsGroundLabel, IsCarriable, IsProvedIn, SolvesGoals, ExtendsTo, KeepsSolutions}
+use Rattle.nts_model.specs.Refutation.Containing.{IsAliasFree, IsPlainWorld, Truth, original_level, IsSolution, IsSolutionOf, AnswerContains, HasNoSolution, Carrier, IsGroundLabel, IsCarriable, IsProvedIn, KeepsSolutions}
 use Rattle.nts_model.proofs.Tables.Instances.{inst-agrees, Agrees-refl, Agrees-trans, KeepsFixedRegions-agrees}
 use Rattle.nts_model.proofs.Tables.Slots.{CanName-more}
 use Rattle.nts_model.proofs.Canonical.CanonicalForms.{originals_give_input, originals_are_leaves}
 use Rattle.nts_theory.proofs.Responses.Answering.{canonical_environment_over, canonical_predicate_over}
 use Rattle.nts_theory.proofs.Refutation.PlainTerms.{free_instance, alias_level, free_are_named, plain_by_names}
 use Rattle.nts_theory.proofs.Refutation.AskingWorlds.{image_inside, ground_parts, IsAskable, image, asked_values, asked_filled, contained_granted, named_with_regions, IsOfParts}
-use Rattle.nts_model.proofs.Lists.{among_left, among_right}
 use Rattle.nts_theory.proofs.Responses.Asked.{first_part, rest_part}
 
 given_environment : (i : Input) → IsInput i → filled (map leaf_tree (originals i)) (canonical_of i).environment ≡ i.environment

@@ -1,8 +1,7 @@
 -- Types that are apart are never one, whatever stands for their variables.
-use Rattle.std.proofs.Common.{◌≡◌, List, Some, false, ap, sym, ◌∙◌}
+use Rattle.std.proofs.Common.{◌≡◌, List, Some, ap, sym, ◌∙◌}
 use Rattle.nts_model.specs.declared.labels.TyHead.{TyHead}
 use Rattle.nts_model.specs.declared.labels.Leaf.{Leaf}
-use Rattle.nts_model.specs.declared.labels.Label.{Label}
 use Rattle.nts_model.specs.declared.labels.Label.TheVariants as label
 use Rattle.nts_model.specs.Terms.Trees.{Tree, empty, more, node, label_of}
 use Rattle.nts_model.specs.Terms.Substitutions.{filled_under}

@@ -30,7 +30,7 @@ use Rattle.nts_theory.proofs.Refutation.Carriers.{moved, moved_carrying, back_to
 use Rattle.nts_theory.proofs.Refutation.Opening.{IsBegunAt, CanBegin, AreTrueIn, added_all}
 use Rattle.nts_theory.specs.Telling.{IsInputFor, CanAsk}
 use Rattle.nts_theory.specs.RelatingCandidates.{IsBegun, Begins, goals_with, plain_part, plain_equations}
-use Rattle.nts_theory.proofs.Refutation.PlainParts.{plain_among, plain_is}
+use Rattle.nts_theory.proofs.Refutation.PlainParts.{plain_is}
 use Rattle.nts_theory.proofs.Refutation.Queried.{Leads, Reached}
 use Rattle.nts_theory.proofs.Refutation.PlainTerms.{leaf_free}
 use Rattle.nts_theory.proofs.Refutation.Theories.{granted_renamed}

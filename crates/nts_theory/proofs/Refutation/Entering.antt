@@ -17,7 +17,7 @@ use Rattle.nts_model.specs.Tables.Worlds.{World, inst, KeepsFixedRegions}
 use Rattle.nts_model.specs.Terms.Substitutions.{leaf_tree, filled}
 use Rattle.nts_model.specs.Derivations.Handlers.{IsFixed}
 use Rattle.nts_model.specs.Canonical.Inputs.{CanonicalInput, PositionKind, type_variable, integer_variable, float_variable, const_variable, region_variable, placeholder}
-use Rattle.nts_model.specs.Answers.Responses.{Response, IsOverPositions, placeholder_tree, IsImageOf, AreImagesOf, IsNamedBy, AreNamedBy}
+use Rattle.nts_model.specs.Answers.Responses.{IsOverPositions, placeholder_tree, IsImageOf, AreImagesOf, IsNamedBy, AreNamedBy}
 use Rattle.nts_model.specs.Answers.Applying.{IsOriginalAt, ChoosesAll, IsProperContent, AreKnownTrees}
 use Rattle.nts_model.specs.Lists.{Among}
 use Rattle.nts_model.specs.Refutation.Containing.{IsAliasFree, IsPlainWorld, Truth, IsSolution, IsFreeRegion, IsInputValue, AreInputValues, IsSolutionOf}

@@ -1,34 +1,26 @@
 -- Instances of terms in a world, terms without aliases once values are put in, and a candidate that a world meets.
-use Rattle.std.proofs.Common.{◌≡◌, inl, inr, ℕ, zero, suc, List, [], ◌∷◌, get_or, Option, Some, None, refl, sym, ap, subst, ◌∙◌}
-use Rattle.std.specs.Prelude.{◌⊎◌}
-use Rattle.nts_model.specs.declared.labels.Variance.{Variance}
-use Rattle.nts_model.specs.declared.labels.Variance.TheVariants as variance
+use Rattle.std.proofs.Common.{◌≡◌, inl, inr, ℕ, zero, suc, List, [], ◌∷◌, get_or, Option, Some, None, refl, sym, ap, ◌∙◌}
 use Rattle.nts_model.specs.declared.labels.Leaf.{Leaf}
-use Rattle.nts_model.specs.declared.labels.Leaf.TheVariants as leaf
 use Rattle.nts_model.specs.declared.labels.ClauseHead.{ClauseHead}
 use Rattle.nts_model.specs.declared.labels.ClauseHead.TheVariants as clause
 use Rattle.nts_model.specs.declared.labels.PredicateHead.{PredicateHead}
 use Rattle.nts_model.specs.declared.labels.PredicateHead.TheVariants as predicate
 use Rattle.nts_model.specs.declared.labels.Label.{Label}
 use Rattle.nts_model.specs.declared.labels.Label.TheVariants as label
-use Rattle.nts_model.specs.Terms.Trees.{Tree, empty, more, node, IsClosed, IsFormed}
-use Rattle.nts_model.specs.Tables.Contents.{Content}
-use Rattle.nts_model.specs.Tables.Resolving.{Knows}
-use Rattle.nts_model.specs.Tables.Worlds.{World, inst, IsFitting}
-use Rattle.nts_model.specs.Terms.Substitutions.{leaf_tree, put, replace, Occurs, Instance, instance_of, filled_under, position_of, value_or}
-use Rattle.nts_model.specs.Derivations.Related.{Constraint, pair, unbound, alias_goal, IsAlias}
+use Rattle.nts_model.specs.Terms.Trees.{Tree, empty, more, node, IsFormed}
+use Rattle.nts_model.specs.Tables.Worlds.{World, inst}
+use Rattle.nts_model.specs.Terms.Substitutions.{leaf_tree, put, replace, Occurs, Instance, filled_under, position_of, value_or}
+use Rattle.nts_model.specs.Derivations.Related.{Constraint}
 use Rattle.nts_model.specs.Lists.{Among}
 use Rattle.nts_model.specs.Derivations.Sequents.{Premise}
-use Rattle.nts_model.specs.Derivations.Rules.{coherence, Equation, related, alike, GoalKind, goal_kind, Stands, relating, IsHandlers, HoldsEquation, IsApplied, IsRule}
-use Rattle.nts_model.specs.Derivations.Handlers.{Handler, meaning, Candidate, equation_by, premise_by, AreValuesOf, IsAsked, CandidatesKeep, IsFixed}
+use Rattle.nts_model.specs.Derivations.Rules.{coherence, Equation, IsHandlers}
+use Rattle.nts_model.specs.Derivations.Handlers.{Handler, Candidate, AreValuesOf}
 use Rattle.nts_model.specs.Refutation.Containing.{IsNoAlias, IsAliasFree, Truth, IsTrueBy}
 use Rattle.nts_theory.specs.RelatingCandidates.{plain_equations, HasTypesApart}
 use Rattle.nts_theory.specs.Refutation.Refutation.{IsGranted}
-use Rattle.nts_model.proofs.Tables.Fitting.{IsClosed-inst}
 use Rattle.nts_model.proofs.Terms.Substituting.{leaf_alone}
-use Rattle.nts_theory.proofs.Refutation.AskingWorlds.{IsOfParts, image_inside}
+use Rattle.nts_theory.proofs.Refutation.AskingWorlds.{IsOfParts}
 use Rattle.nts_model.specs.Refutation.Choosing.{left_of, right_of}
-use Rattle.nts_theory.specs.Telling.{IsTraitStatement}
 
 -- an instance of a formed tree is its image, where that is so of its leaves
 put_inst : (w : World) (f : Leaf → Tree) (l : Label) (c d : Tree) → IsFormed (node l c) → ((x : Leaf) → Occurs x (node l c) → f x ≡ inst w (leaf_tree x)) → d ≡ inst w c → put f l d ≡ inst w (node l c)
@@ -76,11 +68,6 @@ handlers_inst w (node (label.Bound a b n) ts) h = absurd h
 handlers_inst w (node (label.Ty x) ts) h = absurd h
 handlers_inst w (node (label.Const x) ts) h = absurd h
 handlers_inst w (node (label.List x) ts) h = absurd h
-
-pub trait_inst : (w : World) (s : Tree) → IsTraitStatement s → IsTraitStatement (inst w s)
-trait_inst w (node (label.Clause (clause.Trait i)) ts) h = tt
-trait_inst w (node (label.Clause (clause.HostEffect i)) ts) h = tt
-trait_inst w s h = absurd h
 
 -- filled terms without aliases
 value_free : (vs : List Tree) → ((v : Tree) → Among vs v → IsAliasFree v) → (i : ℕ) → IsAliasFree (get_or vs i empty)

@@ -1,5 +1,5 @@
 -- What is proved to outlive a region does: by the rule of the engine, under a renaming, and in a world.
-use Rattle.std.proofs.Common.{◌≡◌, inl, inr, ℕ, Bool, true, false, refl, sym, ap, ◌∙◌, subst}
+use Rattle.std.proofs.Common.{◌≡◌, inl, inr, ℕ, Bool, true, false, refl, sym, ap, ◌∙◌}
 use Rattle.std.specs.Prelude.{◌==◌, if◌then◌else◌}
 use Rattle.nts_model.specs.declared.labels.Sort.{Sort}
 use Rattle.nts_model.specs.declared.labels.Leaf.{Leaf}
@@ -8,12 +8,12 @@ use Rattle.nts_model.specs.declared.labels.ClauseHead.TheVariants as clause
 use Rattle.nts_model.specs.declared.labels.Label.TheVariants as label
 use Rattle.nts_model.specs.declared.labels.Relation.{Relation}
 use Rattle.nts_model.specs.declared.labels.Relation.TheVariants as relation
-use Rattle.nts_model.specs.Terms.Trees.{Tree, empty, more, node, IsClosed, IsFormed}
+use Rattle.nts_model.specs.Terms.Trees.{Tree, empty, more, node, IsFormed}
 use Rattle.nts_model.specs.Tables.Worlds.{World, inst}
 use Rattle.nts_model.specs.Terms.Substitutions.{leaf_tree, Renaming, rename}
-use Rattle.nts_model.specs.Derivations.Related.{Constraint, unbound}
-use Rattle.nts_model.specs.Derivations.Sequents.{Premise, Hidden}
-use Rattle.nts_model.specs.Derivations.Rules.{Mode, Meaning, goal_kind, Stands, opened, IsHandlers, IsBuiltIn, region_lives, type_lives, IsPlainRule, bound, IsRule}
+use Rattle.nts_model.specs.Derivations.Related.{Constraint}
+use Rattle.nts_model.specs.Derivations.Sequents.{Premise}
+use Rattle.nts_model.specs.Derivations.Rules.{Meaning, opened, IsHandlers, IsBuiltIn, region_lives, type_lives}
 use Rattle.nts_model.specs.Derivations.Handlers.{constraint_by}
 use Rattle.nts_model.specs.Refutation.Containing.{Truth, IsTrueBy}
 use Rattle.nts_theory.specs.Outliving.{SaysOutlives, region_outlives, type_outlives}

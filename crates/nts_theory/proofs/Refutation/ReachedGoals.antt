@@ -1,53 +1,38 @@
 -- The goals that a plain proof reaches follow by uses of clauses.
-use Rattle.std.proofs.Common.{◌≡◌, inl, inr, ℕ, Bool, true, false, Some, List, [], ◌∷◌, refl, sym, ap, subst, ◌∙◌}
-use Rattle.std.specs.Prelude.{if◌then◌else◌}
-use Rattle.nts_model.specs.declared.labels.Sort.{Sort}
+use Rattle.std.proofs.Common.{◌≡◌, ◌⊎◌, inl, inr, ℕ, Some, List, [], ◌∷◌, refl, sym, ap, subst, ◌∙◌}
 use Rattle.nts_model.specs.declared.labels.Variance.{Variance}
-use Rattle.nts_model.specs.declared.labels.Variance.TheVariants as variance
 use Rattle.nts_model.specs.declared.labels.Relation.{Relation}
 use Rattle.nts_model.specs.declared.labels.Relation.TheVariants as relation
-use Rattle.nts_model.specs.declared.labels.AliasRelationDirection.TheVariants as direction
-use Rattle.nts_model.specs.declared.labels.AliasHead.{AliasHead}
 use Rattle.nts_model.specs.declared.labels.Leaf.{Leaf}
-use Rattle.nts_model.specs.declared.labels.ClauseHead.TheVariants as clause
-use Rattle.nts_model.specs.declared.labels.PredicateHead.TheVariants as predicate
 use Rattle.nts_model.specs.declared.labels.Label.{Label}
 use Rattle.nts_model.specs.declared.labels.Label.TheVariants as label
 use Rattle.nts_model.specs.Terms.Trees.{Tree, empty, more, node, IsClosed, IsFormed}
 use Rattle.nts_model.specs.Tables.Passing.{AllLabels}
 use Rattle.nts_model.specs.Terms.Substitutions.{put, replace, Instance, instance_of}
-use Rattle.nts_model.specs.Derivations.Related.{Constraint, pair, unbound, alias_goal, alias, IsAlias}
+use Rattle.nts_model.specs.Derivations.Related.{Constraint, pair, unbound, IsAlias, alias}
 use Rattle.nts_model.specs.Lists.{Among}
 use Rattle.nts_model.specs.Derivations.Sequents.{misc, Premise, Hidden, HasOneSide, constraint_under}
-use Rattle.nts_model.specs.Derivations.Rules.{coherence, Meaning, coinductive_trait, other_goal, normalization, strictly, statement_kind, goal_kind, Stands, relating, opened, IsHandlers, normalization_goal, IsResult, IsBuiltIn, IsPlainRule, bound, IsRule}
-use Rattle.nts_model.specs.Derivations.Rules.{region_lives, type_lives, subtyped, coerced, const_typed, error_typed, allowed, dyn_compatible, formed, constant_evaluated, value_evaluated, error_evaluated, alias_evaluated, aliases_relate}
-use Rattle.nts_model.specs.Derivations.Proofs.{Node}
+use Rattle.nts_model.specs.Derivations.Rules.{coherence, Meaning, strictly, opened, IsHandlers, IsRule, normalization_goal, IsResult, RelatedIn, AreResultsRelated, relating, Stands, goal_kind}
+use Rattle.nts_model.specs.Derivations.Proofs.{Node, Step, reopened}
 use Rattle.nts_variance_model.specs.Variances.SettledProofs.{IsReached, start, onward, GrantsAt, HidesAt, RestsOnAt}
-use Rattle.nts_theory.specs.Affirming.{goals_there, is_well_formed, SaysOfTwo, outlives_it, is_its_type}
-use Rattle.nts_theory.specs.Outliving.{region_outlives, type_outlives}
-use Rattle.nts_theory.specs.Telling.{IsTraitStatement}
+use Rattle.nts_theory.specs.Affirming.{goals_there, is_well_formed, SaysOfTwo}
 use Rattle.nts_model.specs.Derivations.Handlers.{Handler, meaning, goals_in}
 use Rattle.nts_model.specs.Refutation.Containing.{IsAliasFree, Truth, IsTrueBy, IsGroundLabel, AreGround}
 use Rattle.nts_theory.specs.Refutation.Refutation.{HasNoAlias, IsGranted, UsesClause, UsesOpened, AreUsed, binding, IsGroundInstance, PlainNode}
 use Rattle.nts_model.proofs.Terms.Composing.{after, instance_of-after, IsFormed-instance}
 use Rattle.nts_model.proofs.Terms.Identified.{one_at}
-use Rattle.nts_theory.proofs.Derivations.ClosedStatements.{opened_closed}
-use Rattle.nts_theory.proofs.Refutation.Covering.{not_built_in}
 use Rattle.nts_theory.proofs.Refutation.UsedRules.{IsPredicate, uses_unbound, uses_binding, Engine, EngineOpened, engine_unbound, engine_binding, formed_proved, said_true}
 use Rattle.nts_theory.proofs.Derivations.ProofInstances.{HasOneSide-under as one_side_under}
-use Rattle.nts_theory.proofs.Refutation.PlainTerms.{opened_none}
+use Rattle.nts_theory.proofs.Refutation.PlainTerms.{opened_none, none_is_alias, free_none, no_head}
 use Rattle.nts_theory.proofs.Refutation.Saying.{said_no_handlers}
 use Rattle.nts_theory.proofs.Refutation.Affirming.{rule_denied}
-
-normal_handlers : (f : ℕ → Bool) (s : Tree) → statement_kind f s ≡ normalization → IsHandlers s
-normal_handlers f (node (label.Predicate (predicate.NormalizesTo i)) ts) e = tt
-normal_handlers f (node (label.Clause (clause.Trait i)) ts) e = tt
-normal_handlers f s e = cc e
-
-normal_opened : (f : ℕ → Bool) (p : Sort → ℕ → Leaf) (s : Tree) → statement_kind f s ≡ normalization → statement_kind f (opened p 0 s) ≡ normalization
-normal_opened f p (node (label.Predicate (predicate.NormalizesTo i)) ts) e = refl
-normal_opened f p (node (label.Clause (clause.Trait i)) ts) e = e
-normal_opened f p s e = cc e
+use Rattle.nts_model.specs.declared.labels.AliasHead.{AliasHead}
+use Rattle.nts_model.specs.declared.labels.AliasHead.TheVariants as alias_of
+use Rattle.nts_model.specs.declared.labels.Variance.TheVariants as variance
+use Rattle.nts_model.specs.declared.labels.AliasRelationDirection.TheVariants as direction
+use Rattle.nts_theory.specs.Aliasing.{alias_relation}
+use Rattle.nts_theory.proofs.Refutation.Covering.{related_equal}
+use Rattle.nts_theory.proofs.Aliases.Unfolding.{unfold_alias}
 
 -- the goals that a plain proof reaches
 pub record IsReachedBy (m : Meaning) (Holds : Constraint → Type 0) (p : PlainNode m Holds) (e g : Tree) : Type 0 where
@@ -57,9 +42,10 @@ pub record IsReachedBy (m : Meaning) (Holds : Constraint → Type 0) (p : PlainN
   pub environment : instance_of at node.sequent.environment ≡ e
   pub predicate : instance_of at node.sequent.predicate ≡ g
 
--- a plain proof without region variables: each has been assigned a region
+-- a plain proof without region variables: each has been assigned a region; its goal leaves nothing open
 pub record GroundProof (m : Meaning) (Holds : Constraint → Type 0) : Type 0 where
   pub proof : PlainNode m Holds
+  pub whole : proof.node.sequent.open_goals ≡ []
   pub ground : (n : Node) (κ : Instance) → IsReached m proof.nodes proof.node proof.at n κ → AllLabels IsGroundLabel (pair (instance_of κ n.sequent.environment) (instance_of κ n.sequent.predicate))
 
 -- .. and the goals that such proofs reach
@@ -95,25 +81,12 @@ reached_true m truth p n κ (onward {n = b} {κ = ι} s to both before a after) 
 equal_true : (truth : Truth) (x : Constraint) → HoldsIn truth x → x.relation ≡ relation.Equal → x.left ≡ x.right
 equal_true truth x h e = subst (λ z. IsTrueBy truth z x.left x.right) e h
 
--- what kind of statement is about no alias
-trait_plain : (f : ℕ → Bool) (s : Tree) → IsTraitStatement s → statement_kind f s ≡ normalization → ⊥
-trait_plain f (node (label.Clause (clause.Trait i)) ts) t e = by_test (f i) e
-  where
-    by_test : (b : Bool) → (if b then coinductive_trait else other_goal) ≡ normalization → ⊥
-    by_test true q = cc q
-    by_test false q = cc q
-trait_plain f (node (label.Clause (clause.HostEffect i)) ts) t e = cc e
-trait_plain f s t e = absurd t
-
-said_plain : (f : ℕ → Bool) (y : Constraint) (s : Tree) → SaysOfTwo y s → statement_kind f s ≡ normalization → ⊥
-said_plain f y s (outlives_it region_outlives) e = cc e
-said_plain f y s (outlives_it type_outlives) e = cc e
-said_plain f y s is_its_type e = cc e
-
-pub trait_handlers : (s : Tree) → IsTraitStatement s → IsHandlers s
-trait_handlers (node (label.Clause (clause.Trait i)) ts) t = tt
-trait_handlers (node (label.Clause (clause.HostEffect i)) ts) t = tt
-trait_handlers s t = absurd t
+-- an alias has one head and one list of arguments
+one_alias : (h k : AliasHead) (ts us : Tree) → alias h ts ≡ alias k us → (h ≡ k) × (ts ≡ us)
+one_alias (alias_of.Ty i) (alias_of.Ty j) ts us e = (cc e, cc e)
+one_alias (alias_of.Const i) (alias_of.Const j) ts us e = (cc e, cc e)
+one_alias (alias_of.Ty i) (alias_of.Const j) ts us e = cc e
+one_alias (alias_of.Const i) (alias_of.Ty j) ts us e = cc e
 
 module _ (h : Handler) (V : ℕ → List Variance) (truth : Truth) where
   abbrev m : Meaning
@@ -122,9 +95,9 @@ module _ (h : Handler) (V : ℕ → List Variance) (truth : Truth) where
   abbrev Proves : Tree → Tree → Type 0
   Proves = InPlainProof m (HoldsIn truth)
 
-  -- a premise of a reached node that normalizes no alias is reached
-  pub rests_proved : (p : GroundProof m (HoldsIn truth)) (n : Node) (κ : Instance) → IsReached m p.proof.nodes p.proof.node p.proof.at n κ → (goal_kind m (instance_of κ n.sequent.predicate) ≡ normalization → ⊥) → (q : Premise) → RestsOnAt m n κ q → Proves q.environment q.predicate
-  rests_proved p n κ r plain q (inl (s, i, e)) =
+  -- a goal to which a step of a reached node leads is reached
+  step_proved : (p : GroundProof m (HoldsIn truth)) (n : Node) (κ : Instance) → IsReached m p.proof.nodes p.proof.node p.proof.at n κ → (s : Step) → Among n.steps s → Proves (instance_of κ s.premise.environment) (instance_of κ s.premise.predicate)
+  step_proved p n κ r s i =
       let w = p.proof in
       let a = reached_among m w.nodes w.node w.at n κ r w.found in
       let to = (let k = w.ranked in k.steps n s a i) in
@@ -138,11 +111,29 @@ module _ (h : Handler) (V : ℕ → List Variance) (truth : Truth) where
           node = to.node;
           at = both;
           reached = onward s to both r i (instance_of-after κ s.instance);
-          environment = instance_of-after κ s.instance to.node.sequent.environment ∙ one_at κ n.sequent.constraints _ _ equalities serves.environment ∙ ap (λ z. z.environment) e;
-          predicate = instance_of-after κ s.instance to.node.sequent.predicate ∙ one_at κ n.sequent.constraints _ _ equalities serves.predicate ∙ ap (λ z. z.predicate) e;
+          environment = instance_of-after κ s.instance to.node.sequent.environment ∙ one_at κ n.sequent.constraints _ _ equalities serves.environment;
+          predicate = instance_of-after κ s.instance to.node.sequent.predicate ∙ one_at κ n.sequent.constraints _ _ equalities serves.predicate;
         };
       }
-  rests_proved p n κ r plain q (inr (k, rest)) = absurd (plain k)
+
+  proved_there : {e f g q : Tree} → e ≡ f → g ≡ q → Proves f q → Proves e g
+  proved_there x y p = rw (x, y) p
+
+  -- .. and so is what a reached node leaves open, which those rest on that use it
+  open_proved : (p : GroundProof m (HoldsIn truth)) (n : Node) (κ : Instance) → IsReached m p.proof.nodes p.proof.node p.proof.at n κ → (q : Premise) → Among n.sequent.open_goals q → Proves (instance_of κ q.environment) (instance_of κ q.predicate)
+  open_proved p n κ start q i = absurd (subst (λ (qs : List Premise). Among qs q) p.whole i)
+  open_proved p n κ (onward {n = b} {κ = ι} s to both before a after) q i =
+      let serves = to.serves in
+      let other = reopened s.instance q in
+      proved_there (after q.environment) (after q.predicate) (elim (serves.open_goals q i) [
+        | inl t ↦ subst (λ (z : Premise). Proves (instance_of ι z.environment) (instance_of ι z.predicate)) t.2 (step_proved p b ι before t.0 t.1)
+        | inr t ↦ open_proved p b ι before other t.1
+      ])
+
+  -- a premise of a reached node is reached
+  pub rests_proved : (p : GroundProof m (HoldsIn truth)) (n : Node) (κ : Instance) → IsReached m p.proof.nodes p.proof.node p.proof.at n κ → (q : Premise) → RestsOnAt m n κ q → Proves q.environment q.predicate
+  rests_proved p n κ r q (inl (s, i, e)) = subst (λ (z : Premise). Proves z.environment z.predicate) e (step_proved p n κ r s i)
+  rests_proved p n κ r q (inr (k, (o, i, e))) = subst (λ (z : Premise). Proves z.environment z.predicate) e (open_proved p n κ r o i)
 
   granted_true : (p : GroundProof m (HoldsIn truth)) (n : Node) (κ : Instance) → IsReached m p.proof.nodes p.proof.node p.proof.at n κ → (x : Constraint) → GrantsAt n κ x → HoldsIn truth x
   granted_true p n κ r x (inl t) = trivial_true truth x.relation x t
@@ -197,13 +188,13 @@ module _ (h : Handler) (V : ℕ → List Variance) (truth : Truth) where
   asked_among e (p ∷ ps) q (inl same) = inl (ap (asked_there e) same)
   asked_among e (p ∷ ps) q (inr i) = inr (asked_among e ps q i)
 
-  -- by a rule for a goal that normalizes no alias it follows from what is proved
-  module _ (e g : Tree) (p : Proves e g) (plain : goal_kind m g ≡ normalization → ⊥) where
+  -- by a rule for a goal it follows from what is proved
+  module _ (e g : Tree) (p : Proves e g) where
     granted : (x : Constraint) → (let r = p.reached in GrantsAt r.node r.at x) → HoldsIn truth x
     granted x t = (let r = p.reached in granted_true p.of_proof r.node r.at r.reached x t)
 
     rested : (q : Premise) → (let r = p.reached in RestsOnAt m r.node r.at q) → Proves q.environment q.predicate
-    rested q t = (let r = p.reached in rests_proved p.of_proof r.node r.at r.reached (λ k. plain (sym (ap (goal_kind m) r.predicate) ∙ k)) q t)
+    rested q t = (let r = p.reached in rests_proved p.of_proof r.node r.at r.reached q t)
 
     used_unbound : (s : Tree) → g ≡ unbound s → IsHandlers s → IsClosed s → UsesClause h truth Proves e s
     used_unbound s is i c = (let r = p.reached in
@@ -222,12 +213,45 @@ module _ (h : Handler) (V : ℕ → List Variance) (truth : Truth) where
     formed_here s t ps q b is given i = (let r = p.reached in
         formed_proved h (strictly m) truth Proves (λ a y. y) are_ground shaped_goal IsAliasFree (GrantsAt r.node r.at) (HidesAt r.node r.at) (RestsOnAt m r.node r.at) (λ v k. k) granted rested e s t (goals_there e ps) b is (ap (goals_in e) given) (asked_there e q) (asked_among e ps q i))
 
-  no_normal : (s : Tree) → (IsHandlers s → ⊥) → statement_kind h.is_coinductive s ≡ normalization → ⊥
-  no_normal s n k = n (normal_handlers h.is_coinductive s k)
+  -- what an alias is equal to, in which no alias stands, is what it normalizes to
+  module _ (e a t : Tree) (x : IsAlias a) (closed : IsClosed t) (none : HasNoAlias t) where
+    same_parts : (y : IsAlias a) (r : Tree) → normalization_goal y.head y.parts r ≡ normalization_goal x.head x.parts r
+    same_parts y r = (let s = one_alias y.head x.head y.parts x.parts (sym y.is ∙ x.is) in cc (s.0, s.1))
 
-  -- what is opened says nothing that normalizes, so nor did it before
-  no_normal_opened : (f : Sort → ℕ → Leaf) (s : Tree) → (IsHandlers (opened f 0 s) → ⊥) → statement_kind h.is_coinductive s ≡ normalization → ⊥
-  no_normal_opened f s n k = no_normal (opened f 0 s) n (normal_opened h.is_coinductive f s k)
+    one_result : (G : Tree → Type 0) (P : Premise → Type 0) (s : Tree) → IsResult G P e t s → s ≡ t
+    one_result G P s (inl (same, may)) = same
+    one_result G P s (inr (y, term, may, stands, kinds)) = absurd (none_is_alias t none y)
+
+    module _ (g : Tree) (p : Proves e g) (v : Variance) (inv : v ≡ variance.Invariant) where
+      abbrev Rests : Premise → Type 0
+      Rests = (let r = p.reached in Stands IsAliasFree (RestsOnAt m r.node r.at) (goal_kind m g))
+
+      related_one : (r s : Tree) → IsAliasFree r → s ≡ t → AreResultsRelated (strictly m) IsAliasFree (let q = p.reached in GrantsAt q.node q.at) Rests e v r s ⊎ AreResultsRelated (strictly m) IsAliasFree (let q = p.reached in GrantsAt q.node q.at) Rests e v s r → r ≡ t
+      related_one r s free same (inl (inl y)) =
+          related_equal V IsAliasFree (let q = p.reached in GrantsAt q.node q.at) (λ z. Rests (relating e z)) (λ i j k. granted e g p (record { relation = relation.Equal; left = i; right = j }) k) v r t inv (free_none r free) none
+          (subst (RelatedIn (strictly m) IsAliasFree (let q = p.reached in GrantsAt q.node q.at) Rests e v r) same y)
+      related_one r s free same (inl (inr (h, ts, us, is, other, rest))) = absurd (no_head h ts (subst HasNoAlias is (free_none r free)))
+      related_one r s free same (inr (inl y)) =
+          sym (related_equal V IsAliasFree (let q = p.reached in GrantsAt q.node q.at) (λ z. Rests (relating e z)) (λ i j k. granted e g p (record { relation = relation.Equal; left = i; right = j }) k) v t r inv none (free_none r free)
+          (subst (λ z. RelatedIn (strictly m) IsAliasFree (let q = p.reached in GrantsAt q.node q.at) Rests e v z r) same y))
+      related_one r s free same (inr (inr (h, ts, us, other, is, rest))) = absurd (no_head h us (subst HasNoAlias is (free_none r free)))
+
+      by_results : (r s : Tree) → IsResult IsAliasFree Rests e a r → s ≡ t → AreResultsRelated (strictly m) IsAliasFree (let q = p.reached in GrantsAt q.node q.at) Rests e v r s ⊎ AreResultsRelated (strictly m) IsAliasFree (let q = p.reached in GrantsAt q.node q.at) Rests e v s r → Proves e (normalization_goal x.head x.parts t)
+      by_results r s (inl (same, may)) is related = absurd (no_head x.head x.parts (subst HasNoAlias x.is (free_none a (may x))))
+      by_results r s (inr (y, term, free, inl (i, rests), kinds)) is related =
+          let q = rested e g p (relating e (normalization_goal y.head y.parts r)) rests in
+          subst (λ z. Proves e (normalization_goal x.head x.parts z)) (related_one r s free is related) (subst (Proves e) (same_parts y r) q)
+      by_results r s (inr (y, term, free, inr (loose, stands), kinds)) is related = absurd (loose tt)
+
+    equates : Proves e (alias_relation direction.Equate a t) ⊎ Proves e (alias_relation direction.Equate t a) → Proves e (normalization_goal x.head x.parts t)
+    equates (inl p) =
+        let r = p.reached in
+        let u = unfold_alias (strictly m) coherence IsAliasFree (GrantsAt r.node r.at) (HidesAt r.node r.at) (RestsOnAt m r.node r.at) e direction.Equate a t x.closed closed (goal_rule e (alias_relation direction.Equate a t) p) in
+        by_results (alias_relation direction.Equate a t) p variance.Invariant refl u.left u.right u.of_left (one_result IsAliasFree (Rests (alias_relation direction.Equate a t) p variance.Invariant refl) u.right u.of_right) (inl u.relate)
+    equates (inr p) =
+        let r = p.reached in
+        let u = unfold_alias (strictly m) coherence IsAliasFree (GrantsAt r.node r.at) (HidesAt r.node r.at) (RestsOnAt m r.node r.at) e direction.Equate t a closed x.closed (goal_rule e (alias_relation direction.Equate t a) p) in
+        by_results (alias_relation direction.Equate t a) p variance.Invariant refl u.right u.left u.of_right (one_result IsAliasFree (Rests (alias_relation direction.Equate t a) p variance.Invariant refl) u.left u.of_left) (inr u.relate)
 
   formed_no_handlers : (s t : Tree) → s ≡ is_well_formed t → IsHandlers s → ⊥
   formed_no_handlers s t is i = subst IsHandlers is i
@@ -236,17 +260,18 @@ module _ (h : Handler) (V : ℕ → List Variance) (truth : Truth) where
   plain_used =
       record {
         ground = are_ground;
-        plain = λ e s p i c. used_unbound e (unbound s) p (trait_plain h.is_coinductive s i) s refl (trait_handlers s i) c;
-        opened = λ e x xs s p i. used_binding e (binding x xs s) p (trait_plain h.is_coinductive s i) x xs s refl (trait_handlers s i);
-        says = λ e s y p says closed n. (let none = said_no_handlers y s says in said_here e (unbound s) p (no_normal s none) s y (by_engine e s p none closed) n says);
-        formed = λ e s p closed t ps is given q i. (let none = formed_no_handlers s t is in formed_here e (unbound s) p (no_normal s none) s t ps q (by_engine e s p none closed) is given i);
+        plain = λ e s p i c. used_unbound e (unbound s) p s refl i c;
+        opened = λ e x xs s p i. used_binding e (binding x xs s) p x xs s refl i;
+        says = λ e s y p says closed n. (let none = said_no_handlers y s says in said_here e (unbound s) p s y (by_engine e s p none closed) n says);
+        formed = λ e s p closed t ps is given q i. (let none = formed_no_handlers s t is in formed_here e (unbound s) p s t ps q (by_engine e s p none closed) is given i);
+        equates = λ e a t x p closed none. equates e a t x closed none p;
         formed_opened = λ e x xs s p. (let o = opened_engine e x xs s p in
             record {
               fresh = o.fresh;
               are_fresh = o.are_fresh;
               goals = λ t ps is given q i.
                   (let none = formed_no_handlers (opened o.fresh 0 s) t is in
-                  formed_here e (binding x xs s) p (no_normal_opened o.fresh s none) (opened o.fresh 0 s) t ps q (o.follows none) is given i);
+                  formed_here e (binding x xs s) p (opened o.fresh 0 s) t ps q (o.follows none) is given i);
             });
         denies = λ e g p d. (let r = p.reached in
             rule_denied (strictly m) h.judges (λ i. refl) coherence IsAliasFree (GrantsAt r.node r.at) (HidesAt r.node r.at) (RestsOnAt m r.node r.at) e g d (goal_rule e g p));
@@ -256,7 +281,7 @@ module _ (h : Handler) (V : ℕ → List Variance) (truth : Truth) where
               are_fresh = o.are_fresh;
               holds = λ y says.
                   (let none = said_no_handlers y (opened o.fresh 0 s) says in
-                  said_here e (binding x xs s) p (no_normal_opened o.fresh s none) (opened o.fresh 0 s) y (o.follows none) (opened_none o.fresh 0 s n) says);
+                  said_here e (binding x xs s) p (opened o.fresh 0 s) y (o.follows none) (opened_none o.fresh 0 s n) says);
             });
       }
 
@@ -283,6 +308,6 @@ pub ground_reached : (m : Meaning) (nodes : List Node) (first : Node) (ι : Inst
 ground_reached m nodes first ι g n κ start t = ground_instance ι.value g.ground t
 ground_reached m nodes first ι g n κ (onward {κ = before} s to both earlier i after) t = subst (AllLabels IsGroundLabel) (sym (after t)) (ground_reached m nodes first ι g _ before earlier (instance_of s.instance t))
 
-abbrev pub ground_proof : (m : Meaning) (Holds : Constraint → Type 0) (p : PlainNode m Holds) → IsGroundInstance p.at → GroundProof m Holds
-ground_proof m Holds p g =
-    record { proof = p; ground = λ n κ r. (let z = ground_reached m p.nodes p.node p.at g n κ r in (z n.sequent.environment, (z n.sequent.predicate, tt))) }
+abbrev pub ground_proof : (m : Meaning) (Holds : Constraint → Type 0) (p : PlainNode m Holds) → IsGroundInstance p.at → p.node.sequent.open_goals ≡ [] → GroundProof m Holds
+ground_proof m Holds p g none =
+    record { proof = p; whole = none; ground = λ n κ r. (let z = ground_reached m p.nodes p.node p.at g n κ r in (z n.sequent.environment, (z n.sequent.predicate, tt))) }

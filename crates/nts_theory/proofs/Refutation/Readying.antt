@@ -6,6 +6,7 @@ use Rattle.nts_model.specs.declared.labels.Sort.TheVariants as sort
 use Rattle.nts_model.specs.declared.labels.VariableKind.{VariableKind}
 use Rattle.nts_model.specs.declared.labels.Leaf.TheVariants as leaf
 use Rattle.nts_model.specs.declared.labels.ListHead.TheVariants as list
+use Rattle.nts_model.specs.declared.labels.ClauseHead.TheVariants as clause
 use Rattle.nts_model.specs.declared.labels.Label.TheVariants as label
 use Rattle.nts_model.specs.Terms.Trees.{Tree, empty, more, node, IsClosed, IsFormed}
 use Rattle.nts_model.specs.Tables.Contents.{Content, Slot, map_slot, universe_of, kind_at, in_universe}
@@ -22,14 +23,14 @@ use Rattle.nts_model.specs.Derivations.Handlers.{Handler, Candidate, IsAsked, Is
 use Rattle.nts_model.specs.Answers.Applying.{IsProperContent}
 use Rattle.nts_model.specs.Refutation.Containing.{Truth, IsSolution, IsAliasFree, IsPlainWorld}
 use Rattle.nts_model.specs.Refutation.Coherence.{RulesAreOffered}
-use Rattle.nts_theory.specs.Telling.{IsReady, IsTraitStatement, IsTraitGoal}
+use Rattle.nts_theory.specs.Telling.{IsPlainClauseGoal, IsTraitStatement, IsTraitGoal}
 use Rattle.nts_theory.specs.Refutation.Refutation.{UsesNamed, binding, IsTheory, IsPlainFor, HasNoAlias, IsGranted}
 use Rattle.nts_model.proofs.Tables.Instances.{Agrees-refl}
 use Rattle.nts_model.proofs.Tables.Fitting.{IsClosed-inst, IsFormed-inst}
 use Rattle.nts_model.proofs.Tables.Solving.{NamesAll-more, Solves-in_universe}
 use Rattle.nts_theory.proofs.Refutation.Answered.{solution_later}
 use Rattle.nts_theory.proofs.Refutation.OpenedGoals.{inst_opened}
-use Rattle.nts_theory.proofs.Refutation.OfferMeeting.{handlers_inst, trait_inst}
+use Rattle.nts_theory.proofs.Refutation.OfferMeeting.{handlers_inst}
 use Rattle.nts_theory.proofs.Refutation.Offering.{world_instance, world_instance_in, meets_used}
 use Rattle.nts_theory.proofs.Refutation.Opening.{CanBegin, can_begin}
 use Rattle.nts_theory.proofs.Derivations.ClosedStatements.{one_statement as same_statement}
@@ -99,21 +100,21 @@ module _ (h : Handler) (truth : Truth) (Proves : Tree → Tree → Type 0) (theo
 
   module _ (c : Content) (e g : Tree) (w : World) (s : IsSolution truth 0 c w) (current : AreCurrent c) (known : Knows c (pair e g)) (free : IsPlainWorld c w) (granted : IsGranted Proves (inst w e) (inst w g)) where
     -- a goal that binds nothing
-    begins_plain : IsAsked e g → IsTraitGoal e g → IsProperContent c → (x : Candidate) × Among (h.offers coherence e g) x × CanBegin truth (IsGranted Proves) c w x
+    begins_plain : IsAsked e g → IsPlainClauseGoal e g → IsProperContent c → (x : Candidate) × Among (h.offers coherence e g) x × CanBegin truth (IsGranted Proves) c w x
     begins_plain asked trait proper =
         let is : g ≡ unbound asked.statement = asked.binds_nothing in
         let there : Knows c (unbound asked.statement) = subst (Knows c) is (known.1.0) in
         let ks : Knows c asked.statement = there.1.1.0 in
         let closed : IsClosed (inst w asked.statement) = IsClosed-inst c w 0 asked.statement s.solves.fitting ks (let k = asked.closed in k.1.0) in
-        let says : IsTraitStatement asked.statement = subst (λ z. IsTraitStatement (statement_of z)) is trait.statement in
+        let says : IsHandlers asked.statement = subst (λ z. IsHandlers (statement_of z)) is trait.statement in
         let none : HasNoAlias asked.statement = (let f : IsAliasFree (unbound asked.statement) = subst IsAliasFree is (let f = unlabelled_free (pair e g) trait.no_alias in f.1.0) in free_none asked.statement f.1.1.0) in
         let here : IsGranted Proves (inst w e) (unbound (inst w asked.statement)) = subst (λ z. IsGranted Proves (inst w e) (inst w z)) is granted in
-        let u = theory.plain c.universe (inst w e) (inst w asked.statement) (here.proved (inl (none_inst c w free asked.statement ks none))) (trait_inst w asked.statement says) closed
+        let u = theory.plain c.universe (inst w e) (inst w asked.statement) (here.proved (inl (none_inst c w free asked.statement ks none))) (handlers_inst w asked.statement says) closed
         (names_image truth 0 c w s current e known.0, (names_image truth 0 c w s current asked.statement ks, tt)) in
         begins_by c w e g asked known proper s free u
 
     -- .. and one that binds variables
-    begins_binding : IsBinding g → (let d = in_universe c (c.universe + 1) in let o = unbound (opened (placeholder_in (c.universe + 1)) 0 (statement_of g)) in (asked : IsAsked e o) → IsTraitGoal e o → Knows d (pair e o) → IsProperContent d
+    begins_binding : IsBinding g → (let d = in_universe c (c.universe + 1) in let o = unbound (opened (placeholder_in (c.universe + 1)) 0 (statement_of g)) in (asked : IsAsked e o) → IsPlainClauseGoal e o → Knows d (pair e o) → IsProperContent d
         → (x : Candidate) × Among (h.offers coherence e o) x × CanBegin truth (IsGranted Proves) d w x)
     begins_binding b asked trait there proper =
         let d = in_universe c (c.universe + 1) in
@@ -128,8 +129,8 @@ module _ (h : Handler) (truth : Truth) (Proves : Tree → Tree → Type 0) (theo
         let fs : IsFormed asked.statement = (let f : IsFormed (unbound asked.statement) = subst IsFormed asked.binds_nothing (let f = asked.formed in f.1.0) in f.1.1.0) in
         let formed : IsFormed (opened p 0 (inst w t)) = subst IsFormed image (IsFormed-inst d w asked.statement later.solves.fitting ks fs) in
         let same : unbound (opened p 0 (statement_of g)) ≡ unbound asked.statement = asked.binds_nothing in
-        let trait_says : IsTraitStatement asked.statement = subst (λ z. IsTraitStatement (statement_of z)) same trait.statement in
-        let is_trait : IsTraitStatement (opened p 0 (inst w t)) = subst IsTraitStatement image (trait_inst w asked.statement trait_says) in
+        let trait_says : IsHandlers asked.statement = subst (λ z. IsHandlers (statement_of z)) same trait.statement in
+        let is_trait : IsHandlers (opened p 0 (inst w t)) = subst IsHandlers image (handlers_inst w asked.statement trait_says) in
         let whole = unlabelled_free (pair e (unbound (opened p 0 (statement_of g)))) trait.no_alias in
         let none : HasNoAlias t = none_opened p 0 t (subst (λ z. HasNoAlias (opened p 0 (statement_of z))) b.is (free_none (opened p 0 (statement_of g)) whole.1.0.1.1.0)) in
         let here : IsGranted Proves (inst w e) (binding (inst w b.first) (inst w b.rest) (inst w t)) = subst (λ z. IsGranted Proves (inst w e) (inst w z)) b.is granted in
@@ -137,14 +138,14 @@ module _ (h : Handler) (truth : Truth) (Proves : Tree → Tree → Type 0) (theo
         (names_image truth 0 c w s current e known.0, (names_image truth 0 c w s current t kt, tt)) in
         begins_by d w e (unbound (opened p 0 (statement_of g))) asked there proper later (record { each = λ n k e. free.each n k e }) (subst (UsesNamed h truth Proves (c.universe + 1) (inst w e)) (sym image) u)
 
-    pub some_begins : IsReady c e g → SomeBegins h truth Proves c e g w
-    some_begins ready = by_bool (binds g) refl
+    pub some_begins : IsAsked e (opened_in c g) → IsPlainClauseGoal e (opened_in c g) → Knows (entered_table c g) (pair e (opened_in c g)) → IsProperContent (entered_table c g) → SomeBegins h truth Proves c e g w
+    some_begins asked says knows proper = by_bool (binds g) refl
       where
         by_bool : (b : Bool) → binds g ≡ b → SomeBegins h truth Proves c e g w
         by_bool false q =
             let there : entered_table c g ≡ c = rw q refl in
             let o : opened_in c g ≡ g = rw q refl in
-            let x = begins_plain (subst (IsAsked e) o ready.asked) (subst (IsTraitGoal e) o ready.trait_goal) (subst IsProperContent there ready.proper) in
+            let x = begins_plain (subst (IsAsked e) o asked) (subst (IsPlainClauseGoal e) o says) (subst IsProperContent there proper) in
             record {
               candidate = x.0;
               offered = subst (λ z. Among (h.offers coherence e z) x.0) (sym o) x.1;
@@ -154,11 +155,20 @@ module _ (h : Handler) (truth : Truth) (Proves : Tree → Tree → Type 0) (theo
         by_bool true q =
             let there : entered_table c g ≡ in_universe c (c.universe + 1) = rw q refl in
             let o : opened_in c g ≡ unbound (opened (placeholder_in (c.universe + 1)) 0 (statement_of g)) = rw q refl in
-            let known_there = subst (λ z. Knows z (pair e (unbound (opened (placeholder_in (c.universe + 1)) 0 (statement_of g))))) there (subst (λ z. Knows (entered_table c g) (pair e z)) o ready.knows) in
-            let x = begins_binding (binding_shape g q) (subst (IsAsked e) o ready.asked) (subst (IsTraitGoal e) o ready.trait_goal) known_there (subst IsProperContent there ready.proper) in
+            let known_there = subst (λ z. Knows z (pair e (unbound (opened (placeholder_in (c.universe + 1)) 0 (statement_of g))))) there (subst (λ z. Knows (entered_table c g) (pair e z)) o knows) in
+            let x = begins_binding (binding_shape g q) (subst (IsAsked e) o asked) (subst (IsPlainClauseGoal e) o says) known_there (subst IsProperContent there proper) in
             record {
               candidate = x.0;
               offered = subst (λ z. Among (h.offers coherence e z) x.0) (sym o) x.1;
               solution = subst (λ z. IsSolution truth 0 z w) (sym there) (later_solution c w s);
               begins = subst (λ z. CanBegin truth (IsGranted Proves) z w x.0) (sym there) x.2;
             }
+
+-- a trait goal is one that a clause may serve
+clause_of_trait : (s : Tree) → IsTraitStatement s → IsHandlers s
+clause_of_trait (node (label.Clause (clause.Trait i)) ts) h = tt
+clause_of_trait (node (label.Clause (clause.HostEffect i)) ts) h = tt
+clause_of_trait s h = absurd h
+
+pub says_trait : (e g : Tree) → IsTraitGoal e g → IsPlainClauseGoal e g
+says_trait e g t = record { statement = clause_of_trait (statement_of g) t.statement; no_alias = t.no_alias }

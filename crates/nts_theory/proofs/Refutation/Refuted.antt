@@ -34,7 +34,7 @@ module _ (Q : Queries) (begins : BeginsEach Q) (h : Handler) (V : ℕ → List V
 
   proved : (e g : Tree) → HasMetProof (meaning h V) truth e g → Proves e g
   proved e g x =
-      let w = ground_proof (meaning h V) Holds x.proof x.ground in
+      let w = ground_proof (meaning h V) Holds x.proof x.ground x.no_open_goals in
       let q = carried_itself h truth (InPlainProof (meaning h V) Holds) lawful.rules lawful.judges fair (plain_used h V truth) _ _ (root_reached h V truth w) in
       subst (λ z. Proves z g) x.environment (subst (Proves _) x.predicate q)
 

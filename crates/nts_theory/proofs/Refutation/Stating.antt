@@ -8,24 +8,23 @@ use Rattle.nts_model.specs.declared.labels.BoundVarIndexKind.TheVariants as inde
 use Rattle.nts_model.specs.declared.labels.Label.{Label}
 use Rattle.nts_model.specs.declared.labels.Label.TheVariants as label
 use Rattle.nts_model.specs.Terms.Trees.{Tree, empty, more, node, any_label, is_canonical, IsClosed, IsFormed, kind_of, of_sort, is_alias}
-use Rattle.nts_model.specs.Terms.Scoping.{IsWellBound}
-use Rattle.nts_model.specs.Tables.Contents.{Content, in_universe}
+use Rattle.nts_model.specs.Tables.Contents.{Content}
 use Rattle.nts_model.specs.Tables.Resolving.{Knows}
 use Rattle.nts_model.specs.Tables.Levels.{AreCurrent}
 use Rattle.nts_model.specs.Tables.Worlds.{World, inst}
 use Rattle.nts_model.specs.Terms.Substitutions.{leaf_tree, Occurs, Instance, instance_of, filled}
-use Rattle.nts_model.specs.Derivations.Related.{Constraint, pair, unbound, value}
+use Rattle.nts_model.specs.Derivations.Related.{Constraint, pair, unbound}
 use Rattle.nts_model.specs.Lists.{Among}
 use Rattle.nts_model.specs.Derivations.Sequents.{Premise, misc}
 use Rattle.nts_model.specs.Derivations.Rules.{Equation, related, statement_of, opened, KeepsAliases}
-use Rattle.nts_model.specs.Derivations.Handlers.{Handler, Candidate, IsLawfulHandler, IsFixed, IsOver, NamesFresh, constraint_by, premise_by}
+use Rattle.nts_model.specs.Derivations.Handlers.{Handler, Candidate, IsLawfulHandler, IsFixed, IsOver, NamesFresh, constraint_by}
 use Rattle.nts_model.specs.Refutation.Opening.{binds, placeholder_in, entered_table, opened_in}
 use Rattle.nts_model.specs.Refutation.Choosing.{Freshens}
 use Rattle.nts_model.specs.Refutation.Containing.{Truth, IsSolution, IsTrueBy, IsPlainWorld}
 use Rattle.nts_model.specs.Refutation.Coherence.{RulesAreOffered, IsInstanceIn}
 use Rattle.nts_model.specs.Answers.Responses.{read_in}
 use Rattle.nts_model.proofs.Tables.Fitting.{IsClosed-inst}
-use Rattle.nts_model.proofs.Terms.Unpositioned.{known_no_positions, known_well_bound, filled-none, or_false}
+use Rattle.nts_model.proofs.Terms.Unpositioned.{known_no_positions, filled-none}
 use Rattle.nts_model.proofs.Canonical.Positioned.{inst-filled}
 use Rattle.nts_theory.specs.Affirming.{SaysOfTwo, is_its_type, is_well_formed, plain_way, goals_there, IsOwnWay, by_type, by_goals, HasOwnWay}
 use Rattle.nts_theory.specs.Refutation.Refutation.{binding, IsTheory, HasNoAlias, IsGranted}
@@ -36,7 +35,7 @@ use Rattle.nts_theory.proofs.Refutation.Freshening.{knows_leaf}
 use Rattle.nts_theory.proofs.Refutation.OfferMeeting.{replace_inst}
 use Rattle.nts_theory.proofs.Refutation.Offering.{world_instance, world_instance_in}
 use Rattle.nts_theory.proofs.Refutation.Choosing.{filled_known}
-use Rattle.nts_theory.proofs.Refutation.Trying.{MeetsCandidate, KnowsCandidate, reaches_self}
+use Rattle.nts_theory.proofs.Refutation.Trying.{reaches_self}
 use Rattle.nts_theory.proofs.Refutation.Opening.{IsBegunAt, CanBegin, begins_whole}
 use Rattle.nts_theory.proofs.Refutation.Queried.{entered_solution}
 use Rattle.nts_theory.proofs.Refutation.Readying.{IsBinding, binding_shape, names_image, themselves}

@@ -21,9 +21,9 @@ use Rattle.nts_model.specs.Terms.Placeholders.{CanName, leaf_level_of, leaf_leve
 use Rattle.nts_model.specs.Tables.Levels.{NamesAll}
 use Rattle.nts_model.specs.Tables.Passing.{AllLabels}
 use Rattle.nts_model.specs.Terms.Substitutions.{leaf_tree, put, Occurs, StaysItself, leaf_sort, Renaming, rename}
-use Rattle.nts_model.specs.Derivations.Related.{Constraint, pair, unbound}
+use Rattle.nts_model.specs.Derivations.Related.{Constraint, pair, unbound, alias, IsAlias}
 use Rattle.nts_model.specs.Lists.{Among}
-use Rattle.nts_model.specs.Derivations.Rules.{coherence, statement_of, Equation, related, alike, opened, opened_at, AreFresh}
+use Rattle.nts_model.specs.Derivations.Rules.{coherence, statement_of, Equation, related, alike, opened, opened_at, AreFresh, IsHandlers, normalization_goal}
 use Rattle.nts_model.specs.Canonical.Numbered.{seen, AreDistinct}
 use Rattle.nts_model.specs.Refutation.Opening.{placeholder_in}
 use Rattle.nts_model.specs.Refutation.Choosing.{left_of, right_of}
@@ -35,7 +35,6 @@ use Rattle.nts_theory.proofs.Refutation.Affirming.{denied_replaced}
 use Rattle.nts_theory.proofs.Refutation.Outliving.{true_again}
 use Rattle.nts_theory.proofs.Refutation.Saying.{was_formed, said_renamed, both_formed, said_before, said_opened, both_moved}
 use Rattle.nts_theory.specs.RelatingCandidates.{may_be_argument, AreTypesApart}
-use Rattle.nts_theory.specs.Telling.{IsTraitStatement}
 use Rattle.nts_theory.specs.Refutation.Refutation.{HasNoAlias, HasPlainSides, IsGranted, IsCarrying, IsFair, UsesClause, UsesNamed, binding, GrantsFormed, AreUsed, IsTheory}
 use Rattle.nts_model.proofs.Terms.Substituting.{replace-equal, replace-leaf}
 use Rattle.nts_model.proofs.Terms.Composing.{IsFormed-instance, IsClosed-instance}
@@ -50,7 +49,11 @@ use Rattle.nts_theory.proofs.Refutation.OpenedGoals.{rename_opened, kept_tree}
 use Rattle.nts_theory.proofs.Refutation.Carrying.{names_replaced}
 use Rattle.nts_theory.proofs.Refutation.Carriers.{forward_others, forward_property, none_renamed, none_carrying, then_by, then_carrying, rename_then, back_to, back_carrying, region_carried, instance_by, AreMovable, extension_carrying, shifted, shifted_carrying, shifted_low}
 use Rattle.nts_theory.proofs.Refutation.PlainTerms.{no_alias_renamed, no_alias_before, free_renamed, statement_before, kept_before}
-use Rattle.nts_theory.proofs.Refutation.UsedRules.{trait_replaced, trait_before}
+use Rattle.nts_theory.proofs.Refutation.UsedRules.{handlers_replaced, handlers_before}
+use Rattle.nts_model.specs.declared.labels.AliasHead.{AliasHead}
+use Rattle.nts_model.specs.declared.labels.AliasHead.TheVariants as alias_of
+use Rattle.nts_model.specs.declared.labels.AliasRelationDirection.TheVariants as direction
+use Rattle.nts_theory.specs.Aliasing.{alias_relation}
 
 -- elements of mapped lists
 mapped : {X Y : Type 0} (f : X → Y) (xs : List X) (y : Y) → Among (map f xs) y → (x : X) × Among xs x × (y ≡ f x)
@@ -721,30 +724,30 @@ module _ (h : Handler) (truth : Truth) (Proves : Tree → Tree → Type 0) (rule
   granted_later ρ k = granted_renamed Proves Later ρ k (carried_later ρ k)
 
   -- .. of a goal that binds nothing
-  plain_before : (e s : Tree) → Later e (unbound s) → IsTraitStatement s → IsClosed s → UsesClause h truth Later e s
+  plain_before : (e s : Tree) → Later e (unbound s) → IsHandlers s → IsClosed s → UsesClause h truth Later e s
   plain_before e s c i z =
       let b = back_to c.by in
       let k = back_carrying c.by c.carrying in
       let t = rename b s in
       let is : c.predicate ≡ unbound t = before e (unbound s) c in
-      let u = used.plain c.environment t (subst (Proves c.environment) is c.proved) (trait_replaced (λ l. leaf_tree (b.to l)) s i) (IsClosed-instance (instance_by b k) s z) in
+      let u = used.plain c.environment t (subst (Proves c.environment) is c.proved) (handlers_replaced (λ l. leaf_tree (b.to l)) s i) (IsClosed-instance (instance_by b k) s z) in
       let v = uses_renamed h truth Proves Later rules fair c.by c.carrying (granted_later c.by c.carrying) c.environment t u in
       let f = formed_later e (unbound s) c in
       subst (λ y. UsesClause h truth Later y s) c.is_environment (subst (λ y. UsesClause h truth Later (rename c.by c.environment) y) (forth_again c.by s (let y = f.1.0 in y.1.1.0)) v)
 
-  plain_named : (u : ℕ) (e s : Tree) → Later e (unbound s) → IsTraitStatement s → IsClosed s → NamesAll leaf_level u (pair e s) → UsesNamed h truth Later u e s
+  plain_named : (u : ℕ) (e s : Tree) → Later e (unbound s) → IsHandlers s → IsClosed s → NamesAll leaf_level u (pair e s) → UsesNamed h truth Later u e s
   plain_named u e s c i z n =
       let f = formed_later e (unbound s) c in
       uses_named h truth Later rules fair carried_kept u e s (f.0, ((let y = f.1.0 in y.1.1.0), tt)) n (plain_before e s c i z)
 
   -- .. and of one that binds variables
-  opened_before : (e x xs s : Tree) (p : Sort → ℕ → Leaf) → Later e (binding x xs s) → IsTraitStatement (opened p 0 s) → AreAbsent (pair e s) p → UsesClause h truth Later e (opened p 0 s)
+  opened_before : (e x xs s : Tree) (p : Sort → ℕ → Leaf) → Later e (binding x xs s) → IsHandlers (opened p 0 s) → AreAbsent (pair e s) p → UsesClause h truth Later e (opened p 0 s)
   opened_before e x xs s p c i a =
       let b = back_to c.by in
       let k = back_carrying c.by c.carrying in
       let t = rename b s in
       let is : c.predicate ≡ binding (rename b x) (rename b xs) t = before e (binding x xs s) c in
-      let hs = trait_replaced (λ l. leaf_tree (b.to l)) s (trait_before p 0 s i) in
+      let hs = handlers_replaced (λ l. leaf_tree (b.to l)) s (handlers_before p 0 s i) in
       let u = used.opened c.environment (rename b x) (rename b xs) t (subst (Proves c.environment) is c.proved) hs in
       let v = uses_renamed h truth Proves Later rules fair c.by c.carrying (granted_later c.by c.carrying) c.environment (opened u.fresh 0 t) u.uses in
       let f = formed_later e (binding x xs s) c in
@@ -758,7 +761,7 @@ module _ (h : Handler) (truth : Truth) (Proves : Tree → Tree → Type 0) (rule
       subst (λ y. AreAbsent (pair y s) fresh) c.is_environment (subst (λ y. AreAbsent (pair (rename c.by c.environment) y) fresh) back (absent_renamed c.by c.carrying (pair c.environment t) u.fresh old)) in
       uses_swapped e s (f.0, (fs, tt)) fresh p new a h truth Later rules fair carried_kept w
 
-  opened_named : (u : ℕ) (e x xs s : Tree) → Later e (binding x xs s) → IsTraitStatement (opened (placeholder_in (u + 1)) 0 s) → IsFormed (opened (placeholder_in (u + 1)) 0 s) → NamesAll leaf_level u (pair e s)
+  opened_named : (u : ℕ) (e x xs s : Tree) → Later e (binding x xs s) → IsHandlers (opened (placeholder_in (u + 1)) 0 s) → IsFormed (opened (placeholder_in (u + 1)) 0 s) → NamesAll leaf_level u (pair e s)
       → UsesNamed h truth Later (u + 1) e (opened (placeholder_in (u + 1)) 0 s)
   opened_named u e x xs s c i fo n =
       let f = formed_later e (binding x xs s) c in
@@ -884,6 +887,41 @@ module _ (h : Handler) (truth : Truth) (Proves : Tree → Tree → Type 0) (rule
       let l = granted_later m.by m.carries c.environment (rename β p) q in
       subst (λ y. IsGranted Later y p) m.environment (subst (IsGranted Later (rename m.by c.environment)) (forth_again m.by p over.formed) l)
 
+  -- what an alias is equal to before it is later
+  alias_renamed : (ρ : Renaming) (k : IsCarrying ρ) (a : Tree) (x : IsAlias a) → rename ρ a ≡ alias x.head (rename ρ x.parts)
+  alias_renamed ρ k a x = ap (rename ρ) x.is ∙ renamed_alias x.head
+    where
+      renamed_alias : (h : AliasHead) → rename ρ (alias h x.parts) ≡ alias h (rename ρ x.parts)
+      renamed_alias (alias_of.Ty i) = refl
+      renamed_alias (alias_of.Const i) = refl
+
+  parts_formed : (h : AliasHead) (ts : Tree) → IsFormed (alias h ts) → IsFormed ts
+  parts_formed (alias_of.Ty i) ts f = f.1.0.1
+  parts_formed (alias_of.Const i) ts f = f.1.0.1
+
+  equated_carried : (e g a t : Tree) (x : IsAlias a) (c : Later e g) → IsFormed a → IsFormed t → IsClosed t → HasNoAlias t
+      → (let b = back_to c.by in (c.predicate ≡ alias_relation direction.Equate (rename b a) (rename b t)) ⊎ (c.predicate ≡ alias_relation direction.Equate (rename b t) (rename b a))) → Later e (normalization_goal x.head x.parts t)
+  equated_carried e g a t x c fa ft closed none says =
+      let b = back_to c.by in
+      let k = back_carrying c.by c.carrying in
+      let y : IsAlias (rename b a) = record { head = x.head; parts = rename b x.parts; is = alias_renamed b k a x; closed = IsClosed-instance (instance_by b k) a x.closed } in
+      let p = used.equates c.environment (rename b a) (rename b t) y (elim says [ inl s ↦ inl (subst (Proves c.environment) s c.proved) | inr s ↦ inr (subst (Proves c.environment) s c.proved) ]) (IsClosed-instance (instance_by b k) t closed) (no_alias_renamed b t none) in
+      let l = carried_later c.by c.carrying c.environment (normalization_goal x.head (rename b x.parts) (rename b t)) p in
+      let parts = forth_again c.by x.parts (parts_formed x.head x.parts (subst IsFormed x.is fa)) in
+      let term = forth_again c.by t ft in
+      let same : rename c.by (normalization_goal x.head (rename b x.parts) (rename b t)) ≡ normalization_goal x.head x.parts t = ap (λ z. normalization_goal x.head z (rename c.by (rename b t))) parts ∙ ap (normalization_goal x.head x.parts) term in
+      subst (λ z. Later z (normalization_goal x.head x.parts t)) c.is_environment (subst (Later (rename c.by c.environment)) same l)
+
+  equates_later : (e a t : Tree) (x : IsAlias a) → Later e (alias_relation direction.Equate a t) ⊎ Later e (alias_relation direction.Equate t a) → IsClosed t → HasNoAlias t → Later e (normalization_goal x.head x.parts t)
+  equates_later e a t x (inl c) closed none =
+      let f = formed_later e (alias_relation direction.Equate a t) c in
+      let w = f.1.0 in
+      equated_carried e (alias_relation direction.Equate a t) a t x c w.1.1.0.1.0 w.1.1.0.1.1.0 closed none (inl (before e (alias_relation direction.Equate a t) c))
+  equates_later e a t x (inr c) closed none =
+      let f = formed_later e (alias_relation direction.Equate t a) c in
+      let w = f.1.0 in
+      equated_carried e (alias_relation direction.Equate t a) a t x c w.1.1.0.1.1.0 w.1.1.0.1.0 closed none (inr (before e (alias_relation direction.Equate t a) c))
+
   -- what is carried is a theory
   pub carried_theory : IsTheory h truth Later
   carried_theory =
@@ -895,6 +933,7 @@ module _ (h : Handler) (truth : Truth) (Proves : Tree → Tree → Type 0) (rule
         says = says_later;
         denies = denies_later;
         formed = formed_carried;
+        equates = equates_later;
         formed_opened = opened_carried;
         says_opened = says_opened_later;
       }

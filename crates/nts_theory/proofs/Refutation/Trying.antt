@@ -2,31 +2,25 @@
 use Rattle.std.proofs.Common.{◌≡◌, inl, inr, ℕ, ◌≤◌, List, [], ◌∷◌, map, length, refl, sym, subst, ◌∙◌, arith}
 use Rattle.nts_model.specs.declared.labels.Relation.{Relation}
 use Rattle.nts_model.specs.declared.labels.Relation.TheVariants as relation
-use Rattle.nts_model.specs.declared.labels.Leaf.{Leaf}
 use Rattle.nts_model.specs.Terms.Trees.{Tree}
-use Rattle.nts_model.specs.Tables.Contents.{Content, Recorded}
+use Rattle.nts_model.specs.Tables.Contents.{Content}
 use Rattle.nts_model.specs.Tables.Resolving.{Knows}
-use Rattle.nts_model.specs.Tables.Worlds.{World, inst, IsTrueOf, IsMet, Solves, Agrees}
+use Rattle.nts_model.specs.Tables.Worlds.{World, inst, IsTrueOf, Solves, Agrees}
 use Rattle.nts_model.specs.Tables.Holding.{Continues}
 use Rattle.nts_model.specs.Tables.Equations.{Extension}
-use Rattle.nts_model.specs.Terms.Substitutions.{leaf_tree, filled}
+use Rattle.nts_model.specs.Terms.Substitutions.{filled}
 use Rattle.nts_model.specs.Derivations.Related.{Constraint}
 use Rattle.nts_model.specs.Derivations.Rules.{Equation}
 use Rattle.nts_model.specs.Lists.{Among}
 use Rattle.nts_model.specs.Derivations.Sequents.{Premise}
-use Rattle.nts_model.specs.Derivations.Proving.{recorded_as}
-use Rattle.nts_model.specs.Derivations.Handlers.{Candidate, premise_by, constraint_by}
-use Rattle.nts_model.specs.Canonical.Inputs.{PositionKind}
-use Rattle.nts_model.specs.Answers.Responses.{Findings, AreFindings, own_leaves, response_of, IsQueryTable}
-use Rattle.nts_model.specs.Answers.Applying.{IsRecordedIn}
+use Rattle.nts_model.specs.Derivations.Handlers.{Candidate, premise_by}
 use Rattle.nts_model.specs.Terms.Placeholders.{leaf_level}
-use Rattle.nts_model.specs.Refutation.Choosing.{left_of, right_of, EquatesAll, FailsToEquate, RecordsAll}
-use Rattle.nts_model.specs.Refutation.Containing.{IsPlainWorld, Truth, IsTrueBy, IsSolution, ContainsSolution, IsProvedIn, SolvesGoals, KeepsSolutions, RefusesGoals}
+use Rattle.nts_model.specs.Refutation.Choosing.{left_of, right_of, EquatesAll, FailsToEquate}
+use Rattle.nts_model.specs.Refutation.Containing.{IsPlainWorld, Truth, IsTrueBy, IsSolution, IsProvedIn}
 use Rattle.nts_model.proofs.Tables.Slots.{Knows-kept, KeepsKinds, KeepsKinds-refl, KeepsKinds-trans}
 use Rattle.nts_model.proofs.Tables.Instances.{inst-agrees, Agrees-refl, Agrees-trans}
-use Rattle.nts_theory.proofs.Refutation.Answered.{solution_later, still_proved}
+use Rattle.nts_theory.proofs.Refutation.Answered.{solution_later}
 use Rattle.nts_theory.proofs.Refutation.PlainTerms.{plain_later}
-use Rattle.nts_theory.proofs.Refutation.Responding.{ArePlaced, answer_contains}
 
 -- the world meets the equations, the constraints and the goals of a candidate, where the trees xs stand for its fresh variables
 pub record Equalizes (w : World) (xs : List Tree) (qs : List Equation) : Type 0 where

@@ -1,6 +1,6 @@
 -- What follows by a rule in coherence, by values without aliases, follows by a use of a clause.
 use Rattle.std.proofs.Common.{◌≡◌, inl, inr, ℕ, ◌+◌, Bool, true, false, Some, List, refl, sym, ap, subst, ◌∙◌}
-use Rattle.std.specs.Prelude.{◌⊎◌, ◌==◌, if◌then◌else◌}
+use Rattle.std.specs.Prelude.{◌==◌, if◌then◌else◌}
 use Rattle.nts_model.specs.declared.labels.Sort.{Sort}
 use Rattle.nts_model.specs.declared.labels.Variance.TheVariants as variance
 use Rattle.nts_model.specs.declared.labels.Relation.TheVariants as relation
@@ -24,7 +24,6 @@ use Rattle.nts_model.specs.Refutation.Choosing.{left_of, right_of}
 use Rattle.nts_model.specs.Derivations.Handlers.{Handler}
 use Rattle.nts_model.specs.Refutation.Containing.{IsAliasFree, Truth, IsTrueBy, IsGroundLabel, AreGround}
 use Rattle.nts_theory.specs.Refutation.Refutation.{HasNoAlias, StandsAsIs, HasPlainSides, IsGranted, UsesClause, UsesOpened, binding}
-use Rattle.nts_theory.specs.Telling.{IsTraitStatement}
 use Rattle.nts_theory.specs.Affirming.{has_type, is_well_formed, SaysOfTwo, outlives_it, is_its_type}
 use Rattle.nts_theory.proofs.Derivations.ClosedStatements.{opened_closed}
 use Rattle.nts_theory.proofs.Refutation.Outliving.{built_in_holds}
@@ -73,22 +72,6 @@ handlers_opened f c (more a b) h = absurd h
 handlers_opened f c (node l t) h =
     let k = head_of l t h in
     subst IsHandlers (sym (opened_head f c l (opened f (c + binders l) t) k)) (by_head l (opened f (c + binders l) t) k)
-
--- so is what is said of a trait
-pub trait_replaced : (f : Leaf → Tree) (s : Tree) → IsTraitStatement s → IsTraitStatement (replace f s)
-trait_replaced f (node (label.Clause (clause.Trait i)) ts) h = tt
-trait_replaced f (node (label.Clause (clause.HostEffect i)) ts) h = tt
-trait_replaced f s h = absurd h
-
-trait_if : (b : Bool) (l : Leaf) (s : Sort) (d n : ℕ) (t : Tree) → IsTraitStatement (if b then leaf_tree l else node (label.Bound s (index.Bound d) n) t) → ⊥
-trait_if true l s d n t h = h
-trait_if false l s d n t h = h
-
-pub trait_before : (f : Sort → ℕ → Leaf) (c : ℕ) (s : Tree) → IsTraitStatement (opened f c s) → IsTraitStatement s
-trait_before f c (node (label.Clause (clause.Trait i)) ts) h = tt
-trait_before f c (node (label.Clause (clause.HostEffect i)) ts) h = tt
-trait_before f c (node (label.Bound s (index.Bound d) n) ts) h = absurd (trait_if (d == c) (f s n) s d n (opened f (c + 0) ts) h)
-trait_before f c s h = absurd h
 
 not_bound : (b : Bool) (f : Sort → ℕ → Leaf) (s : Sort) (d n : ℕ) (t : Tree) → IsHandlers (if b then leaf_tree (f s n) else node (label.Bound s (index.Bound d) n) t) → ⊥
 not_bound true f s d n t h = h

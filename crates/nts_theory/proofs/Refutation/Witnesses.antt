@@ -28,10 +28,11 @@ use Rattle.nts_theory.proofs.Refutation.Trying.{same_positions}
 use Rattle.nts_theory.proofs.Refutation.Agreeing.{AreNumberedKinds, identity_contains, nothing_contains, kinds_agree, terms_long}
 use Rattle.nts_theory.proofs.Refutation.Opening.{CanBegin, added}
 use Rattle.nts_theory.proofs.Refutation.Recording.{recorded_true}
-use Rattle.nts_theory.proofs.Refutation.Readying.{some_begins}
+use Rattle.nts_theory.proofs.Refutation.Readying.{some_begins, says_trait}
 use Rattle.nts_theory.proofs.Refutation.Affirming.{denied_inst, denied_before, denied_plain}
 use Rattle.nts_theory.proofs.Refutation.Stating.{own_begins}
-use Rattle.nts_theory.specs.Telling.{Verdict, Queries, AreTermsOfKinds, StandsForAll, SaysOf, IsFound, without_constraints, IsPlainResponse, Tells, tells_nothing, says_nothing, tells_one, tells_outlives, tells_affirmed, tells_own, tells_subtype, tells_alias, tells_normal, Refutes, all_fail, is_denied, own_fails, is_no_subtype, subtype_refused, aliases_fail, normal_refused, Outcomes, no_outcome, then_fails, then_replies, Replies, replies, Fails, is_unmet, has_types_apart, is_unrelated, is_refused, is_leaky, Reaches, asks_nothing, then_asks, RefusesOne, refuses_one, cuts_one, Asked, asked_by, Refused, by_query, by_response}
+use Rattle.nts_theory.proofs.Refutation.Equating.{equality_begins, equality_no_lesser}
+use Rattle.nts_theory.specs.Telling.{Verdict, Queries, AreTermsOfKinds, StandsForAll, SaysOf, IsFound, without_constraints, IsPlainResponse, Tells, tells_nothing, says_nothing, tells_one, tells_outlives, tells_affirmed, tells_own, tells_subtype, tells_alias, tells_normal, Refutes, all_fail, is_denied, own_fails, is_no_subtype, subtype_refused, aliases_fail, normal_refused, by_lesser, by_one, Outcomes, no_outcome, then_fails, then_replies, Replies, replies, Fails, is_unmet, has_types_apart, is_unrelated, is_refused, is_leaky, Reaches, asks_nothing, then_asks, RefusesOne, refuses_one, cuts_one, Asked, asked_by, Refused, by_query, by_response}
 use Rattle.nts_theory.proofs.Refutation.Queried.{BeginsEach, Leads, Reached, IsSolved, IsQuery, first_query, IsTried, tried, tried_knows, found_table, solution_without, plain_without, entered_solution, entered_plain, says_contains, says_long}
 use Rattle.nts_theory.proofs.Refutation.Begun.{asked_from, originals_plain, BegunAt, begun_with, asks_more, goal_known, goal_plain, goal_there}
 use Rattle.nts_theory.proofs.Refutation.QueryLabels.{entered_query, query_without}
@@ -99,7 +100,7 @@ module _ (Q : Queries) (begins : BeginsEach Q) (h : Handler) (truth : Truth) (Pr
         (says_contains truth ks (without_constraints there) qs v.response q.placed (query_without ks there qs (entered_query ks c g qs q.table)) (subst (λ z. IsPlainResponse z qs v.response) is says) w (solution_without truth 0 there w (entered_solution truth c g w s.solution)) (plain_without there w (entered_plain c g w s.free)))
     tells_contain {ks} {c} {e} {g} {qs} {v} (says_nothing says) q ts w s = nothing_contains truth ks v.response ts q.numbered says s.values s.plain
     tells_contain {ks} {c} {e} {g} {qs} {v} (tells_one vs ready all stands) q ts w s =
-        let x = some_begins h truth Proves theory lawful law c e g w s.solution q.current q.knows s.free s.proved ready in
+        let x = some_begins h truth Proves theory lawful law c e g w s.solution q.current q.knows s.free s.proved ready.asked (says_trait e (opened_in c g) ready.trait_goal) ready.knows ready.proper in
         let one = outcomes_contain all (tried ks c e g qs q) w x.solution (entered_plain c g w s.free) x.candidate x.offered x.begins in
         stands_contains ks qs vs v ts q.numbered q.kinds s.values s.plain (outcome_long all) stands (subst (OneContains truth vs) s.images one)
     tells_contain {ks} {c} {e} {g} {qs} {v} (tells_outlives x is none r) q ts w s =
@@ -116,12 +117,21 @@ module _ (Q : Queries) (begins : BeginsEach Q) (h : Handler) (truth : Truth) (Pr
         let begins = own_begins h truth Proves theory lawful law c e g w s.solution q.current q.knows s.free s.proved x own.way plain own.environment own.knows in
         subst (ContainsSolution truth v.response) s.images (replies_contain reply (tried ks c e g qs q) w (entered_solution truth c g w s.solution) (entered_plain c g w s.free) begins)
     tells_contain (tells_subtype ps met found outside related reach is says) q ts w s = absurd (outside refl)
-    tells_contain (tells_alias vs outside ready all stands) q ts w s = absurd (outside refl)
-    tells_contain (tells_normal ps met found outside left reach is says) q ts w s = absurd (outside refl)
+    tells_contain (tells_alias vs (inl outside) ready all stands) q ts w s = absurd (outside refl)
+    tells_contain {ks} {c} {e} {g} {qs} {v} (tells_alias vs (inr plain) ready all stands) q ts w s =
+        let x = some_begins h truth Proves theory lawful law c e g w s.solution q.current q.knows s.free s.proved ready.asked plain ready.knows ready.proper in
+        let one = outcomes_contain all (tried ks c e g qs q) w x.solution (entered_plain c g w s.free) x.candidate x.offered x.begins in
+        stands_contains ks qs vs v ts q.numbered q.kinds s.values s.plain (outcome_long all) stands (subst (OneContains truth vs) s.images one)
+    tells_contain (tells_normal ps met found (inl outside) left reach is says) q ts w s = absurd (outside refl)
+    tells_contain {ks} {c} {e} {g} {qs} {v} (tells_normal ps met found (inr plain) (by_lesser left) reach is says) q ts w s = absurd (equality_no_lesser c g left.left left.right plain left.is)
+    tells_contain {ks} {c} {e} {g} {qs} {v} (tells_normal ps met found (inr plain) (by_one left refused) reach is says) q ts w s =
+        let b = equality_begins h truth Proves theory c w e g s.solution s.free q.knows s.proved plain met ps left in
+        subst (ContainsSolution truth v.response) s.images
+        (some_says ks (entered_table c g) met found w e (opened_in c g) qs v ps (tried ks c e g qs q) is (entered_solution truth c g w s.solution) (entered_plain c g w s.free) b (reaches_keep reach b.terms) says)
 
     pub refutes_none : {ks : List PositionKind} {c : Content} {e g : Tree} {qs : List Tree} → Refutes Q h coherence c e g qs → IsQuery ks c e g qs → (ts : List Tree) (w : World) → IsSolved truth Granted ks c e g qs ts w → ⊥
     refutes_none {ks} {c} {e} {g} {qs} (all_fail ready all) q ts w s =
-        let x = some_begins h truth Proves theory lawful law c e g w s.solution q.current q.knows s.free s.proved ready in
+        let x = some_begins h truth Proves theory lawful law c e g w s.solution q.current q.knows s.free s.proved ready.asked (says_trait e (opened_in c g) ready.trait_goal) ready.knows ready.proper in
         let one = outcomes_contain all (tried ks c e g qs q) w x.solution (entered_plain c g w s.free) x.candidate x.offered x.begins in
         one.among
     refutes_none {ks} {c} {e} {g} {qs} (is_denied d) q ts w s =
@@ -131,8 +141,15 @@ module _ (Q : Queries) (begins : BeginsEach Q) (h : Handler) (truth : Truth) (Pr
         fails_never fails w (entered_solution truth c g w s.solution) (entered_plain c g w s.free) (own_begins h truth Proves theory lawful law c e g w s.solution q.current q.knows s.free s.proved x own.way plain own.environment own.knows)
     refutes_none (is_no_subtype outside none) q ts w s = outside refl
     refutes_none (subtype_refused ps met outside related refused) q ts w s = outside refl
-    refutes_none (aliases_fail outside ready all) q ts w s = outside refl
-    refutes_none (normal_refused ps met outside left refused other) q ts w s = outside refl
+    refutes_none (aliases_fail (inl outside) ready all) q ts w s = outside refl
+    refutes_none {ks} {c} {e} {g} {qs} (aliases_fail (inr plain) ready all) q ts w s =
+        let x = some_begins h truth Proves theory lawful law c e g w s.solution q.current q.knows s.free s.proved ready.asked plain ready.knows ready.proper in
+        let one = outcomes_contain all (tried ks c e g qs q) w x.solution (entered_plain c g w s.free) x.candidate x.offered x.begins in
+        one.among
+    refutes_none (normal_refused ps met (inl outside) left refused other) q ts w s = outside refl
+    refutes_none {ks} {c} {e} {g} {qs} (normal_refused ps met (inr plain) left refused other) q ts w s =
+        let b = equality_begins h truth Proves theory c w e g s.solution s.free q.knows s.proved plain met ps left in
+        refuses_goals refused b.terms b.reaches.world b.goals
 
     outcomes_contain : {ks : List PositionKind} {c : Content} {e g : Tree} {qs : List Tree} {xs : List Candidate} {vs : List Verdict} → Outcomes Q h coherence c e g qs xs vs → IsTried ks c e g qs
         → (w : World) → IsSolution truth 0 c w → IsPlainWorld c w → (x : Candidate) → Among xs x → CanBegin truth Granted c w x → OneContains truth vs (map (inst w) qs)

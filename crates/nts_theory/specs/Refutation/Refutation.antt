@@ -10,10 +10,12 @@ use Rattle.nts_model.specs.Terms.Trees.{Tree, empty, more, node, kind_of, IsClos
 use Rattle.nts_model.specs.Terms.Placeholders.{leaf_level}
 use Rattle.nts_model.specs.Tables.Levels.{NamesAll}
 use Rattle.nts_model.specs.Terms.Substitutions.{leaf_tree, Occurs, Instance, instance_of, Renaming, rename, IsPlain}
-use Rattle.nts_model.specs.Derivations.Related.{Constraint, pair, unbound}
+use Rattle.nts_model.specs.declared.labels.AliasRelationDirection.TheVariants as direction
+use Rattle.nts_model.specs.Derivations.Related.{Constraint, pair, unbound, IsAlias}
+use Rattle.nts_theory.specs.Aliasing.{alias_relation}
 use Rattle.nts_model.specs.Lists.{Among}
 use Rattle.nts_model.specs.Derivations.Sequents.{Premise, constraint_under}
-use Rattle.nts_model.specs.Derivations.Rules.{coherence, Meaning, strictly, statement_of, AreFresh, Equation, related, alike, Application, KeepsAliases, IsRule, opened, bound}
+use Rattle.nts_model.specs.Derivations.Rules.{coherence, Meaning, strictly, statement_of, AreFresh, Equation, related, alike, Application, KeepsAliases, IsHandlers, IsRule, opened, bound, normalization_goal}
 use Rattle.nts_model.specs.Derivations.Proofs.{Node, IsRankedProof}
 use Rattle.nts_model.specs.Refutation.Opening.{placeholder_in}
 use Rattle.nts_model.specs.Refutation.Choosing.{left_of, right_of}
@@ -26,7 +28,6 @@ use Rattle.nts_model.specs.Refutation.Containing.{IsNoAlias, IsAliasFree, Truth,
 use Rattle.nts_model.specs.Tables.Passing.{AllLabels}
 use Rattle.nts_theory.specs.Affirming.{IsDenied, SaysOfTwo, is_well_formed}
 use Rattle.nts_theory.specs.RelatingCandidates.{may_be_argument, AreTypesApart}
-use Rattle.nts_theory.specs.Telling.{IsTraitStatement}
 use Rattle.nts_variance_model.specs.Variances.SettledProofs.{IsReached, GrantsAt, HidesAt, RestsOnAt}
 
 -- no alias stands for a leaf of the term
@@ -97,9 +98,9 @@ binding x xs s = bound (more x xs) s
 abbrev pub GrantsFormed : Judgements → (Tree → Tree → Type 0) → Tree → Tree → Type 0
 GrantsFormed j Proves e s = (t : Tree) (ps : List Tree) → s ≡ is_well_formed t → j.well_formed e t ≡ Some ps → (p : Tree) → Among ps p → IsGranted Proves e p
 
--- what is proved: terms without region variables. Names of constants and regions play no part, and each goal of a trait follows by a
+-- what is proved: terms without region variables. Names of constants and regions play no part, and each goal that a handler's rules say follows by a
 -- use of a clause, as it stands or with the placeholders of a new universe for what it binds. What is proved to outlive a region does,
--- and what is a value's type is, if no alias stands there; what is well formed is so by predicates that are granted; and nothing is
+-- and what is a value's type is, if no alias stands there; what an alias is equal to, in which none stands, it normalizes to; what is well formed is so by predicates that are granted; and nothing is
 -- proved that the handler denies
 pub record IsTheory (h : Handler) (truth : Truth) (Proves : Tree → Tree → Type 0) : Type 0 where
   pub ground : AreGround Proves
@@ -108,9 +109,10 @@ pub record IsTheory (h : Handler) (truth : Truth) (Proves : Tree → Tree → Ty
   pub denies : (e g : Tree) → Proves e g → IsDenied h.judges (statement_of g) → ⊥
   pub says_opened : (u : ℕ) (e x xs s : Tree) (y : Constraint) → Proves e (binding x xs s) → SaysOfTwo y (opened (placeholder_in (u + 1)) 0 s) → NamesAll leaf_level u (pair e s) → HasNoAlias s → IsTrueBy truth y.relation y.left y.right
   pub formed : (e s : Tree) → Proves e (unbound s) → IsClosed s → GrantsFormed h.judges Proves e s
+  pub equates : (e a t : Tree) (x : IsAlias a) → Proves e (alias_relation direction.Equate a t) ⊎ Proves e (alias_relation direction.Equate t a) → IsClosed t → HasNoAlias t → Proves e (normalization_goal x.head x.parts t)
   pub formed_opened : (u : ℕ) (e x xs s : Tree) → Proves e (binding x xs s) → NamesAll leaf_level u (pair e s) → GrantsFormed h.judges Proves e (opened (placeholder_in (u + 1)) 0 s)
-  pub plain : (u : ℕ) (e s : Tree) → Proves e (unbound s) → IsTraitStatement s → IsClosed s → NamesAll leaf_level u (pair e s) → UsesNamed h truth Proves u e s
-  pub opened : (u : ℕ) (e x xs s : Tree) → Proves e (binding x xs s) → IsTraitStatement (opened (placeholder_in (u + 1)) 0 s) → IsFormed (opened (placeholder_in (u + 1)) 0 s) → NamesAll leaf_level u (pair e s)
+  pub plain : (u : ℕ) (e s : Tree) → Proves e (unbound s) → IsHandlers s → IsClosed s → NamesAll leaf_level u (pair e s) → UsesNamed h truth Proves u e s
+  pub opened : (u : ℕ) (e x xs s : Tree) → Proves e (binding x xs s) → IsHandlers (opened (placeholder_in (u + 1)) 0 s) → IsFormed (opened (placeholder_in (u + 1)) 0 s) → NamesAll leaf_level u (pair e s)
       → UsesNamed h truth Proves (u + 1) e (opened (placeholder_in (u + 1)) 0 s)
 
 -- what a goal that binds variables says of two terms is so with fresh placeholders for them
@@ -131,16 +133,17 @@ pub record UsesOpened (h : Handler) (truth : Truth) (Proves : Tree → Tree → 
   pub are_fresh : AreFresh (pair e c) fresh
   pub uses : UsesClause h truth Proves e (opened fresh 0 s)
 
--- proved goals are terms without region variables, each goal of a trait follows by a use of a clause, what is proved of two terms
+-- proved goals are terms without region variables, each goal that a handler's rules say follows by a use of a clause, what is proved of two terms
 -- without aliases is so, what is well formed is so by predicates that are granted, and nothing is proved that the handler denies
 pub record AreUsed (h : Handler) (truth : Truth) (Proves : Tree → Tree → Type 0) : Type 0 where
   pub ground : AreGround Proves
-  pub plain : (e s : Tree) → Proves e (unbound s) → IsTraitStatement s → IsClosed s → UsesClause h truth Proves e s
-  pub opened : (e x xs s : Tree) → Proves e (binding x xs s) → IsTraitStatement s → UsesOpened h truth Proves e (binding x xs s) s
+  pub plain : (e s : Tree) → Proves e (unbound s) → IsHandlers s → IsClosed s → UsesClause h truth Proves e s
+  pub opened : (e x xs s : Tree) → Proves e (binding x xs s) → IsHandlers s → UsesOpened h truth Proves e (binding x xs s) s
   pub says : (e s : Tree) (y : Constraint) → Proves e (unbound s) → SaysOfTwo y s → IsClosed s → HasNoAlias s → IsTrueBy truth y.relation y.left y.right
   pub denies : (e g : Tree) → Proves e g → IsDenied h.judges (statement_of g) → ⊥
   pub says_opened : (e x xs s : Tree) → Proves e (binding x xs s) → HasNoAlias s → SaysOpened truth e (binding x xs s) s
   pub formed : (e s : Tree) → Proves e (unbound s) → IsClosed s → GrantsFormed h.judges Proves e s
+  pub equates : (e a t : Tree) (x : IsAlias a) → Proves e (alias_relation direction.Equate a t) ⊎ Proves e (alias_relation direction.Equate t a) → IsClosed t → HasNoAlias t → Proves e (normalization_goal x.head x.parts t)
   pub formed_opened : (e x xs s : Tree) → Proves e (binding x xs s) → FormedOpened h Proves e (binding x xs s) s
 
 -- an instance that leaves no region variable: each has been assigned a free region
