@@ -117,11 +117,11 @@ way_refuted_earlier h mode way a b t g up table holds f =
 
 -- what the ways tell is told of the goal: of a subtype first that the results of the two are related so
 pub lesser_told : (h : Ruling) (mode : Mode) (p : TypePair) (c : Content) (e g : Tree) (qs : List Tree) (v : Verdict) → WayTold h mode (Some p) c e g qs v → NormalTold h mode c e g qs v
-lesser_told h mode p c e g qs v (inl y) = inl (record { outside = y.outside; left = y.left; met = y.met; sides = by_lesser y.sides; found = y.found; reaches = y.reaches; is_found = y.is_found; says = y.says })
+lesser_told h mode p c e g qs v (inl y) = inl (record { normal = y.normal; left = y.left; met = y.met; sides = by_lesser y.sides; found = y.found; reaches = y.reaches; is_found = y.is_found; says = y.says })
 lesser_told h mode p c e g qs v (inr y) = inr y
 
 pub one_told : (h : Ruling) (mode : Mode) (c : Content) (e g : Tree) (qs : List Tree) (v : Verdict) → ((a b : Tree) → IsLesserGoal g a b → LesserRefused h mode c e g) → WayTold h mode None c e g qs v → NormalTold h mode c e g qs v
-one_told h mode c e g qs v refused (inl y) = inl (record { outside = y.outside; left = y.left; met = y.met; sides = by_one y.sides refused; found = y.found; reaches = y.reaches; is_found = y.is_found; says = y.says })
+one_told h mode c e g qs v refused (inl y) = inl (record { normal = y.normal; left = y.left; met = y.met; sides = by_one y.sides refused; found = y.found; reaches = y.reaches; is_found = y.is_found; says = y.says })
 one_told h mode c e g qs v refused (inr y) = inr y
 
 pub lesser_no : (h : Ruling) (mode : Mode) (p : TypePair) (c : Content) (e g : Tree) → WayRefuted h mode (Some p) c e g → LesserRefused h mode c e g

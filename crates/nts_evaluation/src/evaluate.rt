@@ -15,6 +15,8 @@ ghost use Rattle.nts_meaning.specs.Meant.{rules_of};
 ghost use Rattle.nts_candidates.specs.Offered.{candidate_of};
 ghost use Rattle.nts_terms.specs.Modes.{mode_of};
 ghost use Rattle.nts_theory.specs.RelatingCandidates.{IsCutIn, HasPlainEquations};
+ghost use Rattle.nts_theory.specs.Telling.{IsOpenToNormalizing};
+ghost use Rattle.nts_store.specs.Growth.{tree_at};
 ghost use Rattle.nts_evaluation.specs.Promises.{AnswersQuery, AsksGoal, AsksAdded, EndsRound, AnswersGoal, AnswersOwn, AnswersSubtype, AnswersAlias, AnswersEquated, AnswersWay, TriesWay, TriesEach, TriesOne, RunsOne, StepsGoals, StepsOnce};
 
 use nts_asking::{
@@ -33,8 +35,8 @@ use nts_terms::{Cx, GenericArg, Goal, TypingMode};
 use nts_trying::{
     AvailableDepth, EquatedAlias, GoalRow, Judged, OwnGoal, Step, Trial, TypePair, answer_outlives,
     begin_in_part, begin_relating, check_leaks, enter_forall, equate, fast_answer, goal_kind,
-    goal_row, judge, keep_response, merge_responses, needs_relating, record_constraints,
-    relate_types, relevant_candidates, way_goals,
+    goal_row, is_open_to_normalizing, is_open_to_offers, judge, keep_response, merge_responses,
+    needs_relating, record_constraints, relate_types, relevant_candidates, way_goals,
 };
 
 /// Evaluates a goal in a query of its own: its leaves give place to positions, the search answers the query, and the response is
@@ -196,6 +198,10 @@ fn compute_goal<H: GoalHandler>(
             return response;
         }
         GoalRow::Equated(opened, equated) => {
+            if !is_open_to_normalizing(cx, table.typing_mode(), goal, opened, equated) {
+                let doubt = boxed_response(table, cx, values, Certainty::AMBIGUOUS)?;
+                return Ok(doubt);
+            }
             let response = evaluate_equated(
                 table, cx, handler, graph, opened, equated, values, depth,
             );
@@ -311,7 +317,8 @@ fn evaluate_subtype<H: GoalHandler>(
     Ok(response)
 }
 
-/// Answers a goal about an alias, or one in which an alias stands, by the candidates of the handler. In coherence it is in doubt.
+/// Answers a goal about an alias, or one in which an alias stands, by the candidates of the handler. In coherence it is in doubt, unless
+/// it says that an alias is a term, and no other alias stands in it.
 #[cycle(evaluate)]
 #[inline(never)]
 fn evaluate_alias<H: GoalHandler>(
@@ -332,7 +339,7 @@ fn evaluate_alias<H: GoalHandler>(
         graph.new table.old goal values.now result }
 {
     cx.terms_are_formed();
-    if matches!(table.typing_mode(), TypingMode::Coherence) {
+    if !is_open_to_offers(cx, table.typing_mode(), goal) {
         let doubt = boxed_response(table, cx, values, Certainty::AMBIGUOUS)?;
         return Ok(doubt);
     }
@@ -341,7 +348,7 @@ fn evaluate_alias<H: GoalHandler>(
 }
 
 /// Answers a goal that an alias is equal to a term, or that the one is a subtype of the other: of a subtype it is asked first whether
-/// what they normalize to is one; and where it is none, and else, whether the alias and the term are one. In coherence it is in doubt.
+/// what they normalize to is one; and where it is none, and else, whether the alias and the term are one.
 #[cycle(evaluate)]
 #[inline(never)]
 fn evaluate_equated<H: GoalHandler>(
@@ -356,6 +363,8 @@ fn evaluate_equated<H: GoalHandler>(
 ) -> Result<Box<CanonicalResponse>, EvalError>
     requires posed { IsPosed cx.old.nodes table.old goal }
     requires equated { IsEquatedGoal cx.old.nodes goal equated }
+    requires normal { IsOpenToNormalizing (mode_of table.old.mode) (tree_at cx.old.nodes
+        goal.predicate.node) }
     requires ready { H.ready cx.old.nodes handler.now }
     requires values { All (IsArgOf cx.old.nodes table.old.entries) values.now }
     requires search { IsSearch cx.old graph.old (depth) }
@@ -363,10 +372,6 @@ fn evaluate_equated<H: GoalHandler>(
         graph.new table.old goal values.now result }
 {
     cx.terms_are_formed();
-    if matches!(table.typing_mode(), TypingMode::Coherence) {
-        let doubt = boxed_response(table, cx, values, Certainty::AMBIGUOUS)?;
-        return Ok(doubt);
-    }
     if let Some(types) = equated.types {
         let way = Some(types);
         let lesser = evaluate_way(table, cx, handler, graph, goal, equated, way, values, depth);
@@ -400,7 +405,8 @@ fn evaluate_way<H: GoalHandler>(
     requires posed { IsPosed cx.old.nodes table.old goal }
     requires equated { IsEquatedGoal cx.old.nodes goal equated }
     requires way { IfSome way (LesserIn cx.old.nodes goal) }
-    requires outside { IsCutIn (mode_of table.old.mode) }
+    requires normal { IsOpenToNormalizing (mode_of table.old.mode) (tree_at cx.old.nodes
+        goal.predicate.node) }
     requires ready { H.ready cx.old.nodes handler.now }
     requires values { All (IsArgOf cx.old.nodes table.old.entries) values.now }
     requires search { IsSearch cx.old graph.old (depth) }
@@ -441,7 +447,8 @@ fn try_way<H: GoalHandler>(
     requires posed { IsPosed cx.old.nodes table.old goal }
     requires equated { IsEquatedGoal cx.old.nodes goal equated }
     requires way { IfSome way (LesserIn cx.old.nodes goal) }
-    requires outside { IsCutIn (mode_of table.old.mode) }
+    requires normal { IsOpenToNormalizing (mode_of table.old.mode) (tree_at cx.old.nodes
+        goal.predicate.node) }
     requires ready { H.ready cx.old.nodes handler.now }
     requires search { IsSearch cx.old graph.old (depth) }
     ensures { TriesWay (rules_of H.ready H.handler handler.now) way cx.old cx.new graph.old

@@ -205,17 +205,47 @@ fn a_rule_for_an_alias_is_in_doubt_in_coherence(rt: HostRuntime) {
     plays(&rt, rt.alloc(), TypingMode::Coherence, PAIR, PARTS);
 }
 
-/// In coherence goals about aliases are in doubt.
+/// In coherence goals are in doubt in which an alias stands, but for one that an alias is equal to a term.
 #[test]
 fn aliases_are_in_doubt_in_coherence(rt: HostRuntime) {
     const NORMS: &[Norm] = &[Norm(&[], "byte", "word", None)];
     const ASKED: &[Asked] = &[
-        Goal(Alias(Equal("alias", "word")), Is(DOUBT, HasChanged::No)),
-        Goal(Alias(Equal("alias", "byte")), Is(DOUBT, HasChanged::No)),
-        Goal(Alias(Projects("byte", "x")), Is(DOUBT, HasChanged::No)),
-        Resolves("x", "x"),
+        Goal(Alias(Equal("alias", "other")), Is(DOUBT, HasChanged::No)),
+        Goal(Alias(Projects("alias", "word")), Is(DOUBT, HasChanged::No)),
+        Goal(Alias(Projects("byte", "alias")), Is(DOUBT, HasChanged::No)),
+        Goal(Plain(Of(0, &["alias"])), Is(DOUBT, HasChanged::No)),
+        Goal(Subtype("alias", "word"), Is(DOUBT, HasChanged::No)),
     ];
     const PARTS: &[Part] = &[Part(By::Aliases(NORMS), &[], ASKED)];
+    plays(&rt, rt.alloc(), TypingMode::Coherence, PAIR, PARTS);
+}
+
+/// In coherence a goal that an alias is a term, or is equal to one, is answered by the clauses for the alias, if no alias stands in the
+/// term, nor in the arguments.
+#[test]
+fn what_an_alias_is_equal_to_is_answered_in_coherence(rt: HostRuntime) {
+    const NORMS: &[Norm] = &[Norm(&[], "byte", "word", None)];
+    const ASKED: &[Asked] = &[
+        Goal(Alias(Projects("byte", "word")), Is(YES, HasChanged::No)),
+        Goal(Alias(Projects("byte", "byte")), Refused),
+        Goal(Alias(Projects("word", "word")), Refused),
+        Goal(Alias(Equal("alias", "word")), Is(YES, HasChanged::No)),
+        Goal(Alias(Equal("word", "alias")), Is(YES, HasChanged::No)),
+        Goal(Alias(Equal("alias", "byte")), Refused),
+        Goal(Alias(Projects("byte", "x")), Is(YES, HasChanged::Yes)),
+        Resolves("x", "word"),
+        Goal(Alias(Equal("y", "alias")), Is(YES, HasChanged::Yes)),
+        Resolves("y", "word"),
+    ];
+    const TO_ALIAS: &[Norm] = &[Norm(&[], "word", "alias", None)];
+    const DOUBTED: &[Asked] = &[Goal(Alias(Projects("word", "word")), Is(DOUBT, HasChanged::No))];
+    const CONDITION: &[Norm] = &[Norm(&[], "byte", "word", Some(Of(0, &["byte"])))];
+    const FAILED: &[Asked] = &[Goal(Alias(Projects("byte", "word")), Refused)];
+    const PARTS: &[Part] = &[
+        Part(By::Aliases(NORMS), &[], ASKED),
+        Part(By::Aliases(TO_ALIAS), &[], DOUBTED),
+        Part(By::Aliases(CONDITION), &[], FAILED),
+    ];
     plays(&rt, rt.alloc(), TypingMode::Coherence, GIVEN, PARTS);
 }
 

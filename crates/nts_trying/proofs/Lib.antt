@@ -19,6 +19,7 @@ pub mod Unasked
 pub mod Outliving
 pub mod SubtypeGoals
 pub mod AliasGoals
+pub mod PlainEqualities
 pub mod NormalGoals
 pub mod LesserGoals
 pub mod NormalizedGoals

@@ -52,8 +52,8 @@ use Rattle.nts_meaning.specs.Meant.{IsServed, offers_of, IsTold, IsRefuted, Cand
 use Rattle.nts_meaning.proofs.Evaluating.{Knows-goes, offers-kept}
 use Rattle.nts_meaning.proofs.Running.{term_table}
 use Rattle.nts_meaning.specs.Telling.{Ruling, Outcomes, Replies, Fails, IsWay}
-use Rattle.nts_theory.specs.Telling.{IsPlainResponse, Verdict, kind_for, IsReady, IsAliasReady, IsAliasGoal, IsTraitGoal, StandsForAll, SaysRecorded, IsTermTable, IsResponseOf, IsOwnWayIn}
-use Rattle.nts_theory.specs.RelatingCandidates.{HasPlainEquations}
+use Rattle.nts_theory.specs.Telling.{IsPlainResponse, IsOpenToOffers, Verdict, kind_for, IsReady, IsAliasReady, IsAliasGoal, IsTraitGoal, StandsForAll, SaysRecorded, IsTermTable, IsResponseOf, IsOwnWayIn, IsOpenToNormalizing}
+use Rattle.nts_theory.specs.RelatingCandidates.{HasPlainEquations, IsCutIn}
 use Rattle.nts_theory.specs.Affirming.{SaysAffirmed, IsDenied, HasOwnWay}
 use Rattle.nts_theory.proofs.Aliases.ByEngine.{IsClosedThere, affirmed_proved}
 use Rattle.nts_theory.proofs.Aliases.ByOwnWay.{own_way_proved}
@@ -73,6 +73,7 @@ use Rattle.nts_meaning.specs.Answering.{is_yes, verdict_at}
 use Rattle.nts_model.specs.Answers.Applying.{IsProperContent}
 use Rattle.nts_table.proofs.TermTables.{proper_content}
 use Rattle.nts_theory.proofs.Refutation.QueryLabels.{opened_goal_passes}
+use Rattle.nts_terms.specs.declared.handles.Predicate.{Predicate}
 
 -- what holds, holds of what went well
 pub on_ok : {A E P : Type 0} (r : Result A E) → P → OnOk r P
@@ -152,7 +153,7 @@ module _ {a b : List Tree} {t u : Table} {g o : Goal} (posed : IsPosed a t g) (o
   pub refuted_through : IsPosed b u o → IsAskedGoal b o → (h : Ruling) (mode : TypingMode) (qs : List GenericArg) → Outcomes h (mode_of mode) there (tree_at b o.param_env.node) (tree_at b o.predicate.node) (trees_of a qs) (offers_of h.handler (mode_of mode) b o) [] → IsRefuted h mode a t g qs
   refuted_through p ask h mode qs x = all_fail (ready_opened p ask) (opened_outcomes h mode (trees_of a qs) [] x)
 
-  -- .. about an alias, outside of coherence
+  -- .. about an alias
   alias_ready : AreFormed b → IsPosed b u o → AliasGoalIn b o → IsAliasReady before (tree_at a g.param_env.node) (tree_at a g.predicate.node)
   alias_ready formed p says =
       let k = p.knows in
@@ -167,16 +168,19 @@ module _ {a b : List Tree} {t u : Table} {g o : Goal} (posed : IsPosed a t g) (o
         proper = subst IsProperContent opens.table (proper_content w);
       }
 
+  opened_offers : (mode : TypingMode) → IsOpenToOffers (mode_of mode) (tree_at b o.param_env.node) (tree_at b o.predicate.node) → IsOpenToOffers (mode_of mode) (tree_at a g.param_env.node) (opened_in before (tree_at a g.predicate.node))
+  opened_offers mode x = subst (λ z. IsOpenToOffers (mode_of mode) (tree_at a g.param_env.node) z) opens.predicate (subst (λ z. IsOpenToOffers (mode_of mode) z (tree_at b o.predicate.node)) environment_same x)
+
   pub alias_told : AreFormed b → IsPosed b u o → AliasGoalIn b o → (h : Ruling) (mode : TypingMode) (qs : List GenericArg) (e : List Tree) (r : Canonical Response) → trees_of b qs ≡ trees_of a qs → IsAliasTold h mode b u o qs e r → IsTold h mode a t g qs e r
   alias_told formed p says h mode qs e r same (inl x) ks =
       let outcomes = subst (λ z. Outcomes h (mode_of mode) there (tree_at b o.param_env.node) (tree_at b o.predicate.node) z (offers_of h.handler (mode_of mode) b o) x.verdicts) same x.outcomes in
-      tells_alias x.verdicts (inl x.outside) (alias_ready formed p says) (opened_outcomes h mode (trees_of a qs) x.verdicts outcomes) (subst (λ z. StandsForAll z x.verdicts (verdict_at e r)) same x.stands)
+      tells_alias x.verdicts (opened_offers mode x.offers) (alias_ready formed p says) (opened_outcomes h mode (trees_of a qs) x.verdicts outcomes) (subst (λ z. StandsForAll z x.verdicts (verdict_at e r)) same x.stands)
   alias_told formed p says h mode qs e r same (inr (n, x)) ks = tells_nothing there (inr opens.table) n (subst (λ z. IsPlainResponse there z (response_at e r)) same x)
 
   pub alias_refuted : AreFormed b → IsPosed b u o → AliasGoalIn b o → (h : Ruling) (mode : TypingMode) (qs : List GenericArg) → trees_of b qs ≡ trees_of a qs → IsAliasRefuted h mode b u o qs → IsRefuted h mode a t g qs
   alias_refuted formed p says h mode qs same x =
       let outcomes = subst (λ z. Outcomes h (mode_of mode) there (tree_at b o.param_env.node) (tree_at b o.predicate.node) z (offers_of h.handler (mode_of mode) b o) []) same x.outcomes in
-      aliases_fail (inl x.outside) (alias_ready formed p says) (opened_outcomes h mode (trees_of a qs) [] outcomes)
+      aliases_fail (opened_offers mode x.offers) (alias_ready formed p says) (opened_outcomes h mode (trees_of a qs) [] outcomes)
 
   -- .. of which nothing is told there
   pub nothing_through : (h : Ruling) (mode : TypingMode) (qs : List GenericArg) (e : List Tree) (r : Canonical Response) → trees_of b qs ≡ trees_of a qs → is_yes r.value.certainty ≡ false → IsPlainResponse there (trees_of b qs) (response_at e r) → IsTold h mode a t g qs e r
@@ -395,20 +399,27 @@ module _ {a b : List Tree} {t u : Table} {g o : Goal} (posed : IsPosed a t g) (o
       tells_subtype w.left w.met y.found w.outside w.leaves w.reaches y.is_found y.says
   subtype_told h mode qs e r same (inr (unsure, plain)) ks = nothing_through h mode qs e r same unsure plain ks
 
-  pub normal_told : (h : Ruling) (mode : TypingMode) (qs : List GenericArg) (e : List Tree) (r : Canonical Response) → trees_of b qs ≡ trees_of a qs
+  -- a goal that binds nothing is answered as it is
+  as_asked : (mode : TypingMode) → IsCutIn (mode_of mode) ⊎ (g.predicate ≡ o.predicate) → IsOpenToNormalizing (mode_of mode) (opened_in before (tree_at a g.predicate.node)) → IsOpenToNormalizing (mode_of mode) (tree_at a g.predicate.node)
+  as_asked mode (inl outside) n = inl outside
+  as_asked mode (inr same) n =
+      let kept : tree_at b g.predicate.node ≡ tree_at a g.predicate.node = up.kept g.predicate.node posed.holds.predicate.within in
+      subst (IsOpenToNormalizing (mode_of mode)) (sym opens.predicate ∙ ap (λ (p : Predicate). tree_at b p.node) (sym same) ∙ kept) n
+
+  pub normal_told : (h : Ruling) (mode : TypingMode) → IsCutIn (mode_of mode) ⊎ (g.predicate ≡ o.predicate) → (qs : List GenericArg) (e : List Tree) (r : Canonical Response) → trees_of b qs ≡ trees_of a qs
       → NormalTold h (mode_of mode) there (tree_at b o.param_env.node) (tree_at b o.predicate.node) (trees_of b qs) (verdict_at e r) → IsTold h mode a t g qs e r
-  normal_told h mode qs e r same (inl x) ks =
+  normal_told h mode bound qs e r same (inl x) ks =
       let v = verdict_at e r in
       let one = subst (λ z. Reading (λ c i j. SaysLeft h (mode_of mode) (λ d ps. IsWay h (mode_of mode) c d i j ps) c i j z v)) same x in
       let y = through_opening (λ c i j. SaysLeft h (mode_of mode) (λ d ps. IsWay h (mode_of mode) c d i j ps) c i j (trees_of a qs) v) one in
-      tells_normal y.left y.met y.found (inl y.outside) y.sides y.reaches y.is_found y.says
-  normal_told h mode qs e r same (inr (unsure, plain)) ks = nothing_through h mode qs e r same unsure plain ks
+      tells_normal y.left y.met y.found (as_asked mode bound y.normal) y.sides y.reaches y.is_found y.says
+  normal_told h mode bound qs e r same (inr (unsure, plain)) ks = nothing_through h mode qs e r same unsure plain ks
 
-  pub normal_stops : (h : Ruling) (mode : TypingMode) (qs : List GenericArg) → NormalRefuted h (mode_of mode) there (tree_at b o.param_env.node) (tree_at b o.predicate.node) → IsRefuted h mode a t g qs
-  normal_stops h mode qs x =
+  pub normal_stops : (h : Ruling) (mode : TypingMode) → IsCutIn (mode_of mode) ⊎ (g.predicate ≡ o.predicate) → (qs : List GenericArg) → NormalRefuted h (mode_of mode) there (tree_at b o.param_env.node) (tree_at b o.predicate.node) → IsRefuted h mode a t g qs
+  normal_stops h mode bound qs x =
       let y = through_opening (λ c e p. NormalRefuted h (mode_of mode) c e p) x in
       let one = y.one in
-      normal_refused one.left one.met (inl one.outside) one.sides one.refused y.lesser
+      normal_refused one.left one.met (as_asked mode bound one.normal) one.sides one.refused y.lesser
 
   pub subtype_refuted : (h : Ruling) (mode : TypingMode) (qs : List GenericArg) → SubtypesRefuted h (mode_of mode) there (tree_at b o.param_env.node) (tree_at b o.predicate.node) → IsRefuted h mode a t g qs
   subtype_refuted h mode qs (outside, inl none) =

@@ -5,7 +5,9 @@ use Rattle.nts_model.specs.declared.labels.AliasRelationDirection.TheVariants as
 use Rattle.nts_model.specs.declared.labels.Sort.TheVariants as sort
 use Rattle.nts_model.specs.declared.labels.Variance.TheVariants as variance
 use Rattle.nts_model.specs.declared.labels.VariableKind.TheVariants as variable
-use Rattle.nts_model.specs.Terms.Trees.{Tree, any_label, is_alias, kind_of, of_sort, IsClosed}
+use Rattle.nts_model.specs.declared.labels.PredicateHead.TheVariants as predicate
+use Rattle.nts_model.specs.declared.labels.Label.TheVariants as label
+use Rattle.nts_model.specs.Terms.Trees.{Tree, node, any_label, is_alias, kind_of, of_sort, IsClosed}
 use Rattle.nts_model.specs.Tables.Contents.{Content}
 use Rattle.nts_model.specs.Derivations.Related.{pair, unbound, subtype_goal, IsAlias}
 use Rattle.nts_model.specs.Derivations.Rules.{Meaning, Mode, other_goal, normalization_goal}
@@ -18,7 +20,7 @@ use Rattle.nts_trying.specs.Stepping.{ArePosed, terms_of}
 use Rattle.nts_model.specs.Derivations.Sequents.{Premise}
 use Rattle.nts_model.specs.Searching.Stacks.{IsProvedFrom}
 use Rattle.nts_theory.specs.Aliasing.{EquatesAlias, EquatesAliases, NormalizesSide, NormalizesSides, IsLesserGoal, NormalizesLesser}
-use Rattle.nts_theory.specs.Telling.{IsAliasStatement, IsTraitStatement, Verdict, IsFound, SaysOf, StandsForAll, IsPlainResponse}
+use Rattle.nts_theory.specs.Telling.{IsAliasStatement, IsTraitStatement, IsOpenToOffers, IsOpenToNormalizing, Verdict, IsFound, SaysOf, StandsForAll, IsPlainResponse}
 use Rattle.nts_theory.specs.RelatingCandidates.{IsCutIn}
 use Rattle.nts_store.specs.Growth.{tree_at, IsIn}
 use Rattle.nts_certainty.specs.declared.sources.GoalSource.{GoalSource}
@@ -60,10 +62,10 @@ pub record AliasGoalIn (ts : List Tree) (g : Goal) : Type 0 where
   pub closed : IsClosed statement
   pub environment : IsClosedEnv (tree_at ts g.param_env.node)
 
--- outside of coherence each candidate that is offered for a goal fails or replies, and what a response of the store e says stands for
--- the replies
+-- each candidate that is offered for a goal, where goals are answered by offers, fails or replies, and what a response of the store e
+-- says stands for the replies
 pub record SaysOffered (h : Ruling) (mode : TypingMode) (a : List Tree) (t : Table) (g : Goal) (qs : List GenericArg) (e : List Tree) (r : Canonical Response) : Type 0 where
-  pub outside : IsCutIn (mode_of mode)
+  pub offers : IsOpenToOffers (mode_of mode) (tree_at a g.param_env.node) (tree_at a g.predicate.node)
   pub verdicts : List Verdict
   pub outcomes : Outcomes h (mode_of mode) (content_of a t.entries) (tree_at a g.param_env.node) (tree_at a g.predicate.node) (trees_of a qs) (offers_of h.handler (mode_of mode) a g) verdicts
   pub stands : StandsForAll (trees_of a qs) verdicts (verdict_at e r)
@@ -73,9 +75,9 @@ abbrev pub IsAliasTold : Ruling → TypingMode → List Tree → Table → Goal 
 IsAliasTold h mode a t g qs e r =
     SaysOffered h mode a t g qs e r ⊎ (is_yes r.value.certainty ≡ false) × IsPlainResponse (content_of a t.entries) (trees_of a qs) (response_at e r)
 
--- .. and why it has no solution: outside of coherence each candidate that is offered fails
+-- .. and why it has no solution: each candidate that is offered fails, where goals are answered by offers
 pub record IsAliasRefuted (h : Ruling) (mode : TypingMode) (a : List Tree) (t : Table) (g : Goal) (qs : List GenericArg) : Type 0 where
-  pub outside : IsCutIn (mode_of mode)
+  pub offers : IsOpenToOffers (mode_of mode) (tree_at a g.param_env.node) (tree_at a g.predicate.node)
   pub outcomes : Outcomes h (mode_of mode) (content_of a t.entries) (tree_at a g.param_env.node) (tree_at a g.predicate.node) (trees_of a qs) (offers_of h.handler (mode_of mode) a g) []
 
 -- a goal says that an alias is equal to a closed term, which may be another alias, or that the one is a subtype of the other: it binds
@@ -84,6 +86,11 @@ pub record EquatedIn (ts : List Tree) (g : Goal) (a t : Tree) : Type 0 where
   pub says : EquatesAlias (tree_at ts g.predicate.node) a t ⊎ EquatesAliases (tree_at ts g.predicate.node) a t
   pub ends : IsClosed t
   pub environment : IsClosedEnv (tree_at ts g.param_env.node)
+
+-- a statement says that two terms are equal, of which one may be an alias
+abbrev pub IsEquality : Tree → Type 0
+IsEquality (node (label.Predicate (predicate.AliasRelate direction.Equate)) ts) = Unit {0}
+IsEquality t = ⊥
 
 -- two terms, types both, and the first said to be a subtype of the second; or they are not
 abbrev pub AreLesserTypes : List Tree → Term → Term → AliasRelationDirection → Option TypePair → Type 0
@@ -243,9 +250,9 @@ pub record BeginsNormalizing (way : Option TypePair) (a b : Cx) (t u : Table) (g
   pub labels : {d : Content} → BringsOnly (terms_of b.nodes left) (content_of b.nodes u.entries) d → BringsOnly (asked_terms a.nodes g) (content_of a.nodes t.entries) d
   pub goals : LeavesOne a.nodes b.nodes g left ⊎ LeavesTwo a.nodes b.nodes u g left ⊎ LeavesLesser a.nodes b.nodes u g left
 
--- outside of coherence what is left of a goal by a way was asked, which came to this table
+-- what is left of a goal by a way was asked, which came to this table, where goals are answered so
 pub record RunsWay (h : Ruling) (mode : Mode) (way : Option TypePair) (c : Content) (e g : Tree) (found : Content) : Type 0 where
-  pub outside : IsCutIn mode
+  pub normal : IsOpenToNormalizing mode g
   pub left : List Premise
   pub met : Content
   pub sides : LeftBy way c met e g left
@@ -253,7 +260,7 @@ pub record RunsWay (h : Ruling) (mode : Mode) (way : Option TypePair) (c : Conte
 
 -- .. and a verdict says what was found, in the table `found`
 pub record SaysLeft (h : Ruling) (mode : Mode) (Left : Content → List Premise → Type 0) (c : Content) (e g : Tree) (qs : List Tree) (v : Verdict) : Type 0 where
-  pub outside : IsCutIn mode
+  pub normal : IsOpenToNormalizing mode g
   pub left : List Premise
   pub met : Content
   pub sides : Left met left
@@ -269,9 +276,9 @@ WayTold h mode way c e g qs v = SaysLeft h mode (λ d ps. LeftBy way c d e g ps)
 abbrev pub NormalTold : Ruling → Mode → Content → Tree → Tree → List Tree → Verdict → Type 0
 NormalTold h mode c e g qs v = SaysLeft h mode (λ d ps. IsWay h mode c d e g ps) c e g qs v ⊎ (v.is_yes ≡ false) × IsPlainResponse c qs v.response
 
--- .. and why there is no solution by a way: outside of coherence a goal that is left is refused
+-- .. and why there is no solution by a way: a goal that is left is refused
 pub record WayRefuted (h : Ruling) (mode : Mode) (way : Option TypePair) (c : Content) (e g : Tree) : Type 0 where
-  pub outside : IsCutIn mode
+  pub normal : IsOpenToNormalizing mode g
   pub left : List Premise
   pub met : Content
   pub sides : LeftBy way c met e g left

@@ -1,14 +1,21 @@
 //! Goals about an alias: that it is a term, or that it normalizes to one; and trait goals in which aliases stand.
-ghost use Rattle.std.specs.Prelude.{◌≡◌, ◌↔◌, IsTrue, true, false, List};
+ghost use Rattle.std.specs.Prelude.{◌≡◌, ◌↔◌, ◌⊎◌, IsTrue, true, false, List};
 ghost use Rattle.nts_model.specs.Terms.Trees.{Tree, any_label, is_alias};
 ghost use Rattle.nts_model.specs.Derivations.Related.{pair};
 ghost use Rattle.nts_store.specs.Growth.{tree_at};
 ghost use Rattle.nts_terms.specs.Kinds.{tree_of_statement};
 ghost use Rattle.nts_terms.specs.Handles.{HoldsGoal};
-ghost use Rattle.nts_trying.specs.Aliasing.{ConcernsAlias, AliasGoalIn};
+ghost use Rattle.nts_terms.specs.Modes.{mode_of};
+ghost use Rattle.nts_model.specs.Derivations.Rules.{IsHandlers};
+ghost use Rattle.nts_theory.specs.Aliasing.{IsPlainEquality};
+ghost use Rattle.nts_theory.specs.RelatingCandidates.{IsCutIn};
+ghost use Rattle.nts_theory.specs.Telling.{IsOpenToOffers};
+ghost use Rattle.nts_trying.specs.Aliasing.{ConcernsAlias, AliasGoalIn, IsEquality, IsEquatedGoal};
 
+use crate::normal::EquatedAlias;
 use crate::outlives::is_closed_env;
-use nts_terms::{ClauseKind, Cx, Goal, PredicateKind};
+use nts_model::AliasRelationDirection;
+use nts_terms::{ClauseKind, Cx, Goal, PredicateKind, TypingMode};
 
 /// Whether a statement says of an alias that it is a term, or that it normalizes to one; or of a trait's arguments that the trait holds,
 /// where an alias stands in the goal.
@@ -60,4 +67,86 @@ pub(crate) fn is_alias_goal(cx: &Cx, goal: Goal) -> bool
     }
     cx.terms_are_formed();
     is_closed_env(cx, goal.param_env)
+}
+
+/// Whether a statement is one that the rules of a handler may say: that a trait holds, or that an alias is a term, or normalizes to one.
+fn says_by_rules(statement: PredicateKind) -> bool
+    ensures { result ≡ true → (ts : List Tree) → IsHandlers (tree_of_statement ts statement) }
+{
+    match statement {
+        PredicateKind::NormalizesTo { .. } => true,
+        PredicateKind::Clause(clause) => match clause {
+            ClauseKind::Trait(_) => true,
+            ClauseKind::HostEffect(_) => true,
+            ClauseKind::Projection { .. } => true,
+            _ => false,
+        },
+        _ => false,
+    }
+}
+
+/// Whether aliases are normalized in that mode wherever they stand: in each but coherence.
+fn is_outside(mode: &TypingMode) -> bool
+    ensures { IsTrue result ↔ IsCutIn (mode_of mode.now) }
+{
+    !matches!(mode, TypingMode::Coherence)
+}
+
+/// Whether a goal about an alias is answered by what the handler offers for it: outside of coherence each is, and there one that assumes
+/// nothing, and in whose terms no alias stands. What is assumed may say what an alias is, and there that is offered for none.
+#[inline(never)]
+pub fn is_open_to_offers(cx: &Cx, mode: &TypingMode, goal: Goal) -> bool
+    requires { HoldsGoal cx.now.nodes goal }
+    ensures { result ≡ true → IsOpenToOffers (mode_of mode.now) (tree_at cx.now.nodes
+        goal.param_env.node) (tree_at cx.now.nodes goal.predicate.node) }
+{
+    if is_outside(mode) {
+        return true;
+    }
+    if goal.param_env.len(cx) != 0 || has_alias(cx, goal) {
+        return false;
+    }
+    let predicate = goal.predicate.kind(cx);
+    says_by_rules(predicate.value)
+}
+
+/// Whether a statement says that two terms are equal, of which one may be an alias.
+fn says_equal(statement: PredicateKind) -> bool
+    ensures { result ≡ true → (ts : List Tree) → IsEquality (tree_of_statement ts statement) }
+{
+    match statement {
+        PredicateKind::AliasRelate(_, _, direction) => match direction {
+            AliasRelationDirection::Equate => true,
+            AliasRelationDirection::Subtype => false,
+        },
+        _ => false,
+    }
+}
+
+/// Whether a goal about an alias and a term, that was opened, is answered by what the alias normalizes to: outside of coherence each is,
+/// and there one that says that the two are equal, if no alias stands in the term, and the goal bound nothing.
+#[inline(never)]
+pub fn is_open_to_normalizing(
+    cx: &Cx,
+    mode: &TypingMode,
+    goal: Goal,
+    opened: Goal,
+    equated: EquatedAlias,
+) -> bool
+    requires opened { HoldsGoal cx.now.nodes opened }
+    requires equated { IsEquatedGoal cx.now.nodes opened equated }
+    ensures { result ≡ true → IsCutIn (mode_of mode.now) ⊎ (goal.predicate ≡ opened.predicate) ×
+        IsPlainEquality (tree_at cx.now.nodes opened.predicate.node) }
+{
+    if is_outside(mode) {
+        return true;
+    }
+    if goal.predicate != opened.predicate {
+        return false;
+    }
+    if cx.nodes.flags(equated.term.node).has_alias {
+        return false;
+    }
+    let predicate = opened.predicate.kind(cx);
+    says_equal(predicate.value)
 }

@@ -18,6 +18,7 @@ mod relating;
 mod steps;
 mod subtypes;
 
+pub use aliases::{is_open_to_normalizing, is_open_to_offers};
 pub use binder::enter_forall;
 pub use candidate::{Trial, equate, record_constraints};
 pub use fast::fast_answer;

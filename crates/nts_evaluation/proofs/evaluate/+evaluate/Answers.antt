@@ -251,8 +251,8 @@ evaluate_alias-returns = aliases.evaluate_alias-returns
 pub evaluate_alias-returns-in_err-doubt : goal.evaluate_alias-returns-in_err-doubt
 evaluate_alias-returns-in_err-doubt = aliases.evaluate_alias-returns-in_err-doubt
 
-pub evaluate_alias-returns-then-matches : goal.evaluate_alias-returns-then-matches
-evaluate_alias-returns-then-matches = aliases.evaluate_alias-returns-then-matches
+pub evaluate_alias-returns-then-not-is_open_to_offers : goal.evaluate_alias-returns-then-not-is_open_to_offers
+evaluate_alias-returns-then-not-is_open_to_offers = aliases.evaluate_alias-returns-then-not-is_open_to_offers
 
 pub evaluate_alias-returns-in_err-candidates : goal.evaluate_alias-returns-in_err-candidates
 evaluate_alias-returns-in_err-candidates = aliases.evaluate_alias-returns-in_err-candidates
@@ -263,11 +263,14 @@ compute_goal-evaluate_equated-response-requires = equated.compute_goal-evaluate_
 pub compute_goal-returns-in-Equated : goal.compute_goal-returns-in-Equated
 compute_goal-returns-in-Equated = equated.compute_goal-returns-in-Equated
 
-pub evaluate_equated-returns-in_err-doubt : goal.evaluate_equated-returns-in_err-doubt
-evaluate_equated-returns-in_err-doubt = equated.evaluate_equated-returns-in_err-doubt
+pub compute_goal-returns-in_err-doubt-in-Equated : goal.compute_goal-returns-in_err-doubt-in-Equated
+compute_goal-returns-in_err-doubt-in-Equated = equated.compute_goal-returns-in_err-doubt-in-Equated
 
-pub evaluate_equated-returns-then-matches : goal.evaluate_equated-returns-then-matches
-evaluate_equated-returns-then-matches = equated.evaluate_equated-returns-then-matches
+pub compute_goal-boxed_response-requires-then-not-is_open_to_normalizing-clause-values : goal.compute_goal-boxed_response-requires-then-not-is_open_to_normalizing-clause-values
+compute_goal-boxed_response-requires-then-not-is_open_to_normalizing-clause-values = equated.compute_goal-boxed_response-requires-then-not-is_open_to_normalizing-clause-values
+
+pub compute_goal-returns-then-not-is_open_to_normalizing : goal.compute_goal-returns-then-not-is_open_to_normalizing
+compute_goal-returns-then-not-is_open_to_normalizing = equated.compute_goal-returns-then-not-is_open_to_normalizing
 
 pub evaluate_equated-returns-then-not-matches : goal.evaluate_equated-returns-then-not-matches
 evaluate_equated-returns-then-not-matches = equated.evaluate_equated-returns-then-not-matches

@@ -17,6 +17,7 @@ use Rattle.nts_meaning.proofs.AskedGoals.{trees_kept}
 use Rattle.nts_meaning.proofs.Evaluating.{Goes-trans, Goes-extends, IsPosed-later, Since-later, offers-kept}
 use Rattle.nts_meaning.proofs.Rounds.{search_then}
 use Rattle.nts_meaning.proofs.Searching.{Searches-refl, search_grows, tell_grown}
+use Rattle.nts_theory.specs.Telling.{IsOpenToOffers}
 use Rattle.nts_trying.specs.Aliasing.{IsAliasTold, IsAliasRefuted}
 use Rattle.nts_trying.proofs.AliasGoals.{alias_asked}
 use Rattle.nts_trying.proofs.Labels.{only_back}
@@ -164,7 +165,7 @@ evaluate_alias-returns g t c =
           let run = rw c.deref.ensures.value at (r.told (Since-later e.grows s) (tell_grown h c.args.depth c.requires.search e.grows tells)) in
           IfOk-map c.evaluate_candidates.result
           (λ x f. ⊎_elim
-          (λ v. inl (record { outside = search rules; verdicts = v.0; outcomes = v.1; stands = v.2 }))
+          (λ v. inl (record { offers = subst (λ m. IsOpenToOffers (mode_of m) (tree_at c.args.cx.now.nodes c.args.goal.param_env.node) (tree_at c.args.cx.now.nodes c.args.goal.predicate.node)) c.typing_mode.ensures (c.is_open_to_offers.ensures c.if-not-is_open_to_offers.false); verdicts = v.0; outcomes = v.1; stands = v.2 }))
           (λ v. inr v)
           (told_offered h mode c.args.table.now c.args.goal c.args.values.now c.in_ok-candidates.candidates.items c.evaluate_candidates.new.cx.nodes x.value e.grows.extends table posed.holds trees offered f)) run;
       refuted = λ s tells n.
@@ -176,7 +177,7 @@ evaluate_alias-returns g t c =
           let predicate = e.grows.extends.kept c.args.goal.predicate.node posed.holds.predicate.within in
           let kept = offers-kept (g.H.GoalHandler.handler s.base c.args.handler.now) (mode_of mode) e.grows.extends posed.holds in
           record {
-            outside = search rules;
+            offers = subst (λ m. IsOpenToOffers (mode_of m) (tree_at c.args.cx.now.nodes c.args.goal.param_env.node) (tree_at c.args.cx.now.nodes c.args.goal.predicate.node)) c.typing_mode.ensures (c.is_open_to_offers.ensures c.if-not-is_open_to_offers.false);
             outcomes = rw (here, trees, kept, environment, predicate) at (all_outcomes offered _ _ refl run);
           };
     }
@@ -185,8 +186,8 @@ pub evaluate_alias-returns-in_err-doubt : goal.evaluate_alias-returns-in_err-dou
 evaluate_alias-returns-in_err-doubt g t c =
     alias_failed c.from_residual.result (search rules) (search rules) (search rules) (Searches-refl c.args.depth c.requires.search c.boxed_response.ensures.grows)
 
-pub evaluate_alias-returns-then-matches : goal.evaluate_alias-returns-then-matches
-evaluate_alias-returns-then-matches g t c =
+pub evaluate_alias-returns-then-not-is_open_to_offers : goal.evaluate_alias-returns-then-not-is_open_to_offers
+evaluate_alias-returns-then-not-is_open_to_offers g t c =
     let p = c.requires.posed in
     let m = c.in_ok-doubt.ensures in
     let a = c.args.cx.now in

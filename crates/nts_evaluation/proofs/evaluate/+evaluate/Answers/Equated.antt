@@ -1,5 +1,5 @@
 -- Goals that an alias is equal to a term.
-use Rattle.std.proofs.Common.{◌≡◌, Err, Ok, None, inl, inr, ⊎_elim, arith, rules, ap, sym, ◌∙◌}
+use Rattle.std.proofs.Common.{◌≡◌, ◌⊎◌, Err, Ok, None, inl, inr, ⊎_elim, arith, rules, ap, sym, ◌∙◌}
 use Rattle.nts_model.specs.Terms.Trees.{Tree}
 use Rattle.nts_model.specs.Derivations.Handlers.{meaning}
 use Rattle.nts_theory.specs.Aliasing.{IsLesserGoal}
@@ -21,26 +21,32 @@ use Rattle.nts_meaning.specs.Evaluation.{goals_at}
 use Rattle.nts_meaning.proofs.AnsweredQueries.{args_later}
 use Rattle.nts_meaning.proofs.AskedGoals.{trees_kept}
 use Rattle.nts_meaning.proofs.Evaluating.{Goes-trans, Goes-extends, IsPosed-later, Runs-trans, Since-later, goes-back, rolled_back}
-use Rattle.nts_meaning.proofs.Rounds.{ran, search_then}
+use Rattle.nts_meaning.proofs.Rounds.{ran, search_then, grown}
 use Rattle.nts_meaning.proofs.Running.{term_table}
 use Rattle.nts_meaning.proofs.Searching.{Searches-refl, Searches-trans, heads_tell_later, search_grown, search_grows, search_later, covers_grown, tell_grown}
 use Rattle.nts_trying.proofs.LesserGoals.{equated_later}
 use Rattle.nts_trying.proofs.NormalizedGoals.{left_normal}
 use Rattle.nts_trying.proofs.Outcomes.{found_earlier}
-use Rattle.nts_trying.proofs.Opened.{labels_through, normal_through, normal_told, normal_stops}
+use Rattle.nts_trying.proofs.Opened.{labels_through, normal_through, normal_told, normal_stops, nothing_through, labels_entered}
 use Rattle.nts_trying.proofs.Probed.{found_in, found_still, went_in, plain_of, not_kept, says_found, says_before, doubtful}
 use Rattle.nts_trying.proofs.Ran.{proved_all}
 use Rattle.nts_trying.proofs.Stepping.{stopped_refused}
 use Rattle.nts_evaluation.proofs.DecidedGoals.{is_asked_here, outlives_in, states_own, way_states_own}
 use Rattle.nts_evaluation.proofs.FactTrials.{fact_asked}
-use Rattle.nts_evaluation.proofs.Failing.{equated_failed, way_failed}
+use Rattle.nts_evaluation.proofs.Failing.{equated_failed, way_failed, goal_failed}
 use Rattle.nts_evaluation.proofs.NormalLeft.{normal_more, all_relating, way_told_earlier, way_refuted_earlier, lesser_told, one_told, lesser_no}
 use Rattle.nts_terms.proofs.Moved.{KeepsRest-refl}
 use Rattle.nts_evaluation.proofs.evaluate.+evaluate.Goals as goal
+use Rattle.nts_theory.specs.Telling.{IsOpenToNormalizing, IsPlainResponse}
+use Rattle.nts_theory.specs.RelatingCandidates.{IsCutIn}
 
 pub compute_goal-evaluate_equated-response-requires : goal.compute_goal-evaluate_equated-response-requires
 compute_goal-evaluate_equated-response-requires g t c = λ κs k.
-    let o = c.in_ok-opened.ensures in (
+    let o = c.in_ok-opened.ensures in
+    let normal : IsOpenToNormalizing (mode_of c.enter_forall.new.table.mode) (tree_at c.enter_forall.new.cx.nodes c.in-Equated.opened.predicate.node) = elim (c.is_open_to_normalizing.ensures c.if-not-is_open_to_normalizing.false) [
+      | inl x ↦ inl (rw c.typing_mode.ensures at x)
+      | inr y ↦ inr y.1
+    ] in (
       omega (arith, c.decreases),
       (
         k,
@@ -49,16 +55,54 @@ compute_goal-evaluate_equated-response-requires g t c = λ κs k.
           (
             c.in-Equated.ensures.1,
             (
-              g.met.H.GoalHandler.ready_kept _ _ _ c.requires.ready o.grows.extends,
+              normal,
               (
-                args_later c.args.cx.now.nodes c.enter_forall.new.cx.nodes c.args.table.now.entries c.enter_forall.new.table.entries c.args.values.now o.goes.extends o.goes.continues c.requires.values,
-                search_grows c.args.depth c.args.depth (omega arith) c.requires.search o.grows,
+                g.met.H.GoalHandler.ready_kept _ _ _ c.requires.ready o.grows.extends,
+                (
+                  args_later c.args.cx.now.nodes c.enter_forall.new.cx.nodes c.args.table.now.entries c.enter_forall.new.table.entries c.args.values.now o.goes.extends o.goes.continues c.requires.values,
+                  search_grows c.args.depth c.args.depth (omega arith) c.requires.search o.grows,
+                ),
               ),
             ),
           ),
         ),
       ),
     )
+
+-- in coherence it is in doubt, unless no alias stands in the term
+pub compute_goal-returns-in_err-doubt-in-Equated : goal.compute_goal-returns-in_err-doubt-in-Equated
+compute_goal-returns-in_err-doubt-in-Equated g t c =
+    goal_failed c.from_residual-in_err-doubt-in-Equated.result (search rules) (search rules) (search rules) (Searches-refl c.args.depth c.requires.search (grown c.in_ok-opened.ensures.grows c.boxed_response-then-not-is_open_to_normalizing.ensures.grows))
+
+pub compute_goal-returns-then-not-is_open_to_normalizing : goal.compute_goal-returns-then-not-is_open_to_normalizing
+compute_goal-returns-then-not-is_open_to_normalizing g t c =
+    let o = c.in_ok-opened.ensures in
+    let r = c.in_ok-doubt-in-Equated.ensures in
+    let opened = rw c.in-Equated.ensures.0 at o.opened in
+    let posed = rw c.in-Equated.ensures.0 at o.posed in
+    let before = c.in-Equated.ensures.2 in
+    let trees = trees_kept c.args.cx.now.nodes c.enter_forall.new.cx.nodes c.args.table.now.entries c.args.values.now o.grows.extends c.requires.values in
+    let plain : IsPlainResponse (content_of c.enter_forall.new.cx.nodes c.enter_forall.new.table.entries) (trees_of c.enter_forall.new.cx.nodes c.args.values.now) (response_at c.boxed_response-then-not-is_open_to_normalizing.new.cx.nodes c.in_ok-doubt-in-Equated.doubt.value) = r.says in
+    record {
+      grows = search rules;
+      searches = Searches-refl c.args.depth c.requires.search (grown o.grows r.grows);
+      found = found_in c.in_ok-doubt-in-Equated.doubt.value _ o.goes c.terms_are_formed.ensures r.grows.extends (labels_entered c.requires.posed opened o.grows.extends) c.requires.values r.certainty r.says r.holds (record { no_hidden = r.nothing.0; no_goals = r.nothing.1 }) (λ y. absurd (doubtful _ y));
+      told = λ s tells. nothing_through c.requires.posed opened o.grows.extends (ruling_since (λ ts. g.H.GoalHandler.handler ts c.args.handler.now) s) c.args.table.now.mode c.args.values.now _ c.in_ok-doubt-in-Equated.doubt.value trees (ap is_yes r.certainty) plain;
+      refuted = search rules;
+      decided = λ s n b d can.
+          ⊎_elim
+          (λ asked. absurd (before.not_asked asked))
+          (λ w. absurd (⊎_elim (λ y. before.no_outlives _ (outlives_in y.says)) (λ v. before.not_own (⊎_elim (λ y. states_own y) (λ y. way_states_own y) v)) w))
+          (is_asked_here (g.H.GoalHandler.handler s.base c.args.handler.now) (g.met.H.GoalHandler.lawful s.base c.args.handler.now s.formed s.is_ready) (mode_of c.args.table.now.mode) n b c.args.goal c.args.values.now d.0 d.1 c.requires.posed c.terms_are_formed.ensures o.grows.extends _ opened posed);
+      facts = λ s tells f can.
+          let settled = f.settled in
+          absurd (before.not_asked (fact_asked (g.H.GoalHandler.handler s.base c.args.handler.now) (mode_of c.args.table.now.mode) c.args.cx.now.nodes c.enter_forall.new.cx.nodes c.args.table.now c.enter_forall.new.table c.args.goal _ opened settled c.requires.posed posed o.grows.extends));
+    }
+
+pub compute_goal-boxed_response-requires-then-not-is_open_to_normalizing-clause-values : goal.compute_goal-boxed_response-requires-then-not-is_open_to_normalizing-clause-values
+compute_goal-boxed_response-requires-then-not-is_open_to_normalizing-clause-values g t c =
+    let o = c.in_ok-opened.ensures in
+    args_later c.args.cx.now.nodes c.enter_forall.new.cx.nodes c.args.table.now.entries c.enter_forall.new.table.entries c.args.values.now o.goes.extends o.goes.continues c.requires.values
 
 pub compute_goal-returns-in-Equated : goal.compute_goal-returns-in-Equated
 compute_goal-returns-in-Equated g t c =
@@ -68,6 +112,10 @@ compute_goal-returns-in-Equated g t c =
     let posed = rw c.in-Equated.ensures.0 at o.posed in
     let says = c.in-Equated.ensures.1 in
     let before = c.in-Equated.ensures.2 in
+    let bound : IsCutIn (mode_of c.args.table.now.mode) ⊎ (c.args.goal.predicate ≡ c.in-Equated.opened.predicate) = elim (c.is_open_to_normalizing.ensures c.if-not-is_open_to_normalizing.false) [
+      | inl x ↦ inl (rw (c.typing_mode.ensures, o.goes.mode) at x)
+      | inr y ↦ inr y.0
+    ] in
     let trees = trees_kept c.args.cx.now.nodes c.enter_forall.new.cx.nodes c.args.table.now.entries c.args.values.now o.grows.extends c.requires.values in
     record {
       grows = search rules;
@@ -90,11 +138,11 @@ compute_goal-returns-in-Equated g t c =
       told = λ s tells.
           let h = ruling_since (λ ts. g.H.GoalHandler.handler ts c.args.handler.now) s in
           IfOk-map c.evaluate_equated-response.result
-          (λ x f. normal_told c.requires.posed opened o.grows.extends h c.args.table.now.mode c.args.values.now _ x.value trees (rw o.goes.mode at f))
+          (λ x f. normal_told c.requires.posed opened o.grows.extends h c.args.table.now.mode bound c.args.values.now _ x.value trees (rw o.goes.mode at f))
           (r.told (Since-later o.grows s) (tell_grown h c.args.depth c.requires.search o.grows tells));
       refuted = λ s tells n.
           let h = ruling_since (λ ts. g.H.GoalHandler.handler ts c.args.handler.now) s in
-          normal_stops c.requires.posed opened o.grows.extends h c.args.table.now.mode c.args.values.now (rw o.goes.mode at (r.refuted (Since-later o.grows s) (tell_grown h c.args.depth c.requires.search o.grows tells) n));
+          normal_stops c.requires.posed opened o.grows.extends h c.args.table.now.mode bound c.args.values.now (rw o.goes.mode at (r.refuted (Since-later o.grows s) (tell_grown h c.args.depth c.requires.search o.grows tells) n));
       decided = λ s n b d can.
           ⊎_elim
           (λ asked. absurd (before.not_asked asked))
@@ -104,26 +152,6 @@ compute_goal-returns-in-Equated g t c =
           let settled = f.settled in
           let asked = fact_asked (g.H.GoalHandler.handler s.base c.args.handler.now) (mode_of c.args.table.now.mode) c.args.cx.now.nodes c.enter_forall.new.cx.nodes c.args.table.now c.enter_forall.new.table c.args.goal _ opened settled c.requires.posed posed o.grows.extends in
           absurd (before.not_asked asked);
-    }
-
-pub evaluate_equated-returns-in_err-doubt : goal.evaluate_equated-returns-in_err-doubt
-evaluate_equated-returns-in_err-doubt g t c =
-    equated_failed c.from_residual.result (search rules) (search rules) (search rules) (Searches-refl c.args.depth c.requires.search c.boxed_response.ensures.grows)
-
-pub evaluate_equated-returns-then-matches : goal.evaluate_equated-returns-then-matches
-evaluate_equated-returns-then-matches g t c =
-    let p = c.requires.posed in
-    let m = c.in_ok-doubt.ensures in
-    let a = c.args.cx.now in
-    let doubt = c.in_ok-doubt.doubt.value in
-    let reply = response_at c.boxed_response.new.cx.nodes doubt in
-    let k = content_of a.nodes c.args.table.now.entries in
-    record {
-      grows = m.grows;
-      searches = Searches-refl c.args.depth c.requires.search m.grows;
-      found = found_still doubt ambiguous p.table (Extends-refl _) c.terms_are_formed.ensures m.grows.extends c.requires.values m.certainty (doubtful _) m.says m.holds (record { no_hidden = m.nothing.0; no_goals = m.nothing.1 });
-      told = λ s tells. inr (ap is_yes m.certainty, plain_of ambiguous k (trees_of a.nodes c.args.values.now) reply m.says (doubtful _));
-      refuted = search rules;
     }
 
 -- the ways are asked one after the other
@@ -154,7 +182,7 @@ evaluate_equated-evaluate_way-requires g t c = λ κs k.
             (
               tt,
               (
-                rw r.same (search rules),
+                rw r.same (rw (up.kept c.args.goal.predicate.node p.holds.predicate.within) c.requires.normal),
                 (
                   g.met.H.GoalHandler.ready_kept _ _ _ c.requires.ready up,
                   (
@@ -270,7 +298,7 @@ evaluate_way-returns-then-keeps_constraints g t c =
       told = λ s tells.
           let run = rw (o.mode, o.entries) at (r.told s tells) in
           inl (record {
-            outside = run.outside;
+            normal = run.normal;
             left = run.left;
             met = run.met;
             sides = run.sides;
@@ -318,7 +346,7 @@ evaluate_way-returns g t c =
       told = λ s tells.
           let run = rw (o.mode, o.entries) at (r.told s tells) in
           inl (record {
-            outside = run.outside;
+            normal = run.normal;
             left = run.left;
             met = run.met;
             sides = run.sides;
@@ -380,7 +408,7 @@ try_way-returns-in_err-certainty g t c =
           let h = ruling_since (λ ts. g.H.GoalHandler.handler ts c.args.handler.now) s in
           let refused : c.try_evaluate_goals.result ≡ Err EvalError.NoSolution = search rules in
           let no = stopped_refused u c.args.graph.now Kinds.Misc (e.refuted (Since-later (ran r.runs) s) (tell_grown h c.args.depth c.requires.search (ran r.runs) tells) refused) in
-          record { outside = c.requires.outside; left = goals_at b.nodes gs; met = content_of b.nodes u.entries; sides = begins.sides; refused = rw r.runs.goes.mode at no };
+          record { normal = c.requires.normal; left = goals_at b.nodes gs; met = content_of b.nodes u.entries; sides = begins.sides; refused = rw r.runs.goes.mode at no };
     }
 
 pub try_way-returns : goal.try_way-returns
@@ -405,7 +433,7 @@ try_way-returns g t c =
       told = λ s tells.
           let h = ruling_since (λ ts. g.H.GoalHandler.handler ts c.args.handler.now) s in
           record {
-            outside = c.requires.outside;
+            normal = c.requires.normal;
             left = goals_at b.nodes gs;
             met = content_of b.nodes u.entries;
             sides = begins.sides;
