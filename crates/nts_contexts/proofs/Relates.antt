@@ -79,6 +79,11 @@ adds_related a b t s u v m n env w x y items r p es ev h add f =
       behind = j;
     })
 
+-- .. and where the fault of the answer is kept, the goals are those that were added
+pub related_noted : (a b : Cx) (t u : Table) (m n k : EvalState) (env : ParamEnv) (w : Variance) (x y : NodeId) (r : Result (Unit {0}) EvalError) → k.nested_goals.items ≡ n.nested_goals.items → OnOk r (AddsRelated a b t u m n env w x y) → OnOk r (AddsRelated a b t u m k env w x y)
+related_noted a b t u m n k env w x y (Ok z) e h = record { added = h.added; related = h.related; behind = e ∙ h.behind }
+related_noted a b t u m n k env w x y (Err z) e h = tt
+
 pub adds_rigidly : {A : Type 0} (a b : Cx) (t s u v : Table) (m n : EvalState) (env : ParamEnv) (w : Variance) (x : AliasTerm) (y : NodeId) (items : A → List (GoalSource × Goal)) (r : Result A EvalError) (p : Result (Unit {0}) EvalError) → s.entries ≡ t.entries → OnOk p (v.entries ≡ u.entries)
     → IfOk r (λ z. AddsRigidly a b s.entries u.entries env w x y (items z)) → IfOk r (λ z. OnOk p (n.nested_goals.items ≡ m.nested_goals.items ++ items z)) → IfErr r (λ e. p ≡ Err e) → OnOk p (AddsRelatedRigidly a b t v m n env w x y)
 adds_rigidly a b t s u v m n env w x y items r p es ev h add f =

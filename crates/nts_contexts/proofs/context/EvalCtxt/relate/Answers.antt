@@ -1,5 +1,7 @@
-use Rattle.std.proofs.Common.{refl, rules}
+use Rattle.std.proofs.Common.{refl, ap, rules}
+use Rattle.nts_contexts.specs.declared.state.EvalState.{EvalState}
 use Rattle.nts_contexts.proofs.Frames.{keeps_refl, keeps_grown}
+use Rattle.nts_contexts.proofs.Relates.{related_noted}
 use Rattle.nts_contexts.proofs.context.EvalCtxt.relate.Goals as goal
 
 pub returns-in_err-check : goal.returns-in_err-check
@@ -27,7 +29,7 @@ returns g c =
     record {
       keeps = keeps_grown c.relate_and_push-related.new.state _ g.met.H.GoalHandler.ready_kept h refl refl refl refl r.runs c.note.ensures.fault r.posed c.in_ok-check.ensures.ok k.taint k.depth;
       heads = rw c.note.ensures.same r.heads;
-      related = search rules;
+      related = rw c.note.ensures.same (related_noted _ _ _ _ _ _ _ _ _ _ _ _ (ap (λ (z : EvalState). z.nested_goals.items) c.note.ensures.fault) r.related);
       equal = λ p. search rules;
       no = search rules;
       unequal = search rules;
