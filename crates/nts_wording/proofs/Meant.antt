@@ -1,5 +1,5 @@
 -- What the nodes of a line mean, while terms are made of them.
-use Rattle.std.proofs.Common.{◌≡◌, ℕ, zero, suc, ◌<◌, ◌≤◌, get_or, slice_get, List, [], ◌∷◌, ◌++◌, All, map, reverse, length, take, drop, Option, refl, sym, ap, ◌∙◌, arith}
+use Rattle.std.proofs.Common.{◌≡◌, ℕ, zero, suc, ◌<◌, ◌≤◌, get_or, slice_get, List, [], ◌∷◌, ◌++◌, All, map, reverse, length, take, drop, Option, Some, option_to_list, refl, sym, ap, ◌∙◌, arith}
 use Rattle.std.specs.Global.{Vec}
 use Rattle.std.proofs.lemmas.List.{reverse-append}
 use Rattle.std.proofs.lemmas.List.Elements.{All-head, All-tail}
@@ -68,6 +68,10 @@ takes ts mid old new args count l parts counted held e within tree us later =
           ∙ ap argument_list (sym (take_front count (map f args) (made_trees us new) long) ∙ ap (take count) (sym split)),
       sym (ap (drop count) split ∙ drop_front count (map f args) (made_trees us new) long),
     )
+
+-- what the last element is taken from begins with it, read from the end
+pub last_taken : {A : Type 0} (old new : List A) (o : Option A) (x : A) → old ≡ new ++ option_to_list o → o ≡ Some x → reverse old ≡ x ∷ reverse new
+last_taken old new o x h e = ap reverse (h ∙ ap (λ w. new ++ option_to_list w) e) ∙ reverse-append new (x ∷ [])
 
 -- what was made of the last nodes, here and in each later store
 abbrev pub IsMade : List Tree → LineVariables → List GenericArg → List Resolved → Vec GenericArg → List BoundClause → Type 0

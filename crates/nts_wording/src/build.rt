@@ -253,10 +253,28 @@ fn take_args(cx: &mut Cx, made: &mut Vec<GenericArg>, count: usize) -> Result<Ge
     ensures holds { IfOk result (λ a. HoldsArgs cx.new.nodes a) }
     ensures grows { Grows cx.old cx.new }
 {
+    if count == 1 {
+        return take_one(cx, made);
+    }
     let mut args = Vec::new(cx.alloc);
     'taking: while args.len() < count {
         args.push(made.pop().ok_or(MISFIT)?)?;
     }
+    if !are_held(cx, &args) {
+        return Err(MISFIT);
+    }
+    Ok(cx.mk_args(&args)?)
+}
+
+/// The list of the argument that was made last alone, as most lists are. No other one is made for it.
+#[tactic(auto, using(crate::proofs::Stores::growing))]
+fn take_one(cx: &mut Cx, made: &mut Vec<GenericArg>) -> Result<GenericArgs, Stop>
+    ensures takes { IfOk result (TakesArguments cx.new.nodes made.old made.new 1) }
+    ensures holds { IfOk result (λ a. HoldsArgs cx.new.nodes a) }
+    ensures grows { Grows cx.old cx.new }
+{
+    let arg = made.pop().ok_or(MISFIT)?;
+    let args = [arg];
     if !are_held(cx, &args) {
         return Err(MISFIT);
     }
