@@ -11,14 +11,14 @@ use Rattle.nts_model.specs.declared.labels.ListHead.TheVariants as list
 use Rattle.nts_model.specs.declared.labels.Label.TheVariants as label
 use Rattle.nts_model.specs.Terms.Trees.{Tree, empty, more, node, children, IsInRow}
 use Rattle.nts_model.specs.Derivations.Related.{arguments}
-use Rattle.nts_model.specs.Derivations.Rules.{Mode, coherence, analysis, borrowck, post_borrowck, post_analysis, erased, Application, related, normalization_goal}
+use Rattle.nts_model.specs.Derivations.Rules.{Mode, Application, related, normalization_goal}
 use Rattle.nts_model.specs.Derivations.Handlers.{certain, never}
 use Rattle.nts_delegate.specs.ClauseHandlers.{trait_goal, normalization_of, offers_by, clauses_in_store, alias_offers, alias_clauses_in_store, rigid_in, handler_of}
 use Rattle.nts_delegate.specs.Offers.{trait_of}
 use Rattle.nts_delegate.specs.declared.clauses.Clauses.{Clauses}
 use Rattle.nts_assembly.specs.Assumptions.{assumed_clause, assumed_offers, assuming}
 use Rattle.nts_assembly.specs.Assembling.{assembled}
-use Rattle.nts_assembly.specs.Projections.{assumed_projection, assumed_results, equating, outside}
+use Rattle.nts_assembly.specs.Projections.{assumed_projection, assumed_results, equating}
 
 -- a parameter, what a binder binds, and a position
 abbrev parameter : Tree
@@ -49,10 +49,10 @@ what_is_bound_is_a_position : (mode : Mode) (t : Tree) → assuming.offers mode 
     ≡ record { fresh = sort.Ty ∷ []; equations = related t (list_of position) ∷ []; constraints = []; hidden = []; goals = []; certainty = certain; accesses = never } ∷ []
 what_is_bound_is_a_position mode t = refl
 
--- an assembly offers what the environment says, first of traits and then, outside of coherence, of what aliases are, then what is
--- offered for aliases, and then the clauses of the goal's trait
+-- an assembly offers what the environment says, first of traits and then of what aliases are, then what is offered for aliases, and
+-- then the clauses of the goal's trait
 an_assembly_offers_in_order : (ts : List Tree) (h : Clauses) (mode : Mode) (e g : Tree) → (assembled (handler_of ts h)).offers mode e g
-    ≡ assumed_offers e (trait_of g) ++ (outside mode (assumed_results e (normalization_of g)) ++ (alias_offers (alias_clauses_in_store ts h) (rigid_in h) e g ++ offers_by (clauses_in_store ts h) e (trait_of g)))
+    ≡ assumed_offers e (trait_of g) ++ (assumed_results e (normalization_of g) ++ (alias_offers (alias_clauses_in_store ts h) (rigid_in h) e g ++ offers_by (clauses_in_store ts h) e (trait_of g)))
 an_assembly_offers_in_order ts h mode e g = refl
 
 -- 'the alias 0 of the parameter is a list of the parameter', and 'for<T> the alias 1 of a list of T is T'
@@ -63,61 +63,47 @@ results =
 abbrev normalizes : ℕ → Tree → Tree → Tree
 normalizes i t v = normalization_goal (alias_of.Ty i) (more t empty) v
 
--- what the environment says of its alias is offered, of another it is not, and in coherence nothing is
-its_alias_is_offered : (t v : Tree) → equating.offers post_analysis results (normalizes 0 t v)
+-- what the environment says of its alias is offered in every mode, and of another it is not
+its_alias_is_offered : (mode : Mode) (t v : Tree) → equating.offers mode results (normalizes 0 t v)
     ≡ record { fresh = []; equations = related t parameter ∷ related v (list_of parameter) ∷ []; constraints = []; hidden = []; goals = []; certainty = certain; accesses = never } ∷ []
-its_alias_is_offered t v = refl
+its_alias_is_offered mode t v = refl
 
-what_an_alias_binds_is_a_position : (t v : Tree) → equating.offers post_analysis results (normalizes 1 t v)
+what_an_alias_binds_is_a_position : (mode : Mode) (t v : Tree) → equating.offers mode results (normalizes 1 t v)
     ≡ record { fresh = sort.Ty ∷ []; equations = related t (list_of position) ∷ related v position ∷ []; constraints = []; hidden = []; goals = []; certainty = certain; accesses = never } ∷ []
-what_an_alias_binds_is_a_position t v = refl
+what_an_alias_binds_is_a_position mode t v = refl
 
 another_alias_is_not : (mode : Mode) (t v : Tree) → equating.offers mode results (normalizes 2 t v) ≡ []
-another_alias_is_not coherence t v = refl
-another_alias_is_not (analysis ns) t v = refl
-another_alias_is_not (borrowck ns) t v = refl
-another_alias_is_not (post_borrowck ns) t v = refl
-another_alias_is_not post_analysis t v = refl
-another_alias_is_not erased t v = refl
+another_alias_is_not mode t v = refl
 
-none_in_coherence : (e g : Tree) → equating.offers coherence e g ≡ []
-none_in_coherence e g = refl
-
--- an instance of what it says is a rule, but not in coherence
+-- an instance of what it says is a rule
 abbrev said_use : Application
 said_use =
     record { environment = results; conclusion = normalizes 0 parameter (list_of parameter); values = []; equations = related parameter parameter ∷ related (list_of parameter) (list_of parameter) ∷ []; goals = []; constraints = []; hidden = [] }
 
-is_said : equating.applies post_analysis said_use
-is_said = (
-  λ e. cc,
-  record {
-    rows = children results;
-    environment = refl;
-    sorts = empty;
-    listed = tt;
-    said = record { head = alias_of.Ty 0; parts = more parameter empty; term = list_of parameter };
-    said_row = tt;
-    among = inl refl;
-    values = tt;
-    asked = record { head = alias_of.Ty 0; parts = more parameter empty; term = list_of parameter };
-    row = tt;
-    same = refl;
-    as_many = refl;
-    conclusion = refl;
-    equations = refl;
-    no_goals = refl;
-    no_constraints = refl;
-    no_hidden = refl;
-  },
-)
+is_said : (mode : Mode) → equating.applies mode said_use
+is_said mode =
+    record {
+      rows = children results;
+      environment = refl;
+      sorts = empty;
+      listed = tt;
+      said = record { head = alias_of.Ty 0; parts = more parameter empty; term = list_of parameter };
+      said_row = tt;
+      among = inl refl;
+      values = tt;
+      asked = record { head = alias_of.Ty 0; parts = more parameter empty; term = list_of parameter };
+      row = tt;
+      same = refl;
+      as_many = refl;
+      conclusion = refl;
+      equations = refl;
+      no_goals = refl;
+      no_constraints = refl;
+      no_hidden = refl;
+    }
 
-is_not_in_coherence : (a : Application) → equating.applies coherence a → ⊥
-is_not_in_coherence a h = h.0 refl
-
--- .. nor where the environment says nothing
-nothing_is_said : (a : Application) → a.environment ≡ node (label.List list.Env) empty → equating.applies post_analysis a → ⊥
-nothing_is_said a e h =
-    let r = h.1 in
-    let none : r.rows ≡ empty = ap children (sym r.environment ∙ e) in
-    subst (IsInRow (assumed_projection r.sorts r.said)) none r.among
+-- .. and where the environment says nothing there is none
+nothing_is_said : (mode : Mode) (a : Application) → a.environment ≡ node (label.List list.Env) empty → equating.applies mode a → ⊥
+nothing_is_said mode a e h =
+    let none : h.rows ≡ empty = ap children (sym h.environment ∙ e) in
+    subst (IsInRow (assumed_projection h.sorts h.said)) none h.among

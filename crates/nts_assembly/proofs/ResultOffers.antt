@@ -1,5 +1,5 @@
 -- What the rows of an environment that say what aliases are offer, one by one, while the store grows.
-use Rattle.std.proofs.Common.{◌≡◌, inl, inr, ℕ, zero, suc, ◌+◌, ◌<◌, List, [], ◌∷◌, ◌++◌, Option, Some, None, refl, sym, ap, subst, ◌∙◌, arith, append_assoc, append-nil}
+use Rattle.std.proofs.Common.{◌≡◌, inl, ℕ, zero, suc, ◌+◌, ◌<◌, List, [], ◌∷◌, ◌++◌, Option, Some, None, refl, sym, ap, subst, ◌∙◌, arith, append_assoc, append-nil}
 use Rattle.std.proofs.lemmas.List.{map-append}
 use Rattle.nts_model.specs.Terms.Trees.{Tree, empty, more, node, children, kind_of, arguments, row_length, row_at, row_take, IsRow, IsInRow}
 use Rattle.nts_model.specs.Lists.{Among}
@@ -12,7 +12,6 @@ use Rattle.nts_candidates.specs.declared.data.Equation.{Equation}
 use Rattle.nts_candidates.specs.declared.data.CandidateData.{CandidateData}
 use Rattle.nts_candidates.specs.Offered.{candidate_of, candidates_of}
 use Rattle.nts_delegate.specs.AliasGoals.{normalizes_or_not}
-use Rattle.nts_delegate.specs.Both.{in_first, in_second}
 use Rattle.nts_delegate.specs.Candidates.{IsAskedIn, AreCandidates}
 use Rattle.nts_delegate.specs.ClauseHandlers.{AliasAsked, asked_row, normalization_of, projection_of}
 use Rattle.nts_delegate.specs.ClausesKept.{Holds-kept}
@@ -24,6 +23,7 @@ use Rattle.nts_assembly.specs.Assumptions.{rows_of, positioned, sorts_of_predica
 use Rattle.nts_assembly.specs.EnvironmentRows.{one_or_none}
 use Rattle.nts_assembly.specs.Projections.{fits_alias, result_if, results_over, assumed_results}
 use Rattle.nts_assembly.specs.EquatingLawful.{keep_shape, positioned_push}
+use Rattle.nts_assembly.specs.EquatingOffers.{among_results}
 use Rattle.nts_assembly.specs.ProjectionRows.{HoldsSaid, said_in, IsResultIf, IsResultOfRow}
 use Rattle.nts_assembly.proofs.RowOffers.{where_read, IsSomeOffer, where_some, offer_kept, in_row, rows_children, asked_kept, positioned_args}
 
@@ -65,13 +65,6 @@ asks_kept {a} {b} {g} {w} e t =
       holds = holds_kept w e t.holds;
       is = rw s.predicate (t.is ∙ ap Some (sym (said_kept w e t.holds)));
     }
-
-among_results : (w : AliasAsked) (p ps : Tree) (c : Candidate) → IsInRow p ps → Among (result_if w p (projection_of p)) c → Among (results_over w ps) c
-among_results w p empty c m a = absurd m
-among_results w p (more q ps) c (inl e) a =
-    in_first (result_if w q (projection_of q)) (results_over w ps) c (subst (λ z. Among (result_if w z (projection_of z)) c) e a)
-among_results w p (more q ps) c (inr m) a = in_second (result_if w q (projection_of q)) (results_over w ps) c (among_results w p ps c m a)
-among_results w p (node l t) c m a = absurd m
 
 row_results : (ts : List Tree) (g : Goal) (w : AliasIs) (p : Tree) (o : Option CandidateData) → AsksFor ts g w → IsInRow p (rows_of (tree_at ts g.param_env.node)) → IsResultOfRow ts (said_in ts w) p o → AreCandidates ts g (one_or_none o)
 row_results ts g w p None t i h = tt

@@ -7,7 +7,8 @@ use Rattle.nts_assembly.specs.Assumptions.{assuming}
 use Rattle.nts_assembly.specs.Assumed.{IsLawfulHandler-assuming}
 use Rattle.nts_assembly.specs.AssumedOffers.{RulesAreOffered-assuming, MeansSame-assuming}
 use Rattle.nts_assembly.specs.Projections.{equating}
-use Rattle.nts_assembly.specs.EquatingLawful.{IsLawfulHandler-equating, RulesAreOffered-equating, MeansSame-equating}
+use Rattle.nts_assembly.specs.EquatingLawful.{IsLawfulHandler-equating}
+use Rattle.nts_assembly.specs.EquatingOffers.{RulesAreOffered-equating, MeansSame-equating}
 
 -- what the environment says of traits, then what it says that aliases are, and then the other's rules
 abbrev pub assembled : Handler → Handler

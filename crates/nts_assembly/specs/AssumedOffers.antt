@@ -23,7 +23,7 @@ use Rattle.nts_assembly.specs.Positioned.{filled_positioned}
 use Rattle.nts_assembly.specs.Assuming.{IsTraitRow, clause_shape, row_positions, head_free, sorts-replace, equations-filled, positioned_row, closed_below}
 
 -- an environment whose instance has rows has rows
-record IsEnvOf (f : Leaf → Tree) (e rows : Tree) : Type 0 where
+pub record IsEnvOf (f : Leaf → Tree) (e rows : Tree) : Type 0 where
   pub own : Tree
   pub is : e ≡ node (label.List list.Env) own
   pub same : rows ≡ replace f own
@@ -40,7 +40,7 @@ env_is (node (label.List (list.Sort s)) ps) k = cc
 env_is (node (label.List list.Binder) ps) k = cc
 env_is e k = cc
 
-env_of : (f : Leaf → Tree) → KeepsKinds f → (e rows : Tree) → node (label.List list.Env) rows ≡ replace f e → IsEnvOf f e rows
+pub env_of : (f : Leaf → Tree) → KeepsKinds f → (e rows : Tree) → node (label.List list.Env) rows ≡ replace f e → IsEnvOf f e rows
 env_of f keeps e rows q =
     let kind : kind_of e ≡ Some environment = sym (kind_of-replace f keeps e) ∙ sym (ap kind_of q) in
     let own = env_is e kind in
@@ -48,14 +48,14 @@ env_of f keeps e rows q =
     record { own = own_rows e; is = own; same = cc }
 
 -- a row of an instance is the instance of a row
-record IsRowOf (f : Leaf → Tree) (t ps : Tree) : Type 0 where
+pub record IsRowOf (f : Leaf → Tree) (t ps : Tree) : Type 0 where
   pub predicate : Tree
   pub among : IsInRow predicate ps
   pub kind : kind_of predicate ≡ Some bound_predicate
   pub formed : IsFormed predicate
   pub same : t ≡ replace f predicate
 
-row_of_instance : (f : Leaf → Tree) (t ps : Tree) → AllFit (is bound_predicate) ps → IsFormed ps → IsInRow t (replace f ps) → IsRowOf f t ps
+pub row_of_instance : (f : Leaf → Tree) (t ps : Tree) → AllFit (is bound_predicate) ps → IsFormed ps → IsInRow t (replace f ps) → IsRowOf f t ps
 row_of_instance f t empty h k i = absurd i
 row_of_instance f t (more p ps) h k (inl e) = record { predicate = p; among = inl refl; kind = h.0; formed = k.0; same = e }
 row_of_instance f t (more p ps) h k (inr i) =
@@ -70,7 +70,7 @@ among_over i us p (more q ps) c (inl e) a =
 among_over i us p (more q ps) c (inr m) a = in_second (offer_if i us q (trait_of q)) (offers_over i us ps) c (among_over i us p ps c m a)
 among_over i us p (node l t) c m a = absurd m
 
-where_true : (w : Bool) (c : Candidate) → w ≡ true → Among (offer_where w c) c
+pub where_true : (w : Bool) (c : Candidate) → w ≡ true → Among (offer_where w c) c
 where_true true c h = inl refl
 where_true false c h = cc
 
@@ -92,7 +92,7 @@ record IsMetBy (e g : Tree) (ι : Instance) (a : Application) : Type 0 where
   pub among : Among (assumed_offers e (trait_of g)) candidate
   pub instance : IsInstanceFor candidate e g ι a
 
-same_use : (a b : Application) → a.environment ≡ b.environment → a.conclusion ≡ b.conclusion → a.values ≡ b.values → a.equations ≡ b.equations → a.goals ≡ b.goals → a.constraints ≡ b.constraints → a.hidden ≡ b.hidden → a ≡ b
+pub same_use : (a b : Application) → a.environment ≡ b.environment → a.conclusion ≡ b.conclusion → a.values ≡ b.values → a.equations ≡ b.equations → a.goals ≡ b.goals → a.constraints ≡ b.constraints → a.hidden ≡ b.hidden → a ≡ b
 same_use a b e c v q g x h =
     λ j. record { environment = e j; conclusion = c j; values = v j; equations = q j; goals = g j; constraints = x j; hidden = h j }
 
@@ -166,7 +166,7 @@ rule_is_offered : (e g : Tree) (ι : Instance) (a : Application) → IsAsked e g
 rule_is_offered e g ι a asked h in_env concludes = by_goal e g ι a asked h in_env concludes (trait_or_other e g asked)
 
 -- a rule that is an instance of an offered candidate is covered by it
-instance_covers : (h : Handler) (mode : Mode) (e g : Tree) (ι : Instance) (a : Application) (c : Candidate) → Among (h.offers mode e g) c → IsInstanceFor c e g ι a → Covers h mode e g ι a
+pub instance_covers : (h : Handler) (mode : Mode) (e g : Tree) (ι : Instance) (a : Application) (c : Candidate) → Among (h.offers mode e g) c → IsInstanceFor c e g ι a → Covers h mode e g ι a
 instance_covers h mode e g ι a c among inst =
     let f = filled_under ι.value a.values in
     record {

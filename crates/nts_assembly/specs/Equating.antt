@@ -12,7 +12,7 @@ use Rattle.nts_model.specs.Terms.Trees.{Tree, empty, more, node, row_length, IsR
 use Rattle.nts_model.specs.Derivations.Related.{pair}
 use Rattle.nts_model.specs.Lists.{Among}
 use Rattle.nts_model.specs.Terms.Substitutions.{leaf_tree, replace, Instance, instance_of, Renaming, rename, filled_under}
-use Rattle.nts_model.specs.Derivations.Rules.{Mode, coherence, analysis, borrowck, post_borrowck, post_analysis, erased, Application, normalization_goal}
+use Rattle.nts_model.specs.Derivations.Rules.{Application, normalization_goal}
 use Rattle.nts_model.specs.Derivations.Handlers.{Candidate, equation_by, AreValuesOf, use_of, IsInstanceFor, application_under, renamed_candidate, IsAsked, CandidatesCommute, InstancesAreRules}
 use Rattle.nts_delegate.specs.ClauseHandlers.{AliasAsked, asked_row, equations_of, normalization_of, projection_of}
 use Rattle.nts_delegate.specs.OwnTerms.{both_false, IsRow-replace, row_length-replace, filled_nowhere}
@@ -24,7 +24,7 @@ use Rattle.nts_delegate.specs.AliasRows.{push_row, push_lacks}
 use Rattle.nts_assembly.specs.Assumptions.{rows_of, sorts_in, positioned, valued, assumed_offer, offer_where}
 use Rattle.nts_assembly.specs.Positioned.{filled_positioned, replaced_valued}
 use Rattle.nts_assembly.specs.Assuming.{positioned_row, valued_row, in_row-replace, equations-replace, equations-filled, sorts-replace, listed-replace, IsSortList, sort_list_shape, renamed_where, offer_renamed, closed_below, row_positions, where_among, fits_both}
-use Rattle.nts_assembly.specs.Projections.{same_alias, fits_alias, result_if, results_over, assumed_results, assumed_projection, IsAssumedResult, outside, equating}
+use Rattle.nts_assembly.specs.Projections.{same_alias, fits_alias, result_if, results_over, assumed_results, assumed_projection, IsAssumedResult, equating}
 
 -- a predicate of an environment says what an alias is, or does not
 pub record IsProjectionRow (p : Tree) : Type 0 where
@@ -109,19 +109,11 @@ goal_renamed e g ρ f (inl t) = rw t.is (env_renamed ρ t.asked e t.formed.row f
 goal_renamed e g ρ f (inr o) =
     ap (assumed_results (rename ρ e)) (o.none_under (λ l. leaf_tree (ρ.to l))) ∙ sym (ap (λ x. map (renamed_candidate ρ) (assumed_results e x)) o.none)
 
-outside_renamed : (mode : Mode) (ρ : Renaming) (cs ds : List Candidate) → cs ≡ map (renamed_candidate ρ) ds → outside mode cs ≡ map (renamed_candidate ρ) (outside mode ds)
-outside_renamed coherence ρ cs ds e = refl
-outside_renamed (analysis ns) ρ cs ds e = e
-outside_renamed (borrowck ns) ρ cs ds e = e
-outside_renamed (post_borrowck ns) ρ cs ds e = e
-outside_renamed post_analysis ρ cs ds e = e
-outside_renamed erased ρ cs ds e = e
-
 pub commute : CandidatesCommute equating
-commute = record { renaming = λ mode e g ρ p h. outside_renamed mode ρ (assumed_results (rename ρ e) (normalization_of (rename ρ g))) (assumed_results e (normalization_of g)) (goal_renamed e g ρ h.formed.0 (normalizes_or_not e g h)) }
+commute = record { renaming = λ mode e g ρ p h. goal_renamed e g ρ h.formed.0 (normalizes_or_not e g h) }
 
 -- rules are closed under instances
-moved_rows : (f : Leaf → Tree) (vs : List Tree) (w r : AliasAsked) → IsRow w.parts → IsRow r.parts → equations_of (replace f (asked_row w)) (valued vs 0 (replace f (asked_row r))) ≡ equations_of (asked_row (asked_under f w)) (valued vs 0 (asked_row (asked_under f r)))
+pub moved_rows : (f : Leaf → Tree) (vs : List Tree) (w r : AliasAsked) → IsRow w.parts → IsRow r.parts → equations_of (replace f (asked_row w)) (valued vs 0 (replace f (asked_row r))) ≡ equations_of (asked_row (asked_under f w)) (valued vs 0 (asked_row (asked_under f r)))
 moved_rows f vs w r a b =
     ap (λ t. equations_of t (valued vs 0 (replace f (asked_row r)))) (row_moved f w a) ∙ ap (λ t. equations_of (asked_row (asked_under f w)) (valued vs 0 t)) (row_moved f r b)
 
@@ -266,20 +258,9 @@ used_shape e g c ι a h among inst (inl t) =
 used_shape e g c ι a h among inst (inr o) =
     let nothing : Among (assumed_results e None) c = subst (λ k. Among (assumed_results e k) c) o.none among in absurd nothing
 
--- what is offered in a mode is offered outside of coherence
-pub outside_among : (mode : Mode) (cs : List Candidate) (c : Candidate) → Among (outside mode cs) c → (mode ≡ coherence → ⊥) × Among cs c
-outside_among coherence cs c a = absurd a
-outside_among (analysis ns) cs c a = (λ e. cc, a)
-outside_among (borrowck ns) cs c a = (λ e. cc, a)
-outside_among (post_borrowck ns) cs c a = (λ e. cc, a)
-outside_among post_analysis cs c a = (λ e. cc, a)
-outside_among erased cs c a = (λ e. cc, a)
-
 pub rules : InstancesAreRules equating
 rules =
     record {
-      instances = λ mode e g c ι a h among sure inst. (
-          let o = outside_among mode (assumed_results e (normalization_of g)) c among in (o.0, used_shape e g c ι a h o.1 inst (normalizes_or_not e g h))
-          );
-      closed = λ mode a ι h. (h.0, rule_under a ι h.1);
+      instances = λ mode e g c ι a h among sure inst. used_shape e g c ι a h among inst (normalizes_or_not e g h);
+      closed = λ mode a ι h. rule_under a ι h;
     }

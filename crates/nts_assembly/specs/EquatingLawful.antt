@@ -1,4 +1,4 @@
--- What an environment says that aliases are is a lawful handler, whose rules in coherence are all offered: it has none there.
+-- What an environment says that aliases are is a lawful handler.
 use Rattle.std.proofs.Common.{◌≡◌, ◌⊎◌, inl, inr, ℕ, false, None, refl, ap, subst, sym}
 use Rattle.nts_model.specs.declared.labels.Leaf.{Leaf}
 use Rattle.nts_model.specs.declared.labels.ListHead.TheVariants as list
@@ -9,20 +9,18 @@ use Rattle.nts_model.specs.Lists.{Among}
 use Rattle.nts_model.specs.Terms.Substitutions.{Occurs}
 use Rattle.nts_model.specs.Derivations.Rules.{normalization_goal}
 use Rattle.nts_model.specs.Derivations.Handlers.{Candidate, IsAsked, IsOver, IsCandidateFor, RulesHaveSources, CandidatesKeep, IsLawfulHandler}
-use Rattle.nts_model.specs.Refutation.Coherence.{RulesAreOffered}
 use Rattle.nts_delegate.specs.ClauseHandlers.{AliasAsked, asked_row, normalization_of}
 use Rattle.nts_delegate.specs.Judging.{objects_judged, FastAnswersHold-never}
 use Rattle.nts_delegate.specs.HandlerLaws.{equations_over}
 use Rattle.nts_delegate.specs.AliasGoals.{IsNormalizing, IsNoNormalizing, normalizes_or_not, normalized_parts}
 use Rattle.nts_delegate.specs.AliasRows.{push_over}
-use Rattle.nts_delegate.specs.SameHandlers.{MeansSame}
 use Rattle.nts_assembly.specs.Assumptions.{rows_of, sorts_in, positioned, assumed_offer}
 use Rattle.nts_assembly.specs.Positioned.{positioned_leaves, positioned_closed, positioned_names}
 use Rattle.nts_assembly.specs.PositionedTerms.{positioned_formed, positioned_well_bound}
 use Rattle.nts_assembly.specs.Assuming.{positioned_row, row_positions}
 use Rattle.nts_assembly.specs.Assumed.{row_leaves, row_closed, row_well_bound}
 use Rattle.nts_assembly.specs.Projections.{results_over, assumed_results, assumed_projection, equating}
-use Rattle.nts_assembly.specs.Equating.{IsProjectionRow, projection_shape, said_free, result_offered_in, result_for, none_offered, outside_among, commute, rules}
+use Rattle.nts_assembly.specs.Equating.{IsProjectionRow, projection_shape, said_free, result_offered_in, result_for, none_offered, commute, rules}
 
 pub positioned_push : (c : ℕ) (t v : Tree) → IsRow t → positioned c (row_push t v) ≡ row_push (positioned c t) (positioned c v)
 positioned_push c empty v h = refl
@@ -101,18 +99,11 @@ keep_shape e g c asked (inr o) among =
     let nothing : Among (assumed_results e None) c = subst (λ k. Among (assumed_results e k) c) o.none among in absurd nothing
 
 keep : CandidatesKeep equating
-keep = record { each = λ mode e g c asked among. keep_shape e g c asked (normalizes_or_not e g asked) (outside_among mode (assumed_results e (normalization_of g)) c among).1 }
+keep = record { each = λ mode e g c asked among. keep_shape e g c asked (normalizes_or_not e g asked) among }
 
 -- a rule has no premises
 sources : RulesHaveSources equating
-sources = record { each = λ mode a q m among. absurd (subst (λ ps. Among ps q) m.1.no_goals among) }
+sources = record { each = λ mode a q m among. absurd (subst (λ ps. Among ps q) m.no_goals among) }
 
 pub IsLawfulHandler-equating : IsLawfulHandler equating
 IsLawfulHandler-equating = record { commute = commute; rules = rules; sources = sources; keep = keep; judges = objects_judged equating (λ i. false) refl; at_once = FastAnswersHold-never equating (λ e g c x. x) }
-
-pub RulesAreOffered-equating : RulesAreOffered equating
-RulesAreOffered-equating = record { covered = λ e g ι a asked h env con. absurd (h.0 refl) }
-
--- it means the same in each store
-pub MeansSame-equating : MeansSame equating equating
-MeansSame-equating = record { applies = λ mode a. (λ x. x, λ x. x); offers = λ mode e g. refl; is_coinductive = λ i. refl; judges = refl; leaks = λ c u l. l; at_once = λ e g c x. x }

@@ -6,6 +6,7 @@ pub mod Assumptions
 pub mod EnvironmentRows
 pub mod Equating
 pub mod EquatingLawful
+pub mod EquatingOffers
 pub mod Positioned
 pub mod PositionedTerms
 pub mod ProjectionRows

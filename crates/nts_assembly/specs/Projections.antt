@@ -7,7 +7,7 @@ use Rattle.nts_model.specs.declared.labels.ListHead.TheVariants as list
 use Rattle.nts_model.specs.declared.labels.Label.TheVariants as label
 use Rattle.nts_model.specs.Terms.Trees.{Tree, empty, more, node, row_length, IsRow, IsInRow, AllFit, is, one_sort}
 use Rattle.nts_model.specs.Derivations.Related.{pair}
-use Rattle.nts_model.specs.Derivations.Rules.{Mode, coherence, Application, normalization_goal}
+use Rattle.nts_model.specs.Derivations.Rules.{Application, normalization_goal}
 use Rattle.nts_model.specs.Derivations.Handlers.{Candidate, AreValuesOf, Handler, never_leaks, never_at_once, no_judgements}
 use Rattle.nts_delegate.specs.ClauseHandlers.{AliasAsked, asked_row, equations_of, normalization_of, projection_of}
 use Rattle.nts_assembly.specs.Assumptions.{rows_of, sorts_in, sorts_of_predicate, valued, assumed_offer, offer_where}
@@ -60,17 +60,12 @@ pub record IsAssumedResult (a : Application) : Type 0 where
   pub no_constraints : a.constraints ≡ []
   pub no_hidden : a.hidden ≡ []
 
--- in coherence nothing, and these in every other mode
-abbrev pub outside : Mode → List Candidate → List Candidate
-outside coherence cs = []
-outside mode cs = cs
-
--- what an environment says that aliases are, as a handler: in coherence it has no rules
+-- what an environment says that aliases are, as a handler: the same in every mode
 abbrev pub equating : Handler
 equating =
     record {
-      applies = λ mode a. (mode ≡ coherence → ⊥) × IsAssumedResult a;
-      offers = λ mode e g. outside mode (assumed_results e (normalization_of g));
+      applies = λ mode a. IsAssumedResult a;
+      offers = λ mode e g. assumed_results e (normalization_of g);
       is_coinductive = λ i. false;
       leaks = never_leaks;
       judges = no_judgements;

@@ -12,9 +12,9 @@ use nts_terms::{
     UniverseIndex,
 };
 
-/// A handler by which the environment of a goal is assumed: it offers the environment's clauses of the goal's trait, or, outside
-/// of coherence, those that say what the alias is that the goal normalizes, and then what the other handler offers, as a list of
-/// clauses. All else is as in that one.
+/// A handler by which the environment of a goal is assumed: it offers the environment's clauses of the goal's trait, or those that
+/// say what the alias is that the goal normalizes, and then what the other handler offers, as a list of clauses. All else is as in
+/// that one.
 #[derive(Drop)]
 pub struct Assembly<C: GoalHandler + Drop> {
     rules: Both<Assumptions, Both<AssumedProjections, C>>,

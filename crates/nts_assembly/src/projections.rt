@@ -1,15 +1,12 @@
 //! What an environment says that aliases are, as a handler.
-ghost use Rattle.std.specs.Prelude.{◌≡◌, true, false, List, IfOk, IfSome, IsOkUnless, option_map};
-ghost use Rattle.nts_model.specs.Derivations.Rules.{coherence};
-ghost use Rattle.nts_model.specs.Derivations.Handlers.{Candidate};
+ghost use Rattle.std.specs.Prelude.{◌≡◌, true, List, IfOk, IfSome, IsOkUnless, option_map};
 ghost use Rattle.nts_model.specs.Terms.Trees.{Tree, children, row_length, IsRow};
 ghost use Rattle.nts_store.specs.Growth.{tree_at};
 ghost use Rattle.nts_terms.specs.Handles.{HoldsArgs, HoldsPredicate, alias_head};
 ghost use Rattle.nts_terms.specs.Kinds.{tree_of_clause, tree_of_statement, ClauseFits, StatementFits};
-ghost use Rattle.nts_terms.specs.Modes.{mode_of};
 ghost use Rattle.nts_terms.specs.Rest.{Grows};
 ghost use Rattle.nts_delegate.specs.ClauseHandlers.{normalization_read, projection_read};
-ghost use Rattle.nts_assembly.specs.Projections.{same_alias, fits_alias, outside};
+ghost use Rattle.nts_assembly.specs.Projections.{same_alias, fits_alias};
 ghost use Rattle.nts_assembly.specs.ProjectionRows.{HoldsSaid, said_in, IsResultOfRow};
 
 use crate::assumptions::{add_offer, position, position_args, sorts_of};
@@ -23,8 +20,8 @@ use nts_terms::{
 };
 
 /// Offers, for a goal that normalizes an alias, a candidate for each clause in the goal's environment that says what this
-/// alias is, in order: fresh variables for what the clause binds, its arguments and its term, and no goals. In coherence it
-/// offers nothing. It has no other rules.
+/// alias is, in order: fresh variables for what the clause binds, its arguments and its term, and no goals. It has no other
+/// rules.
 #[derive(Clone, Copy)]
 pub struct AssumedProjections;
 
@@ -159,24 +156,10 @@ fn result_of_row(
     }))
 }
 
-/// Whether impls are tested for overlap.
-fn is_coherence(mode: &TypingMode) -> bool
-    ensures inside { result ≡ true → mode_of mode.now ≡ coherence }
-    ensures outside { result ≡ false → (cs : List Candidate) → outside (mode_of mode.now) cs ≡ cs }
-{
-    match mode {
-        TypingMode::Coherence => true,
-        TypingMode::Analysis { .. } => false,
-        TypingMode::Borrowck { .. } => false,
-        TypingMode::PostBorrowckAnalysis { .. } => false,
-        TypingMode::PostAnalysis => false,
-        TypingMode::ErasedNotCoherence => false,
-    }
-}
-
 impl GoalHandler for AssumedProjections {
     ghost use Rattle.nts_assembly.specs.Projections.{equating};
-    ghost use Rattle.nts_assembly.specs.EquatingLawful.{IsLawfulHandler-equating, RulesAreOffered-equating, MeansSame-equating};
+    ghost use Rattle.nts_assembly.specs.EquatingLawful.{IsLawfulHandler-equating};
+    ghost use Rattle.nts_assembly.specs.EquatingOffers.{RulesAreOffered-equating, MeansSame-equating};
 
     ghost ready = { λ ts s. Unit {0} };
 
@@ -188,10 +171,8 @@ impl GoalHandler for AssumedProjections {
         mode: &TypingMode,
         goal: Goal,
     ) -> Result<Vec<CandidateData>, Fault> {
+        let _ = mode;
         let mut found = Vec::new(cx.alloc);
-        if is_coherence(mode) {
-            return Ok(found);
-        }
         let Some(asked) = normalization_said(goal.predicate.kind(cx).value) else {
             return Ok(found);
         };

@@ -27,8 +27,7 @@ use Rattle.nts_table.specs.Tables.{Table}
 use Rattle.nts_table.specs.nts_unify.specs.Reading.{content_of}
 use Rattle.nts_candidates.specs.declared.reasons.Reason.{Reason}
 use Rattle.nts_assembly.specs.Assumptions.{assumed_offers}
-use Rattle.nts_assembly.specs.Projections.{assumed_results, outside}
-use Rattle.nts_terms.specs.Modes.{mode_of}
+use Rattle.nts_assembly.specs.Projections.{assumed_results}
 use Rattle.nts_delegate.specs.ClauseHandlers.{normalization_of, offer_by, takes_all, offers_by, clause_tree, clauses_in_store, alias_offers, alias_clauses_in_store, rigid_in}
 use Rattle.nts_delegate.specs.Clauses.{clauses_of}
 use Rattle.nts_delegate.specs.Offers.{trait_of, trait_read}
@@ -131,7 +130,7 @@ each_reason cx h mode t g fit declared (of_candidates b u o opens asked each) =
     let p = trait_of (tree_at b o.predicate.node) in
     let of_aliases = alias_offers (alias_clauses_in_store cx.nodes h) (rigid_in h) e (tree_at b o.predicate.node) in
     let count : HasCount cx.declarations p = subst (λ x. HasCount cx.declarations (trait_of x)) (sym opens.predicate) (goal_count cx.declarations (content_of cx.nodes t.entries) (tree_at cx.nodes g.predicate.node) declared) in
-    let of_results = outside (mode_of mode) (assumed_results e (normalization_of (tree_at b o.predicate.node))) in
+    let of_results = assumed_results e (normalization_of (tree_at b o.predicate.node)) in
     of_candidates b u o opens asked (explained_by (ap (λ xs. assumed_offers e p ++ (of_results ++ (of_aliases ++ xs))) (each_offered cx h e p fit count)) each)
 each_reason cx h mode t g fit declared (is_unasked b u o opens unasked) = is_unasked b u o opens unasked
 each_reason cx h mode t g fit declared (is_unopened k) = is_unopened k
@@ -170,6 +169,6 @@ clause_reasons ts h mode t g n k x about count (of_candidates b u o opens asked 
     let offers = offers_of_each (clauses_in_store ts h) e in
     let many : length (offers (trait_of p)) ≡ k =
     ap (λ z. length (offers z)) here ∙ length-map (map (clause_tree ts) (clauses_of h n)) (offer_by e (children y.0)) ∙ length-map (clauses_of h n) (clause_tree ts) ∙ count in
-    inr (enough _ (assumed_offers e (trait_of p)) (outside (mode_of mode) (assumed_results e (normalization_of p))) (alias_offers (alias_clauses_in_store ts h) (rigid_in h) e p) (offers (trait_of p)) k (explained_length each) many)
+    inr (enough _ (assumed_offers e (trait_of p)) (assumed_results e (normalization_of p)) (alias_offers (alias_clauses_in_store ts h) (rigid_in h) e p) (offers (trait_of p)) k (explained_length each) many)
 clause_reasons ts h mode t g n k x about count (is_unasked b u o opens unasked) = inl refl
 clause_reasons ts h mode t g n k x about count (is_unopened c) = inl refl

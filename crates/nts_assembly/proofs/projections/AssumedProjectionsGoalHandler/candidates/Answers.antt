@@ -1,8 +1,6 @@
-use Rattle.std.proofs.Common.{◌≡◌, ◌<◌, ap, sym, ◌∙◌, arith}
+use Rattle.std.proofs.Common.{◌≡◌, ◌<◌, ap, arith}
 use Rattle.nts_model.specs.Terms.Trees.{children, row_length, IsRow}
 use Rattle.nts_store.specs.Growth.{tree_at}
-use Rattle.nts_delegate.specs.ClauseHandlers.{normalization_of}
-use Rattle.nts_assembly.specs.Projections.{assumed_results}
 use Rattle.nts_assembly.proofs.ResultOffers.{next_result, all_results}
 use Rattle.nts_assembly.proofs.RowOffers.{grows_on}
 use Rattle.nts_assembly.proofs.projections.AssumedProjectionsGoalHandler.candidates.Goals as goal
@@ -23,5 +21,4 @@ returns-clause-offered c =
     let env = c.loop-i.invariant.grows.extends.kept c.args.goal.param_env.node c.requires.goal.holds.env.within in
     let all : c.loop-i.i ≡ row_length (children (tree_at c.loop-i.cx.nodes c.args.goal.param_env.node)) = omega (arith, c.len-i-end.ensures.count, c.loop-i-test.false, c.loop-i.auto.i-end, ap (λ t. row_length (children t)) env) in
     let row : IsRow (children (tree_at c.loop-i.cx.nodes c.args.goal.param_env.node)) = rw env c.len-i-end.ensures.row in
-    let found = all_results c.loop-i.cx.nodes c.args.goal c.in-Some.asked c.loop-i.i c.loop-i.found.items c.loop-i.invariant.results row all in
-    found ∙ sym (c.is_coherence.ensures.outside c.if-is_coherence.false (assumed_results (tree_at c.loop-i.cx.nodes c.args.goal.param_env.node) (normalization_of (tree_at c.loop-i.cx.nodes c.args.goal.predicate.node))))
+    all_results c.loop-i.cx.nodes c.args.goal c.in-Some.asked c.loop-i.i c.loop-i.found.items c.loop-i.invariant.results row all
