@@ -192,7 +192,8 @@ module _ (Q : Queries) (h : Handler) (law : IsLawfulHandler h) (mode : Mode) (ti
     never_fails (is_unrelated outside n) = n.some is_plain
     never_fails {k} (is_refused ps met (inl (values, in_one, begun, same)) refused) = no_refusal Q h mode met k values y.goals no_goals (subst (λ z. RefusesOne Q h mode k z met) same refused)
     never_fails (is_refused ps met (inr (inl (outside, begun))) refused) = begun.some is_plain
-    never_fails (is_refused ps met (inr (inr (inside, begun))) refused) = begun.some is_plain
+    never_fails (is_refused ps met (inr (inr (inside, inl begun))) refused) = begun.some is_plain
+    never_fails (is_refused ps met (inr (inr (inside, inr begun))) refused) = (let b = begun.begun in b.some is_plain)
     never_fails (is_leaky ps met found begun reach leaks) = tight found 0 leaks
 
     -- and what it replies is so in the caller's world
@@ -206,7 +207,8 @@ module _ (Q : Queries) (h : Handler) (law : IsLawfulHandler h) (mode : Mode) (ti
 
     fact_replies : (v : Verdict) → Replies Q h mode q e' g' (map leaf_tree u) y v → ContainsMerged v.response ts
     fact_replies v (replies ps met found (inr (inl (outside, begun))) reach is says) = absurd (begun.some is_plain)
-    fact_replies v (replies ps met found (inr (inr (inside, begun))) reach is says) = absurd (begun.some is_plain)
+    fact_replies v (replies ps met found (inr (inr (inside, inl begun))) reach is says) = absurd (begun.some is_plain)
+    fact_replies v (replies ps met found (inr (inr (inside, inr begun))) reach is says) = absurd (let b = begun.begun in b.some is_plain)
     fact_replies v (replies ps met found (inl (values, in_one, begun, are)) reach is says) =
         let n = entered in
         let b = begun_there q n.world n.solves e' g' first.knows y over us fit one named equal proper values met begun (map leaf_tree u) ts (tried_knows (canonical_of i).kinds q e' g' (map leaf_tree u) is_tried) n.images in

@@ -18,7 +18,7 @@ use Rattle.nts_table.specs.Tables.{Table}
 use Rattle.nts_theory.proofs.Refutation.Tight.{tight_respects}
 use Rattle.nts_theory.proofs.Examples.InputExamples.{no_clauses as nowhere}
 use Rattle.nts_theory.proofs.Examples.ProofExamples.{auto_list}
-use Rattle.nts_theory.proofs.Examples.RefutationExamples.{without_rules, list_type, fact_only, all_true, all_true_is_fair, auto_of}
+use Rattle.nts_theory.proofs.Examples.RefutationExamples.{without_rules, list_type, fact_only, all_but_erased, all_but_erased_is_fair, auto_of}
 use Rattle.nts_theory.proofs.Examples.SolutionExamples.{other_type, other_is_unsolved, fact_is_solved, same_table_keeps, list_is_lost, variable, question, answer, list_contains_each, other_does_not_contain, question_is_solved, question_without_rules}
 use Rattle.nts_evaluation.specs.Solutions.{IsCoherence, HasNoSolutionUnder, KeepsSolutionsUnder, ContainsEach, HasNoInputSolution, IsAllGood}
 
@@ -66,14 +66,14 @@ list_contains : ContainsEach fact_only question (answer list_type)
 list_contains truth fair respects v = list_contains_each v truth
 
 other_lacks : ContainsEach fact_only question (answer other_type) → ⊥
-other_lacks h = other_does_not_contain (λ i. []) all_true (h all_true all_true_is_fair (tight_respects fact_only (λ c u l. l) all_true) (λ i. []))
+other_lacks h = other_does_not_contain (λ i. []) all_but_erased (h all_but_erased all_but_erased_is_fair (tight_respects fact_only (λ c u l. l) all_but_erased) (λ i. []))
 
 -- without rules the query has no solution; with the fact it has one
 unruled_has_none : HasNoInputSolution without_rules question
 unruled_has_none truth fair respects v = question_without_rules v truth
 
 ruled_has_one : HasNoInputSolution fact_only question → ⊥
-ruled_has_one h = question_is_solved (λ i. []) all_true (h all_true all_true_is_fair (tight_respects fact_only (λ c u l. l) all_true) (λ i. []))
+ruled_has_one h = question_is_solved (λ i. []) all_but_erased (h all_but_erased all_but_erased_is_fair (tight_respects fact_only (λ c u l. l) all_but_erased) (λ i. []))
 
 -- a yes is all good, and a doubt for an opaque type is not
 abbrev doubt : OpaqueTypesJank → Certainty

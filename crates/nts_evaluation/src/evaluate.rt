@@ -14,7 +14,7 @@ ghost use Rattle.nts_table.specs.Tables.{IsTable};
 ghost use Rattle.nts_meaning.specs.Meant.{rules_of};
 ghost use Rattle.nts_candidates.specs.Offered.{candidate_of};
 ghost use Rattle.nts_terms.specs.Modes.{mode_of};
-ghost use Rattle.nts_theory.specs.RelatingCandidates.{IsCutIn, HasPlainEquations};
+ghost use Rattle.nts_theory.specs.RelatingCandidates.{IsCutIn, HasPlainEquations, MayRelate};
 ghost use Rattle.nts_theory.specs.Telling.{IsOpenToNormalizing};
 ghost use Rattle.nts_store.specs.Growth.{tree_at};
 ghost use Rattle.nts_evaluation.specs.Promises.{AnswersQuery, AsksGoal, AsksAdded, EndsRound, AnswersGoal, AnswersOwn, AnswersSubtype, AnswersAlias, AnswersEquated, AnswersWay, TriesWay, TriesEach, TriesOne, RunsOne, StepsGoals, StepsOnce};
@@ -31,12 +31,13 @@ use nts_response::CanonicalResponse;
 use nts_search::{CurrentGoalKind, SearchGraph, round_is_last, step_kind_for_source};
 use nts_store::EvalError;
 use nts_table::InferCtxt;
-use nts_terms::{Cx, GenericArg, Goal, TypingMode};
+use nts_terms::{Cx, GenericArg, Goal};
 use nts_trying::{
     AvailableDepth, EquatedAlias, GoalRow, Judged, OwnGoal, Step, Trial, TypePair, answer_outlives,
     begin_in_part, begin_relating, check_leaks, enter_forall, equate, fast_answer, goal_kind,
-    goal_row, is_open_to_normalizing, is_open_to_offers, judge, keep_response, merge_responses,
-    needs_relating, record_constraints, relate_types, relevant_candidates, way_goals,
+    goal_row, is_open_to_normalizing, is_open_to_offers, judge, keep_response, may_ask, may_relate,
+    merge_responses, needs_relating, record_constraints, relate_types, relevant_candidates,
+    way_goals,
 };
 
 /// Evaluates a goal in a query of its own: its leaves give place to positions, the search answers the query, and the response is
@@ -561,8 +562,8 @@ fn run_candidate<H: GoalHandler>(
     check_leaks(table, cx, handler, tried)
 }
 
-/// Tries a candidate: its equations, its region constraints, and its goals in steps. One of whose equations relate aliases is in doubt in
-/// coherence, unless its other equations can't be met.
+/// Tries a candidate: its equations, its region constraints, and its goals in steps. In coherence one of whose equations relate aliases is
+/// in doubt if aliases stand on both sides of one, unless its other equations can't be met.
 #[cycle(evaluate)]
 fn try_candidate<H: GoalHandler>(
     table: &mut InferCtxt,
@@ -581,7 +582,7 @@ fn try_candidate<H: GoalHandler>(
         table.old table.new goal candidate.now depth result }
 {
     if needs_relating(cx, goal, candidate) {
-        if matches!(table.typing_mode(), TypingMode::Coherence) {
+        if !may_relate(cx, table.typing_mode(), goal, candidate) {
             return begin_in_part(table, cx, goal, candidate);
         }
         return try_relating(table, cx, handler, graph, goal, candidate, depth);
@@ -613,7 +614,8 @@ fn try_candidate<H: GoalHandler>(
     Ok(candidate.certainty.and(certainty))
 }
 
-/// Tries a candidate of whose equations some relate aliases: relating these leaves goals, which are asked with its own in steps.
+/// Tries a candidate of whose equations some relate aliases: relating these leaves goals, which are asked with its own in steps. In
+/// coherence it is in doubt if one of them says something else than that an alias is equal to a term without aliases.
 #[cycle(evaluate)]
 fn try_relating<H: GoalHandler>(
     table: &mut InferCtxt,
@@ -627,15 +629,19 @@ fn try_relating<H: GoalHandler>(
     requires posed { IsPosed cx.old.nodes table.old goal }
     requires ready { H.ready cx.old.nodes handler.now }
     requires candidate { IsCandidate cx.old.nodes goal candidate.now }
-    requires outside { IsCutIn (mode_of table.old.mode) }
+    requires may { MayRelate (mode_of table.old.mode) (candidate_of cx.old.nodes candidate.now) }
     requires some { HasPlainEquations (candidate_of cx.old.nodes candidate.now) → ⊥ }
     requires search { IsSearch cx.old graph.old (depth) }
     ensures { RunsOne (rules_of H.ready H.handler handler.now) cx.old cx.new graph.old graph.new
         table.old table.new goal candidate.now depth result }
 {
     let kind = goal_kind(cx, handler, goal);
-    let mut goals = begin_relating(table, cx, goal, candidate)?;
+    let begun = begin_relating(table, cx, goal, candidate)?;
     cx.terms_are_formed();
+    if !may_ask(table.typing_mode(), begun.equalities) {
+        return Ok(Certainty::AMBIGUOUS);
+    }
+    let mut goals = begun.goals;
     let mut last_steps = 0;
     let certainty = try_evaluate_goals(
         table,

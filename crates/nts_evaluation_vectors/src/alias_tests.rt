@@ -184,23 +184,25 @@ fn a_rule_for_an_alias_serves_its_type(rt: HostRuntime) {
     plays(&rt, rt.alloc(), TypingMode::PostAnalysis, PAIR, PARTS);
 }
 
-/// In coherence such a rule leaves each type in doubt, since what the alias is may decide.
+/// In coherence such a rule serves what the alias normalizes to, and nothing else. A type for which no clause says so is refused.
 #[test]
-fn a_rule_for_an_alias_is_in_doubt_in_coherence(rt: HostRuntime) {
+fn a_rule_for_an_alias_serves_its_type_in_coherence(rt: HostRuntime) {
     const NORMS: &[Norm] = &[Norm(&[], "byte", "word", None)];
-    const FOR_ALIAS: &[Rule] = &[Rule(&[], Of(0, &["alias"]), None)];
-    const FOR_WORD: &[Rule] = &[Rule(&[], Of(0, &["word"]), None)];
-    const DOUBTED: &[Asked] = &[
-        Goal(Plain(Of(0, &["word"])), Is(DOUBT, HasChanged::No)),
-        Goal(Plain(Of(0, &["byte"])), Is(DOUBT, HasChanged::No)),
+    const TO_ALIAS: &[Norm] = &[
+        Norm(&[], "byte", "word", None),
+        Norm(&[], "word", "alias", None),
     ];
+    const FOR_ALIAS: &[Rule] = &[Rule(&[], Of(0, &["alias"]), None)];
+    const FOR_OTHER: &[Rule] = &[Rule(&[], Of(0, &["other"]), None)];
+    const FOR_WORD: &[Rule] = &[Rule(&[], Of(0, &["word"]), None)];
     const KNOWN: &[Asked] = &[
         Goal(Plain(Of(0, &["word"])), Is(YES, HasChanged::No)),
         Goal(Plain(Of(0, &["byte"])), Refused),
     ];
     const PARTS: &[Part] = &[
-        Part(By::Aliases(NORMS), FOR_ALIAS, DOUBTED),
+        Part(By::Aliases(NORMS), FOR_ALIAS, KNOWN),
         Part(By::Aliases(NORMS), FOR_WORD, KNOWN),
+        Part(By::Aliases(TO_ALIAS), FOR_OTHER, KNOWN),
     ];
     plays(&rt, rt.alloc(), TypingMode::Coherence, PAIR, PARTS);
 }
@@ -237,13 +239,19 @@ fn what_an_alias_is_equal_to_is_answered_in_coherence(rt: HostRuntime) {
         Goal(Alias(Equal("y", "alias")), Is(YES, HasChanged::Yes)),
         Resolves("y", "word"),
     ];
-    const TO_ALIAS: &[Norm] = &[Norm(&[], "word", "alias", None)];
-    const DOUBTED: &[Asked] = &[Goal(Alias(Projects("word", "word")), Is(DOUBT, HasChanged::No))];
+    const TO_ALIAS: &[Norm] = &[
+        Norm(&[], "byte", "word", None),
+        Norm(&[], "word", "alias", None),
+    ];
+    const THROUGH: &[Asked] = &[
+        Goal(Alias(Projects("word", "word")), Is(YES, HasChanged::No)),
+        Goal(Alias(Projects("word", "byte")), Refused),
+    ];
     const CONDITION: &[Norm] = &[Norm(&[], "byte", "word", Some(Of(0, &["byte"])))];
     const FAILED: &[Asked] = &[Goal(Alias(Projects("byte", "word")), Refused)];
     const PARTS: &[Part] = &[
         Part(By::Aliases(NORMS), &[], ASKED),
-        Part(By::Aliases(TO_ALIAS), &[], DOUBTED),
+        Part(By::Aliases(TO_ALIAS), &[], THROUGH),
         Part(By::Aliases(CONDITION), &[], FAILED),
     ];
     plays(&rt, rt.alloc(), TypingMode::Coherence, GIVEN, PARTS);

@@ -40,6 +40,8 @@ pub enum Wanted {
     Alias(Aliased),
     /// That a trait holds, where just that is assumed that the alias of the number 0 of the first type is the second one.
     WhereIs(Name, Name, Of),
+    /// A statement about an alias, where just that is assumed of the alias of the first type and the second one.
+    AliasWhereIs(Name, Name, Aliased),
     /// That the third term outlives the fourth one, where just that is assumed of the alias of the first type and the second one.
     OutlivesWhereIs(Name, Name, Name, Name),
 }
@@ -208,7 +210,9 @@ fn env_wanted(
 {
     match wanted {
         Wanted::Assumed(_) => Ok(cx.mk_env(&[predicate])?),
-        Wanted::WhereIs(of, term, _) | Wanted::OutlivesWhereIs(of, term, _, _) => {
+        Wanted::WhereIs(of, term, _)
+        | Wanted::AliasWhereIs(of, term, _)
+        | Wanted::OutlivesWhereIs(of, term, _, _) => {
             let assumed = alias_statement(cx, names, Aliased::Projects(of, term))?;
             Ok(cx.mk_env(&[assumed])?)
         }
@@ -231,7 +235,7 @@ fn predicate_wanted(cx: &mut Cx, names: &Names, wanted: Wanted) -> Result<Predic
         Wanted::Subtype(a, b) => types_of(cx, names, false, a, b),
         Wanted::Coerce(a, b) => types_of(cx, names, true, a, b),
         Wanted::Says(own) => own_of(cx, names, own),
-        Wanted::Alias(says) => alias_statement(cx, names, says),
+        Wanted::Alias(says) | Wanted::AliasWhereIs(_, _, says) => alias_statement(cx, names, says),
     }
 }
 

@@ -1,8 +1,9 @@
 //! What is assumed of aliases.
+use crate::aliases::Aliased::{Equal, Projects};
 use crate::asking::Answer::{Is, Refused};
-use crate::asking::Asked::{self, Constraints, Goal};
+use crate::asking::Asked::{self, Constraints, Goal, Resolves};
 use crate::asking::DOUBT;
-use crate::asking::Wanted::{OutlivesWhereIs, Plain, WhereIs};
+use crate::asking::Wanted::{Alias, AliasWhereIs, OutlivesWhereIs, Plain, WhereIs};
 use crate::steps::Given::{self, Let, Trait};
 use crate::steps::{By, Of, Part, Rule, plays};
 use nts_certainty::{Certainty, HasChanged};
@@ -19,6 +20,7 @@ const GIVEN: &[Given] = &[
     Let("alias", Make::AliasOf("byte")),
     Let("other", Make::AliasOf("word")),
     Let("r", Make::Var(VariableKind::Region)),
+    Let("x", Make::Var(VariableKind::Ty)),
 ];
 
 const RULES: &[Rule] = &[Rule(&[], Of(0, &["word"]), None)];
@@ -47,13 +49,60 @@ fn what_an_alias_is_assumed_to_be_it_is(rt: HostRuntime) {
     plays(&rt, rt.alloc(), TypingMode::PostAnalysis, GIVEN, PARTS);
 }
 
-/// In coherence an alias is in doubt, whatever it is assumed to be. Goals without aliases are answered.
+/// In coherence an alias is equal to what it is assumed to be, and to nothing else. Clauses alone take no notice of it.
 #[test]
-fn in_coherence_what_an_alias_is_assumed_to_be_is_no_rule(rt: HostRuntime) {
+fn what_an_alias_is_assumed_to_be_it_is_in_coherence(rt: HostRuntime) {
+    const IGNORED: &[Asked] = &[Goal(
+        AliasWhereIs("byte", "word", Projects("byte", "word")),
+        Refused,
+    )];
+    const ASKED: &[Asked] = &[
+        Goal(
+            AliasWhereIs("byte", "word", Projects("byte", "word")),
+            Is(YES, HasChanged::No),
+        ),
+        Goal(
+            AliasWhereIs("byte", "word", Projects("byte", "byte")),
+            Refused,
+        ),
+        Goal(
+            AliasWhereIs("byte", "word", Projects("word", "word")),
+            Refused,
+        ),
+        Goal(
+            AliasWhereIs("byte", "word", Equal("alias", "word")),
+            Is(YES, HasChanged::No),
+        ),
+        Goal(
+            AliasWhereIs("byte", "word", Equal("alias", "byte")),
+            Refused,
+        ),
+        Goal(Alias(Equal("alias", "word")), Refused),
+        Goal(
+            AliasWhereIs("byte", "word", Projects("byte", "x")),
+            Is(YES, HasChanged::Yes),
+        ),
+        Resolves("x", "word"),
+    ];
+    const PARTS: &[Part] = &[
+        Part(By::Clauses, &[], IGNORED),
+        Part(By::Assembly, &[], ASKED),
+    ];
+    plays(&rt, rt.alloc(), TypingMode::Coherence, GIVEN, PARTS);
+}
+
+/// In coherence it is in doubt whether a trait holds of an alias, whatever the alias is assumed to be. Goals without aliases are answered,
+/// and so is what an alias is that is assumed to be an alias.
+#[test]
+fn traits_of_aliases_are_in_doubt_in_coherence(rt: HostRuntime) {
     const ASKED: &[Asked] = &[
         Goal(
             WhereIs("byte", "word", Of(0, &["alias"])),
             Is(DOUBT, HasChanged::No),
+        ),
+        Goal(
+            AliasWhereIs("byte", "other", Projects("byte", "word")),
+            Refused,
         ),
         Goal(WhereIs("byte", "word", Of(0, &["byte"])), Refused),
         Goal(

@@ -29,6 +29,8 @@ pub mod Apart
 pub mod PlainParts
 pub mod PlainTerms
 pub mod Begun
+pub mod OneSided
+pub mod Turned
 pub mod Witnesses
 pub mod Refuted
 pub mod Tight

@@ -35,7 +35,7 @@ use Rattle.nts_theory.specs.Affirming.{SaysAffirmed, IsDenied, HasOwnWay}
 use Rattle.nts_theory.specs.Outliving.{IsOutlives}
 use Rattle.nts_theory.specs.Subtyping.{LeavesPremises, IsNoSubtype}
 use Rattle.nts_theory.specs.Aliasing.{IsPlainEquality, NormalizesSides, NormalizesLesser, IsLesserGoal}
-use Rattle.nts_theory.specs.RelatingCandidates.{IsCutIn, HasPlainEquations, plain_part, Begins, IsUnrelated, HasTypesApart}
+use Rattle.nts_theory.specs.RelatingCandidates.{IsCutIn, HasPlainEquations, plain_part, Begins, MayRelate, IsUnrelated, HasTypesApart}
 use Rattle.nts_model.specs.Answers.Responses.{Findings, AreFindings, Response, response_of, IsResponseTo, Applies, RefusesResponse}
 
 -- a response, and whether it is certain
@@ -146,10 +146,10 @@ pub record IsTraitGoal (e g : Tree) : Type 0 where
   pub no_alias : any_label is_alias (pair e g) ≡ false
 
 -- a goal that a handler's rules may say, in whose terms no alias stands: that a trait holds, or that an alias with arguments is a term, or
--- normalizes to one
-pub record IsPlainClauseGoal (e g : Tree) : Type 0 where
+-- normalizes to one. What is assumed may have aliases
+pub record IsPlainClauseGoal (g : Tree) : Type 0 where
   pub statement : IsHandlers (statement_of g)
-  pub no_alias : any_label is_alias (pair e g) ≡ false
+  pub no_alias : any_label is_alias g ≡ false
 
 -- what is said of an alias and a term: that the one is the other, or that the one normalizes to the other
 abbrev pub IsAliasStatement : Tree → Type 0
@@ -163,8 +163,8 @@ IsAliasGoal e g = IsAliasStatement (statement_of g) ⊎ IsTraitStatement (statem
 
 -- where goals about aliases are answered by what is offered for them: outside of coherence, and there where no alias stands in their
 -- terms
-abbrev pub IsOpenToOffers : Mode → Tree → Tree → Type 0
-IsOpenToOffers mode e g = IsCutIn mode ⊎ IsPlainClauseGoal e g
+abbrev pub IsOpenToOffers : Mode → Tree → Type 0
+IsOpenToOffers mode g = IsCutIn mode ⊎ IsPlainClauseGoal g
 
 -- where goals that an alias is equal to a term are answered by what it normalizes to: outside of coherence, and there where they bind
 -- nothing, and no alias stands in the term
@@ -237,7 +237,7 @@ mutual
     tells_own : {ks : List PositionKind} {c : Content} {e g : Tree} {qs : List Tree} {v : Verdict} (x : Candidate) → IsOwnWayIn h c e g x → HasPlainEquations x → Replies Q h mode (entered_table c g) e (opened_in c g) qs x v → Tells Q h mode ks c e g qs v
     tells_subtype : {ks : List PositionKind} {c : Content} {e g : Tree} {qs : List Tree} {v : Verdict} (ps : List Premise) (met found : Content) → IsCutIn mode → LeavesPremises Q.variances (entered_table c g) met e (opened_in c g) ps
         → Reaches Q h mode ps met found → IsFound (entered_table c g) e (opened_in c g) found → SaysOf (entered_table c g) found qs v → Tells Q h mode ks c e g qs v
-    tells_alias : {ks : List PositionKind} {c : Content} {e g : Tree} {qs : List Tree} {v : Verdict} (vs : List Verdict) → IsOpenToOffers mode e (opened_in c g) → IsAliasReady c e g → Outcomes Q h mode (entered_table c g) e (opened_in c g) qs (h.offers mode e (opened_in c g)) vs → StandsForAll qs vs v
+    tells_alias : {ks : List PositionKind} {c : Content} {e g : Tree} {qs : List Tree} {v : Verdict} (vs : List Verdict) → IsOpenToOffers mode (opened_in c g) → IsAliasReady c e g → Outcomes Q h mode (entered_table c g) e (opened_in c g) qs (h.offers mode e (opened_in c g)) vs → StandsForAll qs vs v
         → Tells Q h mode ks c e g qs v
     tells_normal : {ks : List PositionKind} {c : Content} {e g : Tree} {qs : List Tree} {v : Verdict} (ps : List Premise) (met found : Content) → IsOpenToNormalizing mode g → IsWay Q h mode (entered_table c g) met e (opened_in c g) ps → Reaches Q h mode ps met found
         → IsFound (entered_table c g) e (opened_in c g) found → SaysOf (entered_table c g) found qs v → Tells Q h mode ks c e g qs v
@@ -251,7 +251,7 @@ mutual
     own_fails : {c : Content} {e g : Tree} {qs : List Tree} (x : Candidate) → IsOwnWayIn h c e g x → HasPlainEquations x → Fails Q h mode (kind_for h (opened_in c g)) (entered_table c g) e x → Refutes Q h mode c e g qs
     is_no_subtype : {c : Content} {e g : Tree} {qs : List Tree} → IsCutIn mode → IsNoSubtype Q.variances (entered_table c g) (opened_in c g) → Refutes Q h mode c e g qs
     subtype_refused : {c : Content} {e g : Tree} {qs : List Tree} (ps : List Premise) (met : Content) → IsCutIn mode → LeavesPremises Q.variances (entered_table c g) met e (opened_in c g) ps → RefusesOne Q h mode other_goal ps met → Refutes Q h mode c e g qs
-    aliases_fail : {c : Content} {e g : Tree} {qs : List Tree} → IsOpenToOffers mode e (opened_in c g) → IsAliasReady c e g → Outcomes Q h mode (entered_table c g) e (opened_in c g) qs (h.offers mode e (opened_in c g)) [] → Refutes Q h mode c e g qs
+    aliases_fail : {c : Content} {e g : Tree} {qs : List Tree} → IsOpenToOffers mode (opened_in c g) → IsAliasReady c e g → Outcomes Q h mode (entered_table c g) e (opened_in c g) qs (h.offers mode e (opened_in c g)) [] → Refutes Q h mode c e g qs
     normal_refused : {c : Content} {e g : Tree} {qs : List Tree} (ps : List Premise) (met : Content) → IsOpenToNormalizing mode g → NormalizesSides (entered_table c g) met e (opened_in c g) ps → RefusesOne Q h mode other_goal ps met
         → ((a b : Tree) → IsLesserGoal (opened_in c g) a b → LesserRefused Q h mode (entered_table c g) e (opened_in c g)) → Refutes Q h mode c e g qs
 
@@ -277,12 +277,13 @@ mutual
         → Replies Q h mode c e g qs x v
 
   -- a candidate for a goal of that kind, in that environment, fails: no world of the table meets what is made equal of it at once; or it
-  -- equates types that are apart; or, outside of coherence, no settled solution relates its equations with aliases; or a goal is refused;
+  -- equates types that are apart; or no settled solution relates its equations with aliases, which counts in coherence where each of them
+  -- has a side without aliases; or a goal is refused;
   -- or the handler's leak check says of what was found that nothing which the root names meets its region constraints
   pub data Fails (Q : Queries) (h : Handler) (mode : Mode) : GoalKind → Content → Tree → Candidate → Type 0 where
     is_unmet : {k : GoalKind} {c : Content} {e : Tree} {x : Candidate} → (IsCandidateMet c (plain_part x) → ⊥) → Fails Q h mode k c e x
     has_types_apart : {k : GoalKind} {c : Content} {e : Tree} {x : Candidate} → HasTypesApart x → Fails Q h mode k c e x
-    is_unrelated : {k : GoalKind} {c : Content} {e : Tree} {x : Candidate} → IsCutIn mode → IsUnrelated Q.variances c x → Fails Q h mode k c e x
+    is_unrelated : {k : GoalKind} {c : Content} {e : Tree} {x : Candidate} → MayRelate mode x → IsUnrelated Q.variances c x → Fails Q h mode k c e x
     is_refused : {k : GoalKind} {c : Content} {e : Tree} {x : Candidate} (ps : List Premise) (met : Content) → Begins Q.variances mode c e x met ps → RefusesOne Q h mode k ps met → Fails Q h mode k c e x
     is_leaky : {k : GoalKind} {c : Content} {e : Tree} {x : Candidate} (ps : List Premise) (met found : Content) → Begins Q.variances mode c e x met ps → Reaches Q h mode ps met found → h.leaks found 0 → Fails Q h mode k c e x
 

@@ -1,18 +1,21 @@
 -- A candidate that was begun by relating: what its parts left, put together; and that it holds where all goals that are left are proved.
 use Rattle.std.proofs.Common.{◌≡◌, ◌⊎◌, inl, inr, ⊎_elim, zero, suc, Bool, List, [], ◌∷◌, ◌++◌, map, refl, sym, ap, ◌∙◌, subst, arith}
-use Rattle.std.proofs.lemmas.List.Elements.{All-append}
+use Rattle.std.proofs.lemmas.List.Elements.{All-append, All-weaker}
 use Rattle.std.proofs.lemmas.List.{map-append}
 use Rattle.nts_model.specs.declared.labels.Label.{Label}
 use Rattle.nts_model.specs.declared.labels.Variance.TheVariants as variance
 use Rattle.nts_model.specs.Lists.{Among}
 use Rattle.nts_model.specs.Terms.Trees.{Tree, any_argument, AllFit}
 use Rattle.nts_model.specs.Tables.Contents.{Content}
+use Rattle.nts_model.specs.Tables.Holding.{Continues}
+use Rattle.nts_model.specs.Tables.Resolving.{Knows}
+use Rattle.std.specs.Prelude.{All, true}
 use Rattle.nts_model.specs.Tables.Passing.{TreePasses, TablePasses, BringsOnly}
 use Rattle.nts_model.specs.Derivations.Rules.{relating}
 use Rattle.nts_model.specs.Refutation.Choosing.{Freshens, EquatesAll, IsCandidateMet}
 use Rattle.nts_model.specs.Refutation.Forcing.{AddsAll}
 use Rattle.nts_variance_model.specs.Variances.Relations.{Relating as Pair}
-use Rattle.nts_theory.specs.RelatingCandidates.{HasPlainEquations, IsBegun, IsBegunByRelating, IsUnrelated, plain_part, plain_equations, aliased_equations, pairs_with, goals_with}
+use Rattle.nts_theory.specs.RelatingCandidates.{HasPlainEquations, IsBegun, IsBegunByRelating, AreEqualities, IsUnrelated, plain_part, plain_equations, aliased_equations, pairs_with, goals_with}
 use Rattle.nts_variance_model.specs.Variances.Leaving.{Refuses}
 use Rattle.nts_theory.specs.Subtyping.{LeavesGoals}
 use Rattle.nts_store.specs.declared.nodes.NodeId.{NodeId}
@@ -20,6 +23,7 @@ use Rattle.nts_store.specs.Growth.{tree_at, trees_at, Extends}
 use Rattle.nts_store.specs.Kept.{map-kept, AllIn-kept}
 use Rattle.nts_store.proofs.Growing.{Extends-trans, trees_at-extended}
 use Rattle.nts_certainty.specs.declared.sources.GoalSource.{GoalSource}
+use Rattle.nts_certainty.specs.declared.sources.GoalSource.TheVariants as source
 use Rattle.nts_terms.specs.declared.cx.Cx.{Cx}
 use Rattle.nts_terms.specs.declared.handles.Goal.{Goal}
 use Rattle.nts_terms.specs.Handles.{HoldsGoal}
@@ -30,12 +34,14 @@ use Rattle.nts_unify.specs.Reading.{content_of}
 use Rattle.nts_unify.specs.Lawful.{content_of-extended}
 use Rattle.nts_table.specs.Tables.{Table}
 use Rattle.nts_variance.specs.Terms.{pairs_at}
+use Rattle.nts_variance.specs.declared.along.Relating.{Relating as RelatingNodes}
+use Rattle.nts_terms.specs.declared.handles.ParamEnv.{ParamEnv}
 use Rattle.nts_candidates.specs.declared.data.Equation.{Equation as EquationData}
 use Rattle.nts_candidates.specs.declared.data.CandidateData.{CandidateData}
 use Rattle.nts_candidates.specs.Offered.{equation_of, constraint_of, premise_of, candidate_of}
 use Rattle.nts_response.specs.Forms.{premise_at}
 use Rattle.nts_delegate.specs.Candidates.{IsCandidate, AreEquations}
-use Rattle.nts_solver_relating.specs.Sides.{related_pairs}
+use Rattle.nts_solver_relating.specs.Sides.{related_pairs, AreGoalsOfPairs}
 use Rattle.nts_meaning.specs.Evaluation.{Runs, IsPosed, AreValues, asked_terms, goals_at}
 use Rattle.nts_meaning.specs.Running.{EquatesEach, Constrains}
 use Rattle.nts_meaning.proofs.Evaluating.{IsPosed-later, AreValues-later, Runs-trans}
@@ -43,6 +49,9 @@ use Rattle.nts_meaning.proofs.Running.{Equates-later, constraints-kept}
 use Rattle.nts_trying.specs.Adding.{AreAdded}
 use Rattle.nts_trying.specs.Choices.{EquatesCandidate}
 use Rattle.nts_trying.specs.Stepping.{ArePosed, terms_of}
+use Rattle.nts_trying.specs.Subtyping.{with_source}
+use Rattle.nts_trying.proofs.Stepping.{all_among}
+use Rattle.nts_theory.specs.Aliasing.{IsPlainEquality}
 use Rattle.nts_trying.specs.Relating.{aliased_data, plain_data, right_node, left_list, right_list, IsPlainPart, RelatesEquations, RunsByRelating, BeginsByRelating}
 use Rattle.nts_trying.proofs.Adding.{posed_kept, goals_kept}
 use Rattle.nts_trying.proofs.Ran.{added_is}
@@ -69,6 +78,35 @@ asked_pass : (P : Label → Bool) (a b : List Tree) (g : Goal) → Extends a b �
 asked_pass P a b g e h m x (inl q) = rw (q, e.kept g.param_env.node h.env.within) (m _ (inl refl))
 asked_pass P a b g e h m x (inr (inl q)) = rw (q, e.kept g.predicate.node h.predicate.within) (m _ (inr (inl refl)))
 asked_pass P a b g e h m x (inr (inr q)) = absurd q
+
+-- the goals that relating left
+goal_among : (ts : List Tree) (gs : List Goal) (p : Tree) → Among (map (λ (h : Goal). tree_at ts h.predicate.node) gs) p → (g : Goal) × Among gs g × (p ≡ tree_at ts g.predicate.node)
+goal_among ts [] p i = absurd i
+goal_among ts (g ∷ gs) p (inl e) = (g, inl refl, e)
+goal_among ts (g ∷ gs) p (inr i) = (let r = goal_among ts gs p i in (r.0, inr r.1, r.2))
+
+sourced_among : (gs : List Goal) (g : Goal) → Among gs g → Among (with_source gs) (source.TypeRelating, g)
+sourced_among [] g i = absurd i
+sourced_among (x ∷ gs) g (inl e) = inl (ap (λ (z : Goal). (source.TypeRelating, z)) e)
+sourced_among (x ∷ gs) g (inr i) = inr (sourced_among gs g i)
+
+equality_among : (ts : List Tree) (gs : List Goal) → All (λ (z : GoalSource × Goal). IsPlainEquality (tree_at ts z.1.predicate.node)) (with_source gs) → (p : Tree) → Among (map (λ (h : Goal). tree_at ts h.predicate.node) gs) p → IsPlainEquality p
+equality_among ts gs h p i =
+    let of = goal_among ts gs p i in
+    subst IsPlainEquality (sym of.2) (all_among (λ (z : GoalSource × Goal). IsPlainEquality (tree_at ts z.1.predicate.node)) (with_source gs) (source.TypeRelating, of.0) h (sourced_among gs of.0 of.1))
+
+known_among : (ts : List Tree) (c : Content) (env : ParamEnv) (ps : List RelatingNodes) (gs : List Goal) → AreGoalsOfPairs ts c env ps gs → (p : Tree) → Among (map (λ (h : Goal). tree_at ts h.predicate.node) gs) p → Knows c p
+known_among ts c env [] [] h p i = absurd i
+known_among ts c env [] (g ∷ gs) h p i = absurd h
+known_among ts c env (q ∷ ps) [] h p i = absurd i
+known_among ts c env (q ∷ ps) (g ∷ gs) h p (inl e) = subst (Knows c) (sym e) h.0.knows
+known_among ts c env (q ∷ ps) (g ∷ gs) h p (inr i) = known_among ts c env ps gs h.1 p i
+
+pub related_hold : {a b : Cx} {t u : Table} {g : Goal} {vs : List NodeId} {qs : List EquationData} {gs : List (GoalSource × Goal)} → RelatesEquations a b t u g vs qs gs → IsPosed b.nodes u g → All (λ (z : GoalSource × Goal). HoldsGoal b.nodes z.1) gs
+related_hold {b = b} {u = u} {g = g} {gs = gs} relates there =
+    let r = relates.related in
+    let posed : ArePosed b.nodes u gs = subst (ArePosed b.nodes u) (sym relates.are) (posed_each b.nodes u g.param_env r.pairs relates.goals there.table there.holds.env there.knows.env r.goals) in
+    All-weaker (λ (z : GoalSource × Goal). IsPosed b.nodes u z.1) (λ (z : GoalSource × Goal). HoldsGoal b.nodes z.1) (λ z p. p.holds) gs posed
 
 -- what no world meets of the plain part
 pub plain_unmet : {a : List Tree} {c : Content} (g : Goal) (x y : CandidateData) → IsPlainPart a g x y → (IsCandidateMet c (candidate_of a y) → ⊥) → IsCandidateMet c (plain_part (candidate_of a x)) → ⊥
@@ -148,7 +186,8 @@ module _ {a e at : Cx} {t v held : Table} (g : Goal) (x y : CandidateData) (valu
       (constrains : Constrains a.nodes at.nodes held values x.region_constraints.items)
       (records : BringsOnly (asked_terms e.nodes g) (content_of e.nodes v.entries) (content_of at.nodes held.entries))
       (relates : RelatesEquations at f held u g values (aliased_data a.nodes x.equations.items) related)
-      (added : AreAdded f.nodes b.nodes u g values x.goals.items own) where
+      (added : AreAdded f.nodes b.nodes u g values x.goals.items own)
+      (flag : Bool) (says : flag ≡ true → All (λ (z : GoalSource × Goal). IsPlainEquality (tree_at f.nodes z.1.predicate.node)) related) where
     abbrev env : Tree
     env = tree_at a.nodes g.param_env.node
 
@@ -214,6 +253,15 @@ module _ {a e at : Cx} {t v held : Table} (g : Goal) (x y : CandidateData) (valu
           premises = map-append (premise_at b.nodes) related own ∙ (λ i. related_goals i ++ own_goals i);
         }
 
+    they_are_equalities : flag ≡ true → AreEqualities (content_of b.nodes u.entries) goals
+    they_are_equalities e =
+        let r = relates.related in
+        let each = subst (All (λ (z : GoalSource × Goal). IsPlainEquality (tree_at f.nodes z.1.predicate.node))) relates.are (says e) in
+        record {
+          equal = λ p i. equality_among f.nodes relates.goals each p i;
+          knows = λ p i. subst (λ z. Knows z p) (sym met_is) (known_among f.nodes met g.param_env r.pairs relates.goals r.goals p i);
+        }
+
     left_labels : {d : Content} → BringsOnly (terms_of b.nodes (related ++ own)) (content_of b.nodes u.entries) d → BringsOnly (asked_terms a.nodes g) (content_of a.nodes t.entries) d
     left_labels h =
         record {
@@ -256,5 +304,14 @@ module _ {a e at : Cx} {t v held : Table} (g : Goal) (x y : CandidateData) (valu
           are = refl;
         }
 
-    pub begun_by : BeginsByRelating a b t u g x (related ++ own)
-    begun_by = record { posed = left_posed; begun = was_begun; labels = left_labels; runs = ran_by }
+    pub begun_by : BeginsByRelating a b t u g x (related ++ own) flag
+    unfolding was_begun
+    begun_by =
+        record {
+          posed = left_posed;
+          begun = was_begun;
+          labels = left_labels;
+          runs = ran_by;
+          continues = subst (Continues before) (sym met_is) third.goes.continues;
+          equalities = they_are_equalities;
+        }

@@ -103,8 +103,8 @@ each_pair declared c ks vs ts (x ∷ qs) kl kr fl fr h q (inl e) =
 each_pair declared c ks vs ts (x ∷ qs) kl kr fl fr h q (inr i) = each_pair declared c ks vs ts qs kl.1 kr.1 fl.1 fr.1 h.1 q i
 
 -- where all goals that are left are proved
-module _ (m : Meaning) (mode : Mode) (A : List Assumed) {a b : Cx} {t u : Table} (g : Goal) (x : CandidateData) (left : List (GoalSource × Goal)) (z : List Tree) (w : Table) (posed : IsPosed a.nodes t g) (candidate : IsCandidate a.nodes g x) (some : HasPlainEquations (candidate_of a.nodes x) → ⊥)
-    (begun : BeginsByRelating a b t u g x left) (variances : m.variances ≡ variances_in a.declarations) (goes : Goes b.nodes z u w) (formed : AreFormed z)
+module _ (m : Meaning) (mode : Mode) (A : List Assumed) {a b : Cx} {t u : Table} (g : Goal) (x : CandidateData) (left : List (GoalSource × Goal)) (equal : Bool) (z : List Tree) (w : Table) (posed : IsPosed a.nodes t g) (candidate : IsCandidate a.nodes g x) (some : HasPlainEquations (candidate_of a.nodes x) → ⊥)
+    (begun : BeginsByRelating a b t u g x left equal) (variances : m.variances ≡ variances_in a.declarations) (goes : Goes b.nodes z u w) (formed : AreFormed z)
     (proved : (y : GoalSource × Goal) → Among left y → StaysProved m mode (passed (step_kind (goal_kind m (tree_at a.nodes g.predicate.node)) (source_of y.0)) A) z w y.1) where
   abbrev ran : RunsByRelating a b t u g x left
   ran = begun.runs

@@ -21,6 +21,7 @@ pub mod SubtypeGoals
 pub mod AliasGoals
 pub mod PlainEqualities
 pub mod NormalGoals
+pub mod OneSidedEquations
 pub mod LesserGoals
 pub mod NormalizedGoals
 pub mod RelatedAliases

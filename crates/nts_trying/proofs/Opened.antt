@@ -168,8 +168,8 @@ module _ {a b : List Tree} {t u : Table} {g o : Goal} (posed : IsPosed a t g) (o
         proper = subst IsProperContent opens.table (proper_content w);
       }
 
-  opened_offers : (mode : TypingMode) → IsOpenToOffers (mode_of mode) (tree_at b o.param_env.node) (tree_at b o.predicate.node) → IsOpenToOffers (mode_of mode) (tree_at a g.param_env.node) (opened_in before (tree_at a g.predicate.node))
-  opened_offers mode x = subst (λ z. IsOpenToOffers (mode_of mode) (tree_at a g.param_env.node) z) opens.predicate (subst (λ z. IsOpenToOffers (mode_of mode) z (tree_at b o.predicate.node)) environment_same x)
+  opened_offers : (mode : TypingMode) → IsOpenToOffers (mode_of mode) (tree_at b o.predicate.node) → IsOpenToOffers (mode_of mode) (opened_in before (tree_at a g.predicate.node))
+  opened_offers mode x = subst (IsOpenToOffers (mode_of mode)) opens.predicate x
 
   pub alias_told : AreFormed b → IsPosed b u o → AliasGoalIn b o → (h : Ruling) (mode : TypingMode) (qs : List GenericArg) (e : List Tree) (r : Canonical Response) → trees_of b qs ≡ trees_of a qs → IsAliasTold h mode b u o qs e r → IsTold h mode a t g qs e r
   alias_told formed p says h mode qs e r same (inl x) ks =

@@ -1,18 +1,29 @@
 -- Candidates whose equations have aliases: which equations these are, and which candidates are begun at once.
-use Rattle.std.proofs.Common.{◌≡◌, inl, inr, true, false, ℕ, List, [], ◌∷◌, refl}
+use Rattle.std.proofs.Common.{◌≡◌, inl, inr, true, false, ℕ, List, [], ◌∷◌, length, refl, sym, subst, arith}
 use Rattle.nts_model.specs.declared.labels.Variance.{Variance}
+use Rattle.nts_model.specs.declared.labels.AliasHead.{AliasHead}
 use Rattle.nts_model.specs.declared.labels.AliasHead.TheVariants as alias_of
+use Rattle.nts_model.specs.declared.labels.AliasRelationDirection.TheVariants as direction
+use Rattle.nts_model.specs.declared.labels.Variance.TheVariants as variance
 use Rattle.nts_model.specs.declared.labels.TyHead.TheVariants as ty
 use Rattle.nts_model.specs.declared.labels.UintTy.TheVariants as uint
 use Rattle.nts_model.specs.declared.labels.Label.TheVariants as label
 use Rattle.nts_model.specs.Terms.Trees.{Tree, empty, node}
 use Rattle.nts_model.specs.Tables.Contents.{Content}
-use Rattle.nts_model.specs.Derivations.Related.{alias}
+use Rattle.nts_model.specs.Tables.Resolving.{Knows, IsSound}
+use Rattle.nts_model.specs.Derivations.Related.{alias, IsAlias}
 use Rattle.nts_model.specs.Derivations.Sequents.{Premise}
-use Rattle.nts_model.specs.Derivations.Rules.{Mode, coherence, related, alike}
+use Rattle.nts_model.specs.Derivations.Rules.{Mode, coherence, related, alike, relating}
 use Rattle.nts_model.specs.Derivations.Handlers.{Candidate}
+use Rattle.nts_model.proofs.Tables.Instances.{Agrees-refl}
+use Rattle.nts_model.proofs.Terms.Scoping.{closed_listed}
+use Rattle.nts_model.proofs.Tables.Held.{Continues-refl}
+use Rattle.nts_variance_model.specs.Variances.Relations.{Relating}
+use Rattle.nts_variance_model.proofs.Variances.AnsweredGoals.{answered_relates}
 use Rattle.nts_theory.specs.Affirming.{plain_way}
-use Rattle.nts_theory.specs.RelatingCandidates.{relates_aliases, HasPlainEquations, IsBegunByRelating, IsUnrelated, Begins, AreTypesApart, HasTypesApart, IsBegunInPart}
+use Rattle.nts_theory.specs.Subtyping.{LeavesGoals}
+use Rattle.nts_theory.specs.Aliasing.{alias_relation, IsPlainEquality}
+use Rattle.nts_theory.specs.RelatingCandidates.{relates_aliases, HasPlainEquations, HasOnePlainSide, HasOneSidedEquations, MayRelate, AreEqualities, IsBegunByRelating, IsBegunByOneSide, IsUnrelated, pairs_with, aliased_equations, Begins, AreTypesApart, HasTypesApart, IsBegunInPart}
 use Rattle.nts_decisions.specs.Deciding.{HasNoAliases}
 
 abbrev byte : Tree
@@ -70,6 +81,103 @@ word_is_not_related declared c met e ps b = b.some word_rule_is_plain
 
 word_is_not_unrelated : (declared : ℕ → List Variance) (c : Content) → IsUnrelated declared c for_word → ⊥
 word_is_not_unrelated declared c u = u.some word_rule_is_plain
+
+-- the rule for an alias has a side without aliases, and one that equates two aliases has none
+item_rule_has_one_side : HasOneSidedEquations for_item
+item_rule_has_one_side q i = elim i [ inl e ↦ subst HasOnePlainSide (sym e) (inr refl) | inr j ↦ absurd j ]
+
+items_have_two : HasOneSidedEquations (plain_way (related item item ∷ []) []) → ⊥
+items_have_two h = elim (h (related item item) (inl refl)) [ inl e ↦ cc e | inr e ↦ cc e ]
+
+-- .. so in coherence the first may be refused since its equation can't be related, and the second never is
+item_rule_may_be_related : MayRelate coherence for_item
+item_rule_may_be_related = inr item_rule_has_one_side
+
+items_may_not : MayRelate coherence (plain_way (related item item ∷ []) []) → ⊥
+items_may_not m = elim m [ inl cut ↦ cut refl | inr sides ↦ items_have_two sides ]
+
+-- no goals say each that an alias is equal to a term, and one of a trait says no such thing
+none_are_equalities : (c : Content) → AreEqualities c []
+none_are_equalities c = record { equal = λ g i. absurd i; knows = λ g i. absurd i }
+
+word_is_no_equality : (c : Content) → AreEqualities c (word ∷ []) → ⊥
+word_is_no_equality c h = (let q = h.equal word (inl refl) in let x = q.is in elim x.says [ inl e ↦ cc e | inr e ↦ cc e ])
+
+-- that Item is equal to a word says so
+abbrev item_is_word : Tree
+item_is_word = alias_relation direction.Equate item word
+
+item_is_alias : IsAlias item
+item_is_alias = record { head = alias_of.Ty 0; parts = empty; is = refl; closed = (tt, ((tt, tt), tt)) }
+
+word_is_no_alias : IsAlias word → ⊥
+word_is_no_alias i = by_head i.head i.is
+  where
+    by_head : (h : AliasHead) → word ≡ alias h i.parts → ⊥
+    by_head (alias_of.Ty n) q = cc q
+    by_head (alias_of.Const n) q = cc q
+
+item_equals_word : IsPlainEquality item_is_word
+item_equals_word =
+    record {
+      left = item;
+      right = word;
+      is = record { by = direction.Equate; says = inl refl; alias = item_is_alias; plain = word_is_no_alias; kind = refl };
+      equal = refl;
+      ends = (tt, tt);
+      no_alias = refl;
+    }
+
+item_is_known : (c : Content) → Knows c item_is_word
+item_is_known c =
+    let left : Knows c item = ((tt, tt, refl), (((tt, tt, refl), tt, tt), tt), tt) in
+    let right : Knows c word = ((tt, tt, refl), tt, tt) in
+    let alias = item_is_alias in
+    ((tt, tt, refl), (((tt, tt, refl), tt, tt), (((tt, tt, refl), (left, (right, tt)), tt), tt)), ((tt, tt), ((tt, (closed_listed empty 0 item alias.closed, (closed_listed empty 0 word (tt, tt), tt))), tt)))
+
+-- relating the sides of the rule for an alias leaves this goal, and nothing else
+abbrev sides : List Relating
+sides = pairs_with [] (aliased_equations for_item.equations)
+
+sides_are_left : (declared : ℕ → List Variance) (c : Content) → LeavesGoals declared c c sides sides
+sides_are_left declared c =
+    record {
+      relates = record { related = λ f sound later ks answered none. (answered_relates declared f ks (record { variance = variance.Invariant; left = item; right = word }) answered.0, tt) };
+      leaves = record {
+        more = omega arith;
+        back = λ w s. s;
+        complete = λ j w s k settled all. (record { world = w; agrees = Agrees-refl (length c.slots) w; solves = s; settled = settled; names = λ f n u. n }, tt, all);
+      };
+    }
+
+item_rule_is_begun : (declared : ℕ → List Variance) (c : Content) (e : Tree) → IsBegunByRelating declared c e for_item c (relating e item_is_word ∷ [])
+item_rule_is_begun declared c e =
+    record {
+      some = item_rule_is_not;
+      values = [];
+      before = c;
+      begun = record { made = c; equal = c; freshens = refl; equates = refl; adds = refl };
+      pairs = sides;
+      related = sides_are_left declared c;
+      goals = item_is_word ∷ [];
+      of_pairs = (inl refl, tt);
+      premises = refl;
+    }
+
+-- so in coherence the rule for an alias is begun by its one side, and then the goal is asked; the rule for a word is not
+item_rule_is_begun_by_one_side : (declared : ℕ → List Variance) (c : Content) (e : Tree) → IsSound c → IsBegunByOneSide declared c e for_item c (relating e item_is_word ∷ [])
+unfolding item_rule_is_begun
+item_rule_is_begun_by_one_side declared c e sound =
+    record {
+      sides = item_rule_has_one_side;
+      all = relating e item_is_word ∷ [];
+      begun = item_rule_is_begun declared c e;
+      continues = Continues-refl c sound;
+      asked = inl (record { equal = λ g i. elim i [ inl q ↦ subst IsPlainEquality (sym q) item_equals_word | inr j ↦ absurd j ]; knows = λ g i. elim i [ inl q ↦ subst (Knows c) (sym q) (item_is_known c) | inr j ↦ absurd j ] }, refl);
+    }
+
+word_rule_is_not_begun_by_one_side : (declared : ℕ → List Variance) (c met : Content) (e : Tree) (ps : List Premise) → IsBegunByOneSide declared c e for_word met ps → ⊥
+word_rule_is_not_begun_by_one_side declared c met e ps b = (let by = b.begun in by.some word_rule_is_plain)
 
 -- a candidate without equations is begun by what is there
 abbrev for_all : Candidate

@@ -65,7 +65,7 @@ pub record AliasGoalIn (ts : List Tree) (g : Goal) : Type 0 where
 -- each candidate that is offered for a goal, where goals are answered by offers, fails or replies, and what a response of the store e
 -- says stands for the replies
 pub record SaysOffered (h : Ruling) (mode : TypingMode) (a : List Tree) (t : Table) (g : Goal) (qs : List GenericArg) (e : List Tree) (r : Canonical Response) : Type 0 where
-  pub offers : IsOpenToOffers (mode_of mode) (tree_at a g.param_env.node) (tree_at a g.predicate.node)
+  pub offers : IsOpenToOffers (mode_of mode) (tree_at a g.predicate.node)
   pub verdicts : List Verdict
   pub outcomes : Outcomes h (mode_of mode) (content_of a t.entries) (tree_at a g.param_env.node) (tree_at a g.predicate.node) (trees_of a qs) (offers_of h.handler (mode_of mode) a g) verdicts
   pub stands : StandsForAll (trees_of a qs) verdicts (verdict_at e r)
@@ -77,7 +77,7 @@ IsAliasTold h mode a t g qs e r =
 
 -- .. and why it has no solution: each candidate that is offered fails, where goals are answered by offers
 pub record IsAliasRefuted (h : Ruling) (mode : TypingMode) (a : List Tree) (t : Table) (g : Goal) (qs : List GenericArg) : Type 0 where
-  pub offers : IsOpenToOffers (mode_of mode) (tree_at a g.param_env.node) (tree_at a g.predicate.node)
+  pub offers : IsOpenToOffers (mode_of mode) (tree_at a g.predicate.node)
   pub outcomes : Outcomes h (mode_of mode) (content_of a t.entries) (tree_at a g.param_env.node) (tree_at a g.predicate.node) (trees_of a qs) (offers_of h.handler (mode_of mode) a g) []
 
 -- a goal says that an alias is equal to a closed term, which may be another alias, or that the one is a subtype of the other: it binds

@@ -1,5 +1,5 @@
 -- Candidates of the store whose equations relate aliases: what is made equal of them, and what is related.
-use Rattle.std.specs.Prelude.{◌≡◌, List, [], ◌∷◌, ◌++◌, if◌then◌else◌, map}
+use Rattle.std.specs.Prelude.{◌≡◌, Bool, true, List, [], ◌∷◌, ◌++◌, if◌then◌else◌, map}
 use Rattle.nts_model.specs.declared.labels.Label.TheVariants as label
 use Rattle.nts_model.specs.declared.labels.ListHead.TheVariants as list
 use Rattle.nts_model.specs.declared.labels.Variance.TheVariants as variance
@@ -7,8 +7,9 @@ use Rattle.nts_model.specs.Terms.Trees.{Tree, node, IsFormed}
 use Rattle.nts_model.specs.Terms.Substitutions.{filled}
 use Rattle.nts_model.specs.Tables.Passing.{BringsOnly}
 use Rattle.nts_model.specs.Tables.Contents.{Content}
+use Rattle.nts_model.specs.Tables.Holding.{Continues}
 use Rattle.nts_model.specs.Derivations.Sequents.{Premise}
-use Rattle.nts_theory.specs.RelatingCandidates.{relates_aliases, goals_with, IsBegunByRelating, IsBegunInPart}
+use Rattle.nts_theory.specs.RelatingCandidates.{relates_aliases, goals_with, IsBegunByRelating, IsBegunInPart, AreEqualities}
 use Rattle.nts_store.specs.declared.nodes.NodeId.{NodeId}
 use Rattle.nts_store.specs.Growth.{tree_at, trees_at}
 use Rattle.nts_certainty.specs.declared.sources.GoalSource.{GoalSource}
@@ -93,9 +94,12 @@ pub record BeginsInPart (a b : Cx) (t u : Table) (g : Goal) (x : CandidateData) 
   pub begun : IsBegunInPart (content_of a.nodes t.entries) (candidate_of a.nodes x) (content_of b.nodes u.entries) left
   pub labels : BringsOnly (asked_terms a.nodes g) (content_of a.nodes t.entries) (content_of b.nodes u.entries)
 
--- .. and begun so. The goals that are left have no labels but those of the goal
-pub record BeginsByRelating (a b : Cx) (t u : Table) (g : Goal) (x : CandidateData) (left : List (GoalSource × Goal)) : Type 0 where
+-- .. and begun so. The goals that are left have no labels but those of the goal; where `equal`, those that relating left say each that
+-- an alias is equal to a term in which no alias stands
+pub record BeginsByRelating (a b : Cx) (t u : Table) (g : Goal) (x : CandidateData) (left : List (GoalSource × Goal)) (equal : Bool) : Type 0 where
   pub posed : ArePosed b.nodes u left
   pub begun : IsBegunByRelating (variances_in a.declarations) (content_of a.nodes t.entries) (tree_at a.nodes g.param_env.node) (candidate_of a.nodes x) (content_of b.nodes u.entries) (goals_at b.nodes left)
   pub labels : {d : Content} → BringsOnly (terms_of b.nodes left) (content_of b.nodes u.entries) d → BringsOnly (asked_terms a.nodes g) (content_of a.nodes t.entries) d
   pub runs : RunsByRelating a b t u g x left
+  pub continues : Continues begun.before (content_of b.nodes u.entries)
+  pub equalities : equal ≡ true → AreEqualities (content_of b.nodes u.entries) begun.goals

@@ -92,18 +92,18 @@ fn is_outside(mode: &TypingMode) -> bool
     !matches!(mode, TypingMode::Coherence)
 }
 
-/// Whether a goal about an alias is answered by what the handler offers for it: outside of coherence each is, and there one that assumes
-/// nothing, and in whose terms no alias stands. What is assumed may say what an alias is, and there that is offered for none.
+/// Whether a goal about an alias is answered by what the handler offers for it: outside of coherence each is, and there one in whose
+/// terms no alias stands, whatever it assumes.
 #[inline(never)]
 pub fn is_open_to_offers(cx: &Cx, mode: &TypingMode, goal: Goal) -> bool
     requires { HoldsGoal cx.now.nodes goal }
     ensures { result ≡ true → IsOpenToOffers (mode_of mode.now) (tree_at cx.now.nodes
-        goal.param_env.node) (tree_at cx.now.nodes goal.predicate.node) }
+        goal.predicate.node) }
 {
     if is_outside(mode) {
         return true;
     }
-    if goal.param_env.len(cx) != 0 || has_alias(cx, goal) {
+    if cx.nodes.flags(goal.predicate.node).has_alias {
         return false;
     }
     let predicate = goal.predicate.kind(cx);
@@ -121,6 +121,20 @@ fn says_equal(statement: PredicateKind) -> bool
         },
         _ => false,
     }
+}
+
+/// Whether a goal about an alias and a term says that the two are equal, and no alias stands in the term.
+#[inline(never)]
+pub(crate) fn is_plain_equality(cx: &Cx, goal: Goal, equated: EquatedAlias) -> bool
+    requires holds { HoldsGoal cx.now.nodes goal }
+    requires equated { IsEquatedGoal cx.now.nodes goal equated }
+    ensures { result ≡ true → IsPlainEquality (tree_at cx.now.nodes goal.predicate.node) }
+{
+    if cx.nodes.flags(equated.term.node).has_alias {
+        return false;
+    }
+    let predicate = goal.predicate.kind(cx);
+    says_equal(predicate.value)
 }
 
 /// Whether a goal about an alias and a term, that was opened, is answered by what the alias normalizes to: outside of coherence each is,
@@ -144,9 +158,5 @@ pub fn is_open_to_normalizing(
     if goal.predicate != opened.predicate {
         return false;
     }
-    if cx.nodes.flags(equated.term.node).has_alias {
-        return false;
-    }
-    let predicate = opened.predicate.kind(cx);
-    says_equal(predicate.value)
+    is_plain_equality(cx, opened, equated)
 }

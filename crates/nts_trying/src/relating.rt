@@ -18,6 +18,7 @@ ghost use Rattle.nts_trying.specs.Instances.{HoldsValues, IsTermInstance};
 ghost use Rattle.nts_trying.specs.Relating.{aliased_data, plain_data, left_node, right_node, list_of, left_list, right_list, IsPlainPart, RelatesEquations, BeginsByRelating, BeginsInPart};
 
 use crate::candidate::{Trial, equate, record_constraints};
+use crate::one_sided::are_plain_equalities;
 use crate::subtypes::relating_goals;
 use nts_certainty::{Certainty, GoalSource, RerunCondition};
 use nts_delegate::{CandidateData, Equation, EquationKind};
@@ -242,21 +243,30 @@ pub fn begin_in_part(
     Ok(Certainty::AMBIGUOUS)
 }
 
+/// What is left of a candidate that was begun by relating.
+#[derive(Drop)]
+pub struct Begun {
+    /// The goals that relating left, and then the candidate's own.
+    pub goals: Vec<(GoalSource, Goal)>,
+    /// Whether each goal that relating left says that an alias is equal to a term in which no alias stands.
+    pub equalities: bool,
+}
+
 /// Begins a candidate of whose equations some relate aliases: makes the others equal, records its region constraints, and relates these.
-/// It answers the goals that are left: those that relating left, and then the candidate's own.
+/// It answers what is left.
 #[inline(never)]
 pub fn begin_relating(
     table: &mut InferCtxt,
     cx: &mut Cx,
     goal: Goal,
     candidate: &CandidateData,
-) -> Result<Vec<(GoalSource, Goal)>, EvalError>
+) -> Result<Begun, EvalError>
     requires posed { IsPosed cx.old.nodes table.old goal }
     requires candidate { IsCandidate cx.old.nodes goal candidate.now }
     requires some { HasPlainEquations (candidate_of cx.old.nodes candidate.now) → ⊥ }
     ensures runs { Runs cx.old cx.new table.old table.new }
-    ensures begins { IfOk result (λ gs. BeginsByRelating cx.old cx.new table.old table.new goal
-        candidate.now gs.items) }
+    ensures begins { IfOk result (λ r. BeginsByRelating cx.old cx.new table.old table.new goal
+        candidate.now r.goals.items r.equalities) }
     ensures no { result ≡ Err EvalError.NoSolution →
         (IsCandidateMet (content_of cx.old.nodes table.old.entries) (plain_part (candidate_of
         cx.old.nodes candidate.now)) → ⊥) ⊎ IsUnrelated (variances_in cx.old.declarations)
@@ -273,7 +283,8 @@ pub fn begin_relating(
     };
     record_constraints(table, cx, trial, &candidate.region_constraints)?;
     let mut goals = relate_equations(table, cx, trial, &aliased)?;
+    let equalities = are_plain_equalities(cx, &goals);
     let mut own = trial.added_goals(table, cx, &candidate.goals)?;
     goals.append(&mut own)?;
-    Ok(goals)
+    Ok(Begun { goals, equalities })
 }

@@ -3,12 +3,13 @@ use Rattle.std.proofs.Common.{◌≡◌, inl, inr, ⊎_elim, ℕ, zero, suc, ◌
 use Rattle.nts_model.specs.declared.labels.Variance.{Variance}
 use Rattle.nts_model.specs.declared.labels.Variance.TheVariants as variance
 use Rattle.nts_model.specs.Terms.Trees.{Tree, empty, more, node}
-use Rattle.nts_model.specs.Tables.Worlds.{World}
+use Rattle.nts_model.specs.Tables.Worlds.{World, inst}
 use Rattle.nts_model.specs.Derivations.Related.{times, first_variance, rest_variances, function_variances, constructor, function, value, alias, one_tree, regions, constructors, functions, values, open_aliases, aliases, subtypes, no_more, and_more}
 use Rattle.nts_model.specs.Lists.{Among}
 use Rattle.nts_model.specs.Derivations.Rules.{chosen, kept_empty, kept_more, kept_node}
 use Rattle.nts_variance_model.specs.Variances.Judging.{Judging, AllStand, IsSettled, IsValueOf, Normalizes, Along, AreAlong, Settles, IsLawfulJudging}
 use Rattle.nts_variance_model.specs.Variances.Listing.{Lists, by_lists, AreOf}
+use Rattle.nts_variance_model.specs.Variances.Relations.{Relating, SettlesIn, AllSettleIn}
 use Rattle.nts_theory.proofs.Derivations.Flattening.{joined, among_left, among_right, among_joined}
 use Rattle.nts_theory.proofs.Aliases.Weakening.{related_weaker, are_related_weaker}
 use Rattle.nts_model.proofs.Tables.Under.{same_or_other}
@@ -149,6 +150,16 @@ module _ (J : Judging) where
       (λ s t f g x. (normalizes_grows a h.left s t f g x.0, normalizes_grows b h.right s t f g x.1)) (along_grows v h.left h.right)
       (needs_both (λ K. Normalizes K a h.left) (λ K. Normalizes K b h.right) (normalizes_grows a h.left) (normalizes_grows b h.right) (needs_normal a h.left h.of_left) (needs_normal b h.right h.of_right))
       (needs_along h.along))
+
+  -- .. and so do pairs
+  all_grow : (w : World) (ps : List Relating) → Grows (λ K. AllSettleIn K w ps)
+  all_grow w [] s t f g x = tt
+  all_grow w (p ∷ ps) s t f g x = (settles_grows p.variance (inst w p.left) (inst w p.right) s t f g x.0, all_grow w ps s t f g x.1)
+
+  pub needs_all : (w : World) (ps : List Relating) → AllSettleIn J w ps → Needs (λ K. AllSettleIn K w ps)
+  needs_all w [] h = record { lists = no_lists; are = none_of; holds = tt }
+  needs_all w (p ∷ ps) h =
+      needs_both (λ K. SettlesIn K w p) (λ K. AllSettleIn K w ps) (settles_grows p.variance (inst w p.left) (inst w p.right)) (all_grow w ps) (needs_settles p.variance (inst w p.left) (inst w p.right) h.0) (needs_all w ps h.1)
 
   -- .. and so do the trees of a world's first n variables
   abbrev pub FirstSettled : ℕ → World → Judging → Type 0

@@ -39,16 +39,16 @@ nothing_assumed = node (label.List list.Env) empty
 abbrev projected : Tree
 projected = unbound (node (label.Clause (clause.Projection (alias_of.Ty 0))) (pair (node (label.List list.Args) empty) list_type))
 
-projection_is_open_to_offers : (mode : Mode) → IsOpenToOffers mode nothing_assumed projected
+projection_is_open_to_offers : (mode : Mode) → IsOpenToOffers mode projected
 projection_is_open_to_offers mode = inr (record { statement = tt; no_alias = refl })
 
-normalizing_is_open_to_offers : (mode : Mode) → IsOpenToOffers mode nothing_assumed (normalization_goal (alias_of.Ty 0) empty list_type)
+normalizing_is_open_to_offers : (mode : Mode) → IsOpenToOffers mode (normalization_goal (alias_of.Ty 0) empty list_type)
 normalizing_is_open_to_offers mode = inr (record { statement = tt; no_alias = refl })
 
 abbrev auto_of_item : Tree
 auto_of_item = unbound (node (label.Clause (clause.Trait 0)) (more (node (label.List list.Args) (more item empty)) empty))
 
-trait_of_an_alias_is_not_in_coherence : IsOpenToOffers coherence nothing_assumed auto_of_item → ⊥
+trait_of_an_alias_is_not_in_coherence : IsOpenToOffers coherence auto_of_item → ⊥
 trait_of_an_alias_is_not_in_coherence (inl outside) = outside refl
 trait_of_an_alias_is_not_in_coherence (inr plain) = (let n = plain.no_alias in cc n)
 
@@ -59,7 +59,7 @@ trait_is_about_no_alias s t a = absurd t
 
 -- outside of coherence a goal about an alias for which nothing is offered is refuted, and so is one in coherence that says what an alias
 -- is, if no alias stands in its terms; another one is not
-pub alias_without_rules_is_refuted : (Q : Queries) (h : Handler) (mode : Mode) (c : Content) (e g : Tree) (qs : List Tree) → IsOpenToOffers mode e (opened_in c g) → IsAliasReady c e g → h.offers mode e (opened_in c g) ≡ [] → Refutes Q h mode c e g qs
+pub alias_without_rules_is_refuted : (Q : Queries) (h : Handler) (mode : Mode) (c : Content) (e g : Tree) (qs : List Tree) → IsOpenToOffers mode (opened_in c g) → IsAliasReady c e g → h.offers mode e (opened_in c g) ≡ [] → Refutes Q h mode c e g qs
 alias_without_rules_is_refuted Q h mode c e g qs offers ready none = aliases_fail offers ready (rw none no_outcome)
 
 alias_handlers : (s : Tree) → IsAliasStatement s → IsHandlers s
@@ -67,7 +67,7 @@ alias_handlers (node (label.Clause (clause.Projection i)) ts) a = tt
 alias_handlers (node (label.Predicate (predicate.NormalizesTo i)) ts) a = tt
 alias_handlers s a = absurd a
 
-pub alias_is_not_refuted_in_coherence : (Q : Queries) (h : Handler) (c : Content) (e g : Tree) (qs : List Tree) → IsAliasStatement (statement_of (opened_in c g)) → (IsPlainClauseGoal e (opened_in c g) → ⊥) → Refutes Q h coherence c e g qs → ⊥
+pub alias_is_not_refuted_in_coherence : (Q : Queries) (h : Handler) (c : Content) (e g : Tree) (qs : List Tree) → IsAliasStatement (statement_of (opened_in c g)) → (IsPlainClauseGoal (opened_in c g) → ⊥) → Refutes Q h coherence c e g qs → ⊥
 alias_is_not_refuted_in_coherence Q h c e g qs a n (all_fail ready all) = (let t = ready.trait_goal in trait_is_about_no_alias (statement_of (opened_in c g)) t.statement a)
 alias_is_not_refuted_in_coherence Q h c e g qs a n (is_denied d) = denied_no_handlers h.judges (statement_of (opened_in c g)) d (alias_handlers (statement_of (opened_in c g)) a)
 alias_is_not_refuted_in_coherence Q h c e g qs a n (own_fails x own plain fails) =

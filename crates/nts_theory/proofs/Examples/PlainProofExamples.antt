@@ -28,7 +28,7 @@ use Rattle.nts_theory.proofs.Refutation.ReachedGoals.{InPlainProof, reached_amon
 use Rattle.nts_theory.proofs.Examples.InputExamples.{no_clauses as nowhere}
 use Rattle.nts_theory.proofs.Examples.ProofExamples.{auto_list, fact_clause, auto_sequent, auto_terms}
 use Rattle.nts_theory.proofs.Examples.AliasExamples.{item, item_alias, list_is_no_alias}
-use Rattle.nts_theory.proofs.Examples.RefutationExamples.{list_type, with_rule, all_true, auto_of, auto_closed, grounding, is_grounding}
+use Rattle.nts_theory.proofs.Examples.RefutationExamples.{list_type, with_rule, all_but_erased, auto_of, auto_closed, grounding, is_grounding}
 use Rattle.nts_theory.proofs.Examples.SolutionExamples.{one_unset, variable}
 
 -- that Item normalizes to List, and that the two are equal
@@ -220,7 +220,7 @@ proved_by_an_alias v truth =
 
 -- the world in which each variable is Item, and everything outlives everything
 abbrev all_items : World
-all_items = record { tree = λ n. item; region = λ r. r; outlives = all_true }
+all_items = record { tree = λ n. item; region = λ r. r; outlives = all_but_erased }
 
 -- a variable that stands for an alias is not plain
 pub an_alias_is_no_plain_value : IsPlainIn one_unset all_items nowhere (auto_of variable) → ⊥

@@ -1,8 +1,10 @@
 -- Truths that depend on no name, and plain proofs: what meets these definitions, and what does not.
+use Rattle.std.specs.Prelude.{if◌then◌else◌, ◌⊎◌}
 use Rattle.std.proofs.Common.{◌≡◌, inl, inr, ℕ, zero, suc, List, [], ◌∷◌, Bool, true, false, refl, sym, ap, ◌∙◌, arith, subst}
 use Rattle.nts_model.specs.declared.labels.Variance.{Variance}
 use Rattle.nts_model.specs.declared.labels.VariableKind.TheVariants as kind
 use Rattle.nts_model.specs.declared.labels.Relation.TheVariants as relation
+use Rattle.nts_model.specs.declared.labels.FreeRegion.{FreeRegion}
 use Rattle.nts_model.specs.declared.labels.FreeRegion.TheVariants as region
 use Rattle.nts_model.specs.declared.labels.ClauseHead.TheVariants as clause
 use Rattle.nts_model.specs.declared.labels.ListHead.TheVariants as list
@@ -26,6 +28,7 @@ use Rattle.nts_model.specs.Derivations.Proofs.{Node, Step, IsSoundStep, IsJustif
 use Rattle.nts_model.specs.Derivations.Handlers.{Handler, never_leaks, never_at_once, no_judgements, meaning}
 use Rattle.nts_model.specs.Canonical.Inputs.{is_static}
 use Rattle.nts_model.specs.Refutation.Containing.{IsAliasFree, Truth, IsTrueBy, IsGroundLabel}
+use Rattle.nts_variance_model.specs.Variances.Leaving.{IsErased}
 use Rattle.nts_variance_model.specs.Variances.SettledProofs.{GrantsAt, HidesAt, RestsOnAt, IsReached, start, onward}
 use Rattle.nts_theory.specs.Refutation.Refutation.{IsCarrying, IsFair, IsGroundInstance, FollowsPlainly, HasMetProof}
 use Rattle.nts_model.proofs.Terms.Composing.{itself, leaf_tree-inj, fits_itself}
@@ -56,24 +59,77 @@ fact_under xs = with_rule (clause_under [] xs) (λ i. false)
 abbrev pub fact_only : Handler
 fact_only = fact_under []
 
--- everything outlives everything, and nothing anything
-abbrev pub all_true : Truth
-all_true a b = true
+-- erased and error regions
+abbrev pub lone_leaf : Leaf → Bool
+lone_leaf (leaf.Region region.Erased) = true
+lone_leaf (leaf.Region region.Error) = true
+lone_leaf l = false
+
+abbrev pub lone : Tree → Bool
+lone (node (label.Leaf l) c) = lone_leaf l
+lone t = false
+
+-- everything outlives everything, but for these; and nothing anything
+abbrev pub all_but_erased : Truth
+all_but_erased a b = if lone a then false else (if lone b then false else true)
 
 abbrev pub none_true : Truth
 none_true a b = false
 
--- a truth by which everything outlives everything depends on no name
-pub all_true_is_fair : IsFair all_true
-all_true_is_fair = record { renamed = λ ρ c a b. refl }
+-- erased and error regions stay
+lone_stays : (ρ : Renaming) → IsCarrying ρ → (l : Leaf) → lone_leaf l ≡ true → ρ.to l ≡ l
+lone_stays ρ h (leaf.Region region.Erased) e = h.plain region.Erased tt
+lone_stays ρ h (leaf.Region region.Error) e = h.plain region.Error tt
+lone_stays ρ h l e = cc e
+
+lone_leaf_renamed : (ρ : Renaming) → IsCarrying ρ → (l : Leaf) → lone_leaf (ρ.to l) ≡ lone_leaf l
+lone_leaf_renamed ρ h l = by_case (lone_leaf l) (lone_leaf (ρ.to l)) refl refl
+  where
+    by_case : (b c : Bool) → lone_leaf l ≡ b → lone_leaf (ρ.to l) ≡ c → lone_leaf (ρ.to l) ≡ lone_leaf l
+    by_case true c e f = ap lone_leaf (lone_stays ρ h l e)
+    by_case false false e f = f ∙ sym e
+    by_case false true e f = ap lone_leaf (sym (ρ.back (ρ.to l)) ∙ ap ρ.from (lone_stays ρ h (ρ.to l) f) ∙ ρ.back l)
+
+lone_renamed : (ρ : Renaming) → IsCarrying ρ → (t : Tree) → lone (rename ρ t) ≡ lone t
+lone_renamed ρ h empty = refl
+lone_renamed ρ h (more a s) = refl
+lone_renamed ρ h (node (label.Leaf l) c) = lone_leaf_renamed ρ h l
+lone_renamed ρ h (node (label.Bound s i n) c) = refl
+lone_renamed ρ h (node (label.Ty x) c) = refl
+lone_renamed ρ h (node (label.Const x) c) = refl
+lone_renamed ρ h (node (label.Clause x) c) = refl
+lone_renamed ρ h (node (label.Predicate x) c) = refl
+lone_renamed ρ h (node (label.List x) c) = refl
+
+never_both : (b : Bool) → (if b then false else false) ≡ true → ⊥
+never_both true e = cc e
+never_both false e = cc e
+
+-- a truth by which everything outlives everything, but for erased and error regions, depends on no name
+pub all_but_erased_is_fair : IsFair all_but_erased
+all_but_erased_is_fair = record { renamed = λ ρ c a b. rw (lone_renamed ρ c a, lone_renamed ρ c b) refl; alone = alone }
+  where
+    alone : (r : FreeRegion) → IsErased r → (a : Tree) → (all_but_erased a (leaf_tree (leaf.Region r)) ≡ true) ⊎ (all_but_erased (leaf_tree (leaf.Region r)) a ≡ true) → a ≡ leaf_tree (leaf.Region r)
+    alone region.Erased i a (inl e) = absurd (never_both (lone a) e)
+    alone region.Erased i a (inr e) = cc e
+    alone region.Error i a (inl e) = absurd (never_both (lone a) e)
+    alone region.Error i a (inr e) = cc e
+    alone r i a e = absurd i
+
+-- one by which erased regions outlive everything is not fair
+abbrev all_true : Truth
+all_true a b = true
+
+erased_stands_alone : IsFair all_true → ⊥
+erased_stands_alone h = (let e = h.alone region.Erased tt list_type (inr refl) in cc e)
 
 -- a truth by which nothing outlives anything depends on no name
 none_true_is_fair : IsFair none_true
-none_true_is_fair = record { renamed = λ ρ c a b. refl }
+none_true_is_fair = record { renamed = λ ρ c a b. refl; alone = λ r i a e. elim e [ inl k ↦ cc k | inr k ↦ cc k ] }
 
--- 'static outlives everything, and nothing else outlives anything
+-- 'static outlives everything but erased and error regions, and nothing else outlives anything
 abbrev static_outlives : Truth
-static_outlives (node (label.Leaf l) c) b = is_static l
+static_outlives (node (label.Leaf l) c) b = if is_static l then (if lone b then false else true) else false
 static_outlives a b = false
 
 -- 'static is one leaf
@@ -92,14 +148,26 @@ static_renamed ρ h l = by_case (is_static l) (is_static (ρ.to l)) refl refl
         let back : l ≡ leaf.Region region.Static = sym (ρ.back l) ∙ ap ρ.from (is_static_is (ρ.to l) f ∙ sym (h.plain region.Static tt)) ∙ ρ.back (leaf.Region region.Static) in
         f ∙ sym (ap is_static back)
 
--- a truth by which 'static alone outlives others, and all of them, depends on no name
+-- a truth by which 'static alone outlives others, and all but these, depends on no name
 static_outlives_is_fair : IsFair static_outlives
-static_outlives_is_fair = record { renamed = renamed }
+static_outlives_is_fair = record { renamed = renamed; alone = λ r i a e. elim e [ inl k ↦ absurd (below r i a k) | inr k ↦ absurd (above r i a k) ] }
   where
+    below : (r : FreeRegion) → IsErased r → (a : Tree) → static_outlives a (leaf_tree (leaf.Region r)) ≡ true → ⊥
+    below region.Erased i (node (label.Leaf l) c) e = never_both (is_static l) e
+    below region.Error i (node (label.Leaf l) c) e = never_both (is_static l) e
+    below region.Erased i a e = cc e
+    below region.Error i a e = cc e
+    below r i a e = absurd i
+
+    above : (r : FreeRegion) → IsErased r → (a : Tree) → static_outlives (leaf_tree (leaf.Region r)) a ≡ true → ⊥
+    above region.Erased i a e = cc e
+    above region.Error i a e = cc e
+    above r i a e = absurd i
+
     renamed : (ρ : Renaming) → IsCarrying ρ → (a b : Tree) → static_outlives (rename ρ a) (rename ρ b) ≡ static_outlives a b
     renamed ρ h empty b = refl
     renamed ρ h (more a s) b = refl
-    renamed ρ h (node (label.Leaf l) c) b = static_renamed ρ h l
+    renamed ρ h (node (label.Leaf l) c) b = rw (static_renamed ρ h l, lone_renamed ρ h b) refl
     renamed ρ h (node (label.Bound s i n) c) b = refl
     renamed ρ h (node (label.Ty x) c) b = refl
     renamed ρ h (node (label.Const x) c) b = refl
@@ -350,10 +418,10 @@ abbrev first_lives : Constraint
 first_lives = record { relation = relation.RegionOutlives; left = leaf_tree (parameter 0); right = leaf_tree (parameter 1) }
 
 -- impl Auto(List) where 'a: 'b has a plain proof where everything outlives everything
-proved_where_all_is_true : (v : ℕ → List Variance) → HasMetProof (meaning (fact_under (first_lives ∷ [])) v) all_true nowhere auto_list
-proved_where_all_is_true v = fact_is_met v all_true (first_lives ∷ [])
+proved_where_all_is_true : (v : ℕ → List Variance) → HasMetProof (meaning (fact_under (first_lives ∷ [])) v) all_but_erased nowhere auto_list
+proved_where_all_is_true v = fact_is_met v all_but_erased (first_lives ∷ [])
     (λ x i. elim i [ inl e ↦ rw e refl | inr j ↦ absurd j ])
-    (λ x i. elim i [ inl e ↦ subst (IsTrueIn all_true) (sym e) (inr refl) | inr j ↦ absurd j ])
+    (λ x i. elim i [ inl e ↦ subst (IsTrueIn all_but_erased) (sym e) (inr refl) | inr j ↦ absurd j ])
 
 -- impl Auto(List) where 'a: 'b has no plain proof where nothing outlives anything
 no_proof_where_none_is_true : (v : ℕ → List Variance) → HasMetProof (meaning (fact_under (first_lives ∷ [])) v) none_true nowhere auto_list → ⊥

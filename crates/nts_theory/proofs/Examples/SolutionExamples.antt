@@ -28,7 +28,7 @@ use Rattle.nts_theory.proofs.Refutation.Tight.{tight_respects}
 use Rattle.nts_theory.proofs.Refutation.OfferMeeting.{handlers_inst}
 use Rattle.nts_theory.proofs.Examples.InputExamples.{no_clauses as nowhere}
 use Rattle.nts_theory.proofs.Examples.ProofExamples.{auto_list}
-use Rattle.nts_theory.proofs.Examples.RefutationExamples.{without_rules, list_type, fact_only, all_true, all_true_is_fair, none_true, auto_of, fact_used, fact_has_proof, without_rules_no_proof}
+use Rattle.nts_theory.proofs.Examples.RefutationExamples.{without_rules, list_type, fact_only, all_but_erased, all_but_erased_is_fair, none_true, auto_of, fact_used, fact_has_proof, without_rules_no_proof}
 use Rattle.nts_model.proofs.Tables.Instances.{Agrees-refl}
 
 -- by a handler without rules no goal that a handler is asked has a solution in any table
@@ -64,7 +64,7 @@ variable = variable_tree kind.Ty 0
 
 -- the world in which each variable is List, and everything outlives everything
 abbrev all_lists : World
-all_lists = record { tree = λ n. list_type; region = λ r. r; outlives = all_true }
+all_lists = record { tree = λ n. list_type; region = λ r. r; outlives = all_but_erased }
 
 -- no alias stands for a variable there
 lists_plain : (l : Leaf) → IsAliasFree (inst all_lists (leaf_tree l))
@@ -75,7 +75,7 @@ lists_plain (leaf.ConstConstant a) = (refl, tt)
 
 -- it is a solution of a table of type variables that it solves
 lists_solve : (slots : List Slot) (order : List ℕ) → ((n : ℕ) → SolvesState all_lists n (state_of (table_of slots order) n)) → ((n : ℕ) (k : VariableKind) → kind_at (table_of slots order) n ≡ Some k → k ≡ kind.Ty)
-    → IsSolution all_true 0 (table_of slots order) all_lists
+    → IsSolution all_but_erased 0 (table_of slots order) all_lists
 lists_solve slots order values kinds =
     record {
       solves = record {
@@ -97,11 +97,11 @@ lists_solve slots order values kinds =
     named f h (Some u) = h u
 
 -- it is a solution of the table without variables
-solves_none : IsSolution all_true 0 no_variables all_lists
+solves_none : IsSolution all_but_erased 0 no_variables all_lists
 solves_none = lists_solve [] [] (λ n. tt) (λ n k e. cc e)
 
 -- it is a solution of the table with a variable of which nothing is known
-solves_unset : IsSolution all_true 0 one_unset all_lists
+solves_unset : IsSolution all_but_erased 0 one_unset all_lists
 solves_unset = lists_solve (type_slot unset ∷ []) [] values kinds
   where
     values : (n : ℕ) → SolvesState all_lists n (state_of one_unset n)
@@ -113,7 +113,7 @@ solves_unset = lists_solve (type_slot unset ∷ []) [] values kinds
     kinds (suc n) k e = cc e
 
 -- it is no solution of a table in which the variable is another type
-lists_solve_no_other : IsSolution all_true 0 (one_known other_type) all_lists → ⊥
+lists_solve_no_other : IsSolution all_but_erased 0 (one_known other_type) all_lists → ⊥
 lists_solve_no_other s = (let z : list_type ≡ other_type = s.solves.values 0 in cc z)
 
 -- it is no solution where nothing outlives anything
@@ -125,7 +125,7 @@ truth_is_the_worlds s = (let z : true ≡ false = s.outlives list_type list_type
 abbrev leaky : (Content → ℕ → Type 0) → Handler
 leaky f = record without_rules { leaks = f }
 
-each_leaks_is_wrong : RespectsLeaks (leaky (λ c u. Unit {0})) all_true → ⊥
+each_leaks_is_wrong : RespectsLeaks (leaky (λ c u. Unit {0})) all_but_erased → ⊥
 each_leaks_is_wrong r = r.none no_variables 0 all_lists tt solves_none
 
 unsolvable_leaks_is_right : (truth : Truth) → RespectsLeaks (leaky (λ c u. (w : World) → IsSolution truth u c w → ⊥)) truth
@@ -133,11 +133,11 @@ unsolvable_leaks_is_right truth = record { none = λ c u w leaks s. leaks w s }
 
 -- it is not said of a fact that it has no solution
 pub fact_is_solved : HasNoSolutionIn fact_only no_variables nowhere auto_list → ⊥
-fact_is_solved h = h.none all_true all_true_is_fair (tight_respects fact_only (λ c u l. l) all_true) (λ i. []) all_lists solves_none (λ l i. lists_plain l) (fact_has_proof (λ i. []) all_true)
+fact_is_solved h = h.none all_but_erased all_but_erased_is_fair (tight_respects fact_only (λ c u l. l) all_but_erased) (λ i. []) all_lists solves_none (λ l i. lists_plain l) (fact_has_proof (λ i. []) all_but_erased)
 
 -- nor is it said of the fact's trait of a type variable
 pub variable_is_solved : HasNoSolutionIn fact_only one_unset nowhere (auto_of variable) → ⊥
-variable_is_solved h = h.none all_true all_true_is_fair (tight_respects fact_only (λ c u l. l) all_true) (λ i. []) all_lists solves_unset (λ l i. lists_plain l) (fact_has_proof (λ i. []) all_true)
+variable_is_solved h = h.none all_but_erased all_but_erased_is_fair (tight_respects fact_only (λ c u l. l) all_but_erased) (λ i. []) all_lists solves_unset (λ l i. lists_plain l) (fact_has_proof (λ i. []) all_but_erased)
 
 -- a table keeps its own solutions, of each goal
 pub same_table_keeps : (h : Handler) (c : Content) (e g : Tree) → KeepsSolutionsOf h c c e g
@@ -182,7 +182,7 @@ list_is_kept = record {
 -- a table in which the variable is another type has lost the solution in which it is List
 pub list_is_lost : KeepsSolutionsOf fact_only one_unset (one_known other_type) nowhere (auto_of variable) → ⊥
 list_is_lost h =
-    let (later, agrees, s) = h.each all_true all_true_is_fair (tight_respects fact_only (λ c u l. l) all_true) (λ i. []) all_lists solves_unset (λ l i. lists_plain l) (fact_has_proof (λ i. []) all_true) in
+    let (later, agrees, s) = h.each all_but_erased all_but_erased_is_fair (tight_respects fact_only (λ c u l. l) all_but_erased) (λ i. []) all_lists solves_unset (λ l i. lists_plain l) (fact_has_proof (λ i. []) all_but_erased) in
     let here : later.tree 0 ≡ other_type = s.solves.values 0 in
     let there : later.tree 0 ≡ list_type = agrees.trees 0 (omega arith) in
     let z : other_type ≡ list_type = sym here ∙ there in
@@ -231,7 +231,7 @@ under_static =
     record {
       findings = record {
         values = list_type ∷ [];
-        constraints = record { relation = relation.RegionOutlives; left = leaf_tree (leaf.Region region.Static); right = leaf_tree (leaf.Region region.Erased); is_visible = true } ∷ [];
+        constraints = record { relation = relation.RegionOutlives; left = leaf_tree (leaf.Region region.Static); right = leaf_tree (leaf.Region (region.EarlyParam 0)); is_visible = true } ∷ [];
         hidden = [];
         open_goals = [];
       };
@@ -240,7 +240,7 @@ under_static =
     }
 
 -- it contains the solution List where the constraint is true
-constraint_is_met : ContainsSolution all_true under_static (list_type ∷ [])
+constraint_is_met : ContainsSolution all_but_erased under_static (list_type ∷ [])
 constraint_is_met = record { own = []; values = tt; plain = λ x i. absurd i; equal = refl; met = (inr refl, tt) }
 
 -- it lacks the solution List where the constraint is not true

@@ -63,7 +63,8 @@ fact_never_fails Q h mode c e x tight met constraints goals plain k (has_types_a
 fact_never_fails Q h mode c e x tight met constraints goals plain k (is_unrelated outside n) = n.some plain
 fact_never_fails Q h mode c e x tight met constraints goals plain k (is_refused ps there (inl (vs, in_one, begun, same)) refused) = no_refusal Q h mode there k vs x.goals goals (subst (λ z. RefusesOne Q h mode k z there) same refused)
 fact_never_fails Q h mode c e x tight met constraints goals plain k (is_refused ps there (inr (inl (outside, begun))) refused) = begun.some plain
-fact_never_fails Q h mode c e x tight met constraints goals plain k (is_refused ps there (inr (inr (inside, begun))) refused) = begun.some plain
+fact_never_fails Q h mode c e x tight met constraints goals plain k (is_refused ps there (inr (inr (inside, inl begun))) refused) = begun.some plain
+fact_never_fails Q h mode c e x tight met constraints goals plain k (is_refused ps there (inr (inr (inside, inr begun))) refused) = (let b = begun.begun in b.some plain)
 fact_never_fails Q h mode c e x tight met constraints goals plain k (is_leaky ps there found begun reach leaks) = tight found 0 leaks
 
 -- where no verdict is left, each candidate failed

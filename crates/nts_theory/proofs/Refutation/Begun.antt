@@ -11,8 +11,8 @@ use Rattle.nts_model.specs.Tables.Worlds.{World, inst}
 use Rattle.nts_model.specs.Derivations.Related.{pair}
 use Rattle.nts_model.specs.Lists.{Among}
 use Rattle.nts_model.specs.Derivations.Sequents.{Premise}
-use Rattle.nts_model.specs.Derivations.Rules.{coherence}
-use Rattle.nts_model.specs.declared.labels.Variance.{Variance}
+use Rattle.nts_model.specs.Derivations.Rules.{Equation}
+use Rattle.nts_model.specs.Refutation.Choosing.{left_of, right_of}
 use Rattle.nts_model.specs.Terms.Substitutions.{leaf_tree, Occurs, IsConstant, filled}
 use Rattle.nts_model.specs.Derivations.Handlers.{Handler, Candidate, premise_by}
 use Rattle.nts_model.specs.Canonical.Inputs.{Input, originals, OccursIn}
@@ -29,11 +29,12 @@ use Rattle.nts_theory.proofs.Refutation.Trying.{Reaches as ReachesWorld, reaches
 use Rattle.nts_theory.proofs.Refutation.Carriers.{moved, moved_carrying, back_to, back_carrying, carrier}
 use Rattle.nts_theory.proofs.Refutation.Opening.{IsBegunAt, CanBegin, AreTrueIn, added_all}
 use Rattle.nts_theory.specs.Telling.{IsInputFor, CanAsk}
-use Rattle.nts_theory.specs.RelatingCandidates.{IsBegun, Begins, goals_with, plain_part, plain_equations}
-use Rattle.nts_theory.proofs.Refutation.PlainParts.{plain_is}
+use Rattle.nts_theory.specs.RelatingCandidates.{IsBegun, goals_with, plain_part, plain_equations, aliased_equations, HasOnePlainSide}
+use Rattle.nts_theory.proofs.Refutation.PlainParts.{aliased_among}
 use Rattle.nts_theory.proofs.Refutation.Queried.{Leads, Reached}
 use Rattle.nts_theory.proofs.Refutation.PlainTerms.{leaf_free}
 use Rattle.nts_theory.proofs.Refutation.Theories.{granted_renamed}
+use Rattle.nts_theory.proofs.Refutation.OfferMeeting.{IsEqualOneWay}
 
 -- the caller and its query
 variable_low : (c : Content) → AreCurrent c → (n : ℕ) → CanName c.universe (universe_of c n)
@@ -101,6 +102,11 @@ pub record BegunAt (truth : Truth) (Proves : Tree → Tree → Type 0) (c met : 
   pub goals : SolvesGoals truth 0 Proves met gs reaches.world
   pub terms : AreTermsOf met gs
 
+-- .. so for the plain part of a candidate; its equations with aliases on one side are equalities one way
+pub record BegunHere (truth : Truth) (Proves : Tree → Tree → Type 0) (c met : Content) (w : World) (e : Tree) (xs : List Tree) (x : Candidate) : Type 0 where
+  pub begun : BegunAt truth Proves c met w (goals_with xs x.goals)
+  pub aliased : (q : Equation) → Among (aliased_equations x.equations) q → HasOnePlainSide q → (let r = begun.reaches in IsEqualOneWay Proves (inst w e) (inst r.world (filled xs (left_of q))) (inst r.world (filled xs (right_of q))))
+
 premise_among : (xs : List Tree) (gs : List Premise) (q : Premise) → Among (goals_with xs gs) q → (g : Premise) × Among gs g × (q ≡ premise_by (filled xs) g)
 premise_among xs [] q i = absurd i
 premise_among xs (g ∷ gs) q (inl e) = (g, inl refl, e)
@@ -118,33 +124,34 @@ module _ (truth : Truth) (Proves : Tree → Tree → Type 0) where
             (subst (λ z. IsTrueBy truth y.relation (inst v (filled xs y.left)) z) (sym (inst-agrees d v r.world (filled xs y.right) r.agrees (b.known.right y i))) (b.meets.met y i)));
       }
 
-  pub begun_at : (c met : Content) (w : World) (xs : List Tree) (x : Candidate) → IsPlainWorld c w → IsBegun c (plain_part x) xs met → CanBegin truth Proves c w x → BegunAt truth Proves c met w (goals_with xs x.goals)
-  begun_at c met w xs x free b k =
-      let one = k.begins xs b.made b.freshens in
+  pub begun_at : (c met : Content) (w : World) (e : Tree) (xs : List Tree) (x : Candidate) → IsPlainWorld c w → IsBegun c (plain_part x) xs met → CanBegin truth Proves c w e x → BegunHere truth Proves c met w e xs x
+  begun_at c met w e xs x free b k =
+      let whole = k.begins xs b.made b.freshens in
+      let one = whole.plain in
       let two = equated_reaches truth 0 xs (plain_equations x.equations) b.made b.equal one.reaches.world b.equates one.reaches.solution one.known.equations one.meets.equal in
       let three = added_all truth 0 xs x.constraints b.equal met two.world b.adds two.solution (true_where c b.made b.equal w xs (plain_part x) one two) in
       let later = reaches_trans truth 0 b.made b.equal met one.reaches.world two three in
       let all = reaches_trans truth 0 c b.made met w one.reaches later in
+      let known = whole.known in
       record {
-        reaches = all;
-        goals = record {
-          solution = all.solution;
-          plain = all.plain free;
-          goals = λ q i. (let g = premise_among xs x.goals q i in
-              subst (IsProvedIn Proves all.world) (sym g.2)
-              (still_proved truth 0 Proves b.made one.reaches.world all.world (premise_by (filled xs) g.0) later.agrees (one.known.environments g.0 g.1) (one.known.predicates g.0 g.1) (one.meets.goals g.0 g.1)));
+        begun = record {
+          reaches = all;
+          goals = record {
+            solution = all.solution;
+            plain = all.plain free;
+            goals = λ q i. (let g = premise_among xs x.goals q i in
+                subst (IsProvedIn Proves all.world) (sym g.2)
+                (still_proved truth 0 Proves b.made one.reaches.world all.world (premise_by (filled xs) g.0) later.agrees (one.known.environments g.0 g.1) (one.known.predicates g.0 g.1) (one.meets.goals g.0 g.1)));
+          };
+          terms = record {
+            environments = λ q i. (let g = premise_among xs x.goals q i in subst (λ z. Knows met z.environment) (sym g.2) (Knows-kept b.made met (filled xs g.0.environment) later.keeps (one.known.environments g.0 g.1)));
+            predicates = λ q i. (let g = premise_among xs x.goals q i in subst (λ z. Knows met z.predicate) (sym g.2) (Knows-kept b.made met (filled xs g.0.predicate) later.keeps (one.known.predicates g.0 g.1)));
+          };
         };
-        terms = record {
-          environments = λ q i. (let g = premise_among xs x.goals q i in subst (λ z. Knows met z.environment) (sym g.2) (Knows-kept b.made met (filled xs g.0.environment) later.keeps (one.known.environments g.0 g.1)));
-          predicates = λ q i. (let g = premise_among xs x.goals q i in subst (λ z. Knows met z.predicate) (sym g.2) (Knows-kept b.made met (filled xs g.0.predicate) later.keeps (one.known.predicates g.0 g.1)));
-        };
+        aliased = λ q i p. (let j = (aliased_among x.equations q i).0 in
+            subst (λ z. IsEqualOneWay Proves (inst w e) z (inst all.world (filled xs (right_of q)))) (sym (inst-agrees b.made one.reaches.world all.world (filled xs (left_of q)) later.agrees (known.left q j)))
+            (subst (λ z. IsEqualOneWay Proves (inst w e) (inst one.reaches.world (filled xs (left_of q))) z) (sym (inst-agrees b.made one.reaches.world all.world (filled xs (right_of q)) later.agrees (known.right q j))) (whole.aliased q i p)));
       }
-
-  -- .. in coherence no equations are related
-  pub begun_with : (declared : ℕ → List Variance) (c met : Content) (w : World) (e : Tree) (x : Candidate) (ps : List Premise) → IsPlainWorld c w → Begins declared coherence c e x met ps → CanBegin truth Proves c w x → BegunAt truth Proves c met w ps
-  begun_with declared c met w e x ps free (inl (xs, in_one, b, same)) k = subst (BegunAt truth Proves c met w) (sym same) (begun_at c met w xs x free (subst (λ z. IsBegun c z xs met) (sym (plain_is x in_one)) b) k)
-  begun_with declared c met w e x ps free (inr (inl (outside, b))) k = absurd (outside refl)
-  begun_with declared c met w e x ps free (inr (inr (inside, b))) k = subst (BegunAt truth Proves c met w) (sym b.premises) (begun_at c met w b.values x free b.begun k)
 
   -- one more goal is asked; all of them stay
   pub asks_more : (c d e : Content) (gs : List Premise) (p : Premise) → Among gs p → AreTermsOf c gs → CanAsk d → Reached truth Proves c d gs → Leads truth Proves d e (deeply_resolved d p.environment) (deeply_resolved d p.predicate) → Reached truth Proves c e gs

@@ -25,7 +25,7 @@ use Rattle.nts_theory.proofs.Refutation.PlainTerms.{free_none, unlabelled_free, 
 use Rattle.nts_theory.proofs.Refutation.Trying.{reaches_self}
 use Rattle.nts_theory.proofs.Refutation.Begun.{BegunAt}
 
-one_relation : (d k : AliasRelationDirection) (a b t u : Tree) → alias_relation d a t ≡ alias_relation k b u → (d ≡ k) × (a ≡ b) × (t ≡ u)
+pub one_relation : (d k : AliasRelationDirection) (a b t u : Tree) → alias_relation d a t ≡ alias_relation k b u → (d ≡ k) × (a ≡ b) × (t ≡ u)
 one_relation d k a b t u e = (cc e, cc e, cc e)
 
 -- such a goal says so of one alias and one term
@@ -78,13 +78,13 @@ normal_known c a v x ends ka kv =
     let bound = parts_closed x.head x.parts (subst IsClosed x.is x.closed) in
     ((tt, tt, refl), (((tt, tt, refl), tt, tt), (((tt, tt, refl), (parts, (kv, tt)), tt), tt)), ((tt, tt), ((tt, (closed_listed empty 0 (node (label.List list.Args) x.parts) bound, (closed_listed empty 0 v ends, tt))), tt)))
 
-sides_known : (c : Content) (g a t : Tree) → EquatesAlias g a t → Knows c g → Knows c a × Knows c t
+pub sides_known : (c : Content) (g a t : Tree) → EquatesAlias g a t → Knows c g → Knows c a × Knows c t
 sides_known c g a t x k = elim x.says [
   | inl i ↦ (let h : Knows c (alias_relation x.by a t) = subst (Knows c) i k in (h.1.1.0.1.0, h.1.1.0.1.1.0))
   | inr i ↦ (let h : Knows c (alias_relation x.by t a) = subst (Knows c) i k in (h.1.1.0.1.1.0, h.1.1.0.1.0))
 ]
 
-inst_alias : (w : World) (h : AliasHead) (ts : Tree) → inst w (alias h ts) ≡ alias h (inst w ts)
+pub inst_alias : (w : World) (h : AliasHead) (ts : Tree) → inst w (alias h ts) ≡ alias h (inst w ts)
 inst_alias w (alias_of.Ty i) ts = refl
 inst_alias w (alias_of.Const i) ts = refl
 
@@ -93,7 +93,7 @@ module _ (h : Handler) (truth : Truth) (Proves : Tree → Tree → Type 0) (theo
     normal_there : Proves (inst w e) (alias_relation direction.Equate (inst w a) (inst w t)) ⊎ Proves (inst w e) (alias_relation direction.Equate (inst w t) (inst w a)) → IsGranted Proves (inst w e) (inst w (normalization_goal x.head x.parts t))
     normal_there p =
         let y : IsAlias (inst w a) = record { head = x.head; parts = inst w x.parts; is = ap (inst w) x.is ∙ inst_alias w x.head x.parts; closed = IsClosed-inst c w 0 a s.solves.fitting ka x.closed } in
-        let q = theory.equates (inst w e) (inst w a) (inst w t) y p (IsClosed-inst c w 0 t s.solves.fitting kt ends) (none_inst c w free t kt none) in
+        let q = (theory.equates (inst w e) (inst w a) (inst w t) y p (IsClosed-inst c w 0 t s.solves.fitting kt ends) (none_inst c w free t kt none)).0 in
         let f = theory.ground in
         record { ground = f.ground _ _ q; proved = λ z. q }
 

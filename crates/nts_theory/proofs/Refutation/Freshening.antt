@@ -13,7 +13,7 @@ use Rattle.nts_model.specs.Tables.Contents.{Content}
 use Rattle.nts_model.specs.Tables.Resolving.{Knows, KnowsLabel}
 use Rattle.nts_model.specs.Tables.Levels.{term_level}
 use Rattle.nts_model.specs.Tables.Worlds.{World, inst, IsValue, IsNameable, Solves, Agrees}
-use Rattle.nts_model.specs.Terms.Substitutions.{leaf_tree, put, Occurs, Instance, filled, filled_under, position_of, value_or}
+use Rattle.nts_model.specs.Terms.Substitutions.{leaf_tree, put, Occurs, Instance, instance_of, filled, filled_under, position_of, value_or}
 use Rattle.nts_model.specs.Derivations.Related.{pair}
 use Rattle.nts_model.specs.Derivations.Rules.{coherence, Equation, related, alike}
 use Rattle.nts_model.specs.Derivations.Handlers.{Handler, kind_of_sort, AreValuesOf, IsAsked, CandidatesKeep, IsCandidateFor, IsOver, IsFixed, IsEquationOver}
@@ -23,9 +23,9 @@ use Rattle.nts_model.specs.Answers.Applying.{IsNew, IsProperContent}
 use Rattle.nts_model.specs.Terms.Placeholders.{leaf_level}
 use Rattle.nts_model.specs.Refutation.Containing.{IsAliasFree, IsPlainWorld, Truth, IsTrueBy, IsSolution}
 use Rattle.nts_model.specs.Lists.{Among}
-use Rattle.nts_theory.specs.RelatingCandidates.{plain_part}
+use Rattle.nts_theory.specs.RelatingCandidates.{plain_part, aliased_equations, HasOnePlainSide}
 use Rattle.nts_theory.specs.Refutation.Refutation.{IsGranted}
-use Rattle.nts_theory.proofs.Refutation.PlainParts.{plain_among}
+use Rattle.nts_theory.proofs.Refutation.PlainParts.{plain_among, aliased_among}
 use Rattle.nts_theory.proofs.Refutation.PlainTerms.{alias_level, plain_by_names, free_values}
 use Rattle.nts_model.specs.Refutation.Coherence.{IsInstanceIn}
 use Rattle.nts_model.proofs.Tables.Instances.{inst-agrees, Agrees-refl, Agrees-trans}
@@ -36,7 +36,7 @@ use Rattle.nts_theory.proofs.Refutation.Carrying.{names_terms}
 use Rattle.nts_theory.proofs.Refutation.Answered.{solution_later}
 use Rattle.nts_model.specs.Refutation.Choosing.{left_of, right_of, AreNamedValues, Freshens}
 use Rattle.nts_theory.proofs.Refutation.Trying.{MeetsCandidate}
-use Rattle.nts_theory.proofs.Refutation.OfferMeeting.{MeetsOffered}
+use Rattle.nts_theory.proofs.Refutation.OfferMeeting.{replace_inst, MeetsOffered, IsEqualOneWay}
 
 -- the world with those values
 pub record IsFreshenedWorld (u : ℕ) (c d : Content) (w : World) (ts vs : List Tree) : Type 0 where
@@ -170,10 +170,28 @@ module _ (h : Handler) (truth : Truth) (Proves : Tree → Tree → Type 0) (base
   candidate_for : IsCandidateFor e g (m.candidate)
   candidate_for = keep.each coherence e g (m.candidate) asked (m.offered)
 
+  left_over : (q : Equation) → IsEquationOver (m.candidate.fresh) e g q → IsOver (m.candidate.fresh) e g (left_of q)
+  left_over (related a b) o = o.0
+  left_over (alike a b) o = o.0
+
+  right_over : (q : Equation) → IsEquationOver (m.candidate.fresh) e g q → IsOver (m.candidate.fresh) e g (right_of q)
+  right_over (related a b) o = o.1
+  right_over (alike a b) o = o.1
+
   one_equal : (q : Equation) → IsEquationOver (m.candidate.fresh) e g q → filled_under ι.value (m.chosen) (left_of q) ≡ filled_under ι.value (m.chosen) (right_of q)
       → inst (new.world) (filled xs (left_of q)) ≡ inst (new.world) (filled xs (right_of q))
   one_equal (related a b) o z = image_over a o.0 ∙ z ∙ sym (image_over b o.1)
   one_equal (alike a b) o z = image_over a o.0 ∙ z ∙ sym (image_over b o.1)
+
+  -- its equations with aliases on one side are equalities one way
+  pub aliased_filled : (q : Equation) → Among (aliased_equations m.candidate.equations) q → HasOnePlainSide q → IsEqualOneWay (IsGranted Proves) (inst w e) (inst (new.world) (filled xs (left_of q))) (inst (new.world) (filled xs (right_of q)))
+  aliased_filled q i p =
+      let k = candidate_for in
+      let o = k.equations q (aliased_among m.candidate.equations q i).0 in
+      let f = asked.formed in
+      subst (λ z. IsEqualOneWay (IsGranted Proves) z (inst (new.world) (filled xs (left_of q))) (inst (new.world) (filled xs (right_of q)))) (replace_inst w ι.value e f.0 (λ l j. same l (inl j)))
+      (subst (λ z. IsEqualOneWay (IsGranted Proves) (instance_of ι e) z (inst (new.world) (filled xs (right_of q)))) (sym (image_over (left_of q) (left_over q o)))
+      (subst (λ z. IsEqualOneWay (IsGranted Proves) (instance_of ι e) (filled_under ι.value (m.chosen) (left_of q)) z) (sym (image_over (right_of q) (right_over q o))) (m.aliased q i p)))
 
   -- the filled candidate is met
   pub meets_filled : MeetsCandidate truth (IsGranted Proves) (new.world) xs (plain_part m.candidate)

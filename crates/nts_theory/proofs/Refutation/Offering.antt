@@ -20,17 +20,17 @@ use Rattle.nts_model.specs.Refutation.Choosing.{left_of, right_of, AreNamedValue
 use Rattle.nts_model.specs.Derivations.Handlers.{Handler, equation_by, IsAsked, IsFixed, CandidatesKeep, IsOver, IsEquationOver}
 use Rattle.nts_model.specs.Refutation.Containing.{Truth, IsAliasFree}
 use Rattle.nts_model.specs.Refutation.Coherence.{RulesAreOffered, IsInstanceIn}
-use Rattle.nts_theory.specs.Refutation.Refutation.{UsesNamed, IsPlainFor, HasPlainSides}
+use Rattle.nts_theory.specs.Refutation.Refutation.{UsesNamed, IsPlainFor, HasPlainSides, IsGranted, AreEqualSides}
 use Rattle.nts_model.proofs.Terms.Composing.{fits_itself}
 use Rattle.nts_model.proofs.Terms.Listed.{map-tells}
 use Rattle.nts_model.proofs.Canonical.Numbering.{distinct-seen}
 use Rattle.nts_model.proofs.Canonical.Moving.{among-seen, occurs-seen}
 use Rattle.nts_theory.proofs.Refutation.Freshening.{knows_leaf}
 use Rattle.nts_model.proofs.Terms.Imaging.{IsImage, AreImages, constants, constant_images, distinct_constants, imaging, map-imaging}
-use Rattle.nts_theory.proofs.Refutation.OfferMeeting.{replace_inst, MeetsOffered, filled_free}
-use Rattle.nts_theory.specs.RelatingCandidates.{may_be_argument, relates_aliases, plain_equations, AreTypesApart}
+use Rattle.nts_theory.proofs.Refutation.OfferMeeting.{replace_inst, MeetsOffered, IsEqualOneWay, filled_free}
+use Rattle.nts_theory.specs.RelatingCandidates.{may_be_argument, relates_aliases, plain_equations, HasOnePlainSide, AreTypesApart}
 use Rattle.nts_theory.proofs.Refutation.PlainTerms.{free_none, unlabelled_free, either_false}
-use Rattle.nts_theory.proofs.Refutation.PlainParts.{plain_among}
+use Rattle.nts_theory.proofs.Refutation.PlainParts.{plain_among, aliased_among}
 use Rattle.nts_theory.proofs.Refutation.Apart.{head_filled}
 use Rattle.nts_model.specs.declared.labels.Sort.{Sort}
 use Rattle.nts_model.specs.declared.labels.Label.TheVariants as label
@@ -136,6 +136,13 @@ module _ (f : Leaf → Tree) (vs : List Tree) (free : (v : Tree) → Among vs v 
   ]
   plain_sides (alike a b) l r e = tt
 
+  -- an equation with aliases on one side is an equality one way
+  one_way : (Granted : Tree → Tree → Type 0) (e : Tree) (q : Equation) → ((x : Leaf) → Occurs x (left_of q) → IsAliasFree (f x)) → ((x : Leaf) → Occurs x (right_of q) → IsAliasFree (f x)) → relates_aliases q ≡ true → HasOnePlainSide q
+      → ((a b : Tree) → q ≡ related a b → AreEqualSides Granted e (filled_under f vs a) (filled_under f vs b)) → IsEqualOneWay Granted e (filled_under f vs (left_of q)) (filled_under f vs (right_of q))
+  one_way Granted e (related a b) l r t (inl p) h = (let n = filled_free f vs a free l (unlabelled_free a p) in let s = h a b refl in inr (n, s.from_right (free_none _ n)))
+  one_way Granted e (related a b) l r t (inr p) h = (let n = filled_free f vs b free r (unlabelled_free b p) in let s = h a b refl in inl (n, s.from_left (free_none _ n)))
+  one_way Granted e (alike a b) l r t p h = cc t
+
   apart_filled : (a b : Tree) → AreTypesApart a b → AreTypesApart (filled_under f vs a) (filled_under f vs b)
   apart_filled a b x =
       record { left = x.left; right = x.right; of_left = head_filled f vs a x.left x.of_left; of_right = head_filled f vs b x.right x.of_right; apart = x.apart; left_plain = x.left_plain; right_plain = x.right_plain }
@@ -180,6 +187,13 @@ meets_used h truth Proves law keep u e g asked w ι same plain x =
         values = cover.values;
         free = free;
         equal = λ q i. equal_sides (filled_under ι.value cover.chosen) q (u1.equal _ (cover.equations q (plain_among cover.candidate.equations q i)) (sides q i));
+        aliased = λ q i p. (let j = aliased_among cover.candidate.equations q i in
+            let o = over.equations q j.0 in
+            one_way ι.value cover.chosen free (IsGranted Proves) (instance_of ι e) q
+            (λ l k. (let s = left_over cover.candidate.fresh e g q o in image_free w ι e g same plain l (s.leaves l k)))
+            (λ l k. (let s = right_over cover.candidate.fresh e g q o in image_free w ι e g same plain l (s.leaves l k)))
+            j.1 p (λ a b is. subst (λ z. AreEqualSides (IsGranted Proves) z (filled_under ι.value cover.chosen a) (filled_under ι.value cover.chosen b)) (sym environment)
+            (u1.aliased _ _ (cover.equations (related a b) (subst (Among cover.candidate.equations) is j.0)))));
         apart = λ a. u1.apart _ _ (cover.equations (related a.left a.right) a.equation) (apart_filled ι.value cover.chosen free a.left a.right a.apart);
         met = λ y i. u1.met _ (cover.constraints y i);
         goals = λ p i. u1.goals _ (cover.goals p i);

@@ -21,7 +21,7 @@ use Rattle.nts_model.specs.Derivations.Handlers.{Handler, Candidate, constraint_
 use Rattle.nts_model.specs.Answers.Responses.{read_in}
 use Rattle.nts_model.specs.Answers.Applying.{IsProperContent}
 use Rattle.nts_model.specs.Refutation.Choosing.{left_of, right_of, IsCandidateMet, Freshens}
-use Rattle.nts_theory.specs.RelatingCandidates.{plain_part, HasTypesApart}
+use Rattle.nts_theory.specs.RelatingCandidates.{plain_part, aliased_equations, HasPlainEquations, HasOnePlainSide, HasTypesApart}
 use Rattle.nts_theory.specs.Refutation.Refutation.{IsGranted}
 use Rattle.nts_theory.proofs.Refutation.PlainParts.{plain_among, plain_met}
 use Rattle.nts_theory.proofs.Refutation.Apart.{apart_unmet}
@@ -34,9 +34,9 @@ use Rattle.nts_model.proofs.Tables.Instances.{inst-agrees, Agrees-refl}
 use Rattle.nts_model.proofs.Tables.Solving.{Solves-with_constraint}
 use Rattle.nts_theory.proofs.Refutation.Answered.{solution_later}
 use Rattle.nts_theory.proofs.Refutation.Choosing.{AreFresh, fresh_known, filled_known}
-use Rattle.nts_theory.proofs.Refutation.Trying.{MeetsCandidate, KnowsCandidate, Reaches, reaches_self, reaches_trans, true_there}
-use Rattle.nts_theory.proofs.Refutation.OfferMeeting.{MeetsOffered}
-use Rattle.nts_theory.proofs.Refutation.Freshening.{freshened, named_terms, filled_agree, knows_leaf, meets_filled}
+use Rattle.nts_theory.proofs.Refutation.Trying.{MeetsCandidate, KnowsEquations, KnowsCandidate, Reaches, reaches_self, reaches_trans, true_there}
+use Rattle.nts_theory.proofs.Refutation.OfferMeeting.{MeetsOffered, IsEqualOneWay}
+use Rattle.nts_theory.proofs.Refutation.Freshening.{freshened, named_terms, filled_agree, knows_leaf, aliased_filled, meets_filled}
 use Rattle.nts_theory.proofs.Refutation.Offering.{MeetsNamed}
 
 -- a candidate that a world meets, once its fresh variables are made
@@ -45,16 +45,25 @@ pub record IsBegunAt (truth : Truth) (Proves : Tree → Tree → Type 0) (c d : 
   pub meets : MeetsCandidate truth Proves reaches.world xs x
   pub known : KnowsCandidate d xs x
 
--- .. its plain part, and it equates no types that are apart
-pub record CanBegin (truth : Truth) (Proves : Tree → Tree → Type 0) (c : Content) (w : World) (x : Candidate) : Type 0 where
+-- .. its plain part; and its equations with aliases on one side are equalities one way, in the environment e
+pub record IsBegunWith (truth : Truth) (Proves : Tree → Tree → Type 0) (c d : Content) (w : World) (e : Tree) (xs : List Tree) (x : Candidate) : Type 0 where
+  pub plain : IsBegunAt truth Proves c d w xs (plain_part x)
+  pub known : KnowsEquations d xs x.equations
+  pub aliased : (q : Equation) → Among (aliased_equations x.equations) q → HasOnePlainSide q → (let r = plain.reaches in IsEqualOneWay Proves (inst w e) (inst r.world (filled xs (left_of q))) (inst r.world (filled xs (right_of q))))
+
+-- .. and it equates no types that are apart
+pub record CanBegin (truth : Truth) (Proves : Tree → Tree → Type 0) (c : Content) (w : World) (e : Tree) (x : Candidate) : Type 0 where
+  pub environment : Knows c e
   pub is_met : IsCandidateMet c (plain_part x)
   pub apart : HasTypesApart x → ⊥
-  pub begins : (xs : List Tree) (d : Content) → Freshens c.universe x.fresh xs c d → IsBegunAt truth Proves c d w xs (plain_part x)
+  pub begins : (xs : List Tree) (d : Content) → Freshens c.universe x.fresh xs c d → IsBegunWith truth Proves c d w e xs x
 
--- where a world meets all of its equations
-pub begins_whole : (truth : Truth) (Proves : Tree → Tree → Type 0) (c : Content) (w : World) (x : Candidate) → IsCandidateMet c x → ((xs : List Tree) (d : Content) → Freshens c.universe x.fresh xs c d → IsBegunAt truth Proves c d w xs x) → CanBegin truth Proves c w x
-begins_whole truth Proves c w x met begins =
+-- where a world meets all of its equations, none of which relates aliases
+pub begins_whole : (truth : Truth) (Proves : Tree → Tree → Type 0) (c : Content) (w : World) (e : Tree) (x : Candidate) → Knows c e → HasPlainEquations x → IsCandidateMet c x → ((xs : List Tree) (d : Content) → Freshens c.universe x.fresh xs c d → IsBegunAt truth Proves c d w xs x)
+    → CanBegin truth Proves c w e x
+begins_whole truth Proves c w e x ke none met begins =
     record {
+      environment = ke;
       is_met = plain_met c x met;
       apart = λ a. apart_unmet c x a met;
       begins = λ xs d f. (let b = begins xs d f in
@@ -62,15 +71,19 @@ begins_whole truth Proves c w x met begins =
           let known = b.known in
           let equations = known.equations in
           record {
-            reaches = b.reaches;
-            meets = record { equal = record { each = λ q i. (let all = meets.equal in all.each q (plain_among x.equations q i)) }; met = meets.met; goals = meets.goals };
-            known = record {
-              equations = record { left = λ q i. equations.left q (plain_among x.equations q i); right = λ q i. equations.right q (plain_among x.equations q i) };
-              left = known.left;
-              right = known.right;
-              environments = known.environments;
-              predicates = known.predicates;
+            plain = record {
+              reaches = b.reaches;
+              meets = record { equal = record { each = λ q i. (let all = meets.equal in all.each q (plain_among x.equations q i)) }; met = meets.met; goals = meets.goals };
+              known = record {
+                equations = record { left = λ q i. equations.left q (plain_among x.equations q i); right = λ q i. equations.right q (plain_among x.equations q i) };
+                left = known.left;
+                right = known.right;
+                environments = known.environments;
+                predicates = known.predicates;
+              };
             };
+            known = equations;
+            aliased = λ q i p. absurd (subst (λ z. Among z q) none i);
           });
     }
 
@@ -152,19 +165,29 @@ module _ (h : Handler) (truth : Truth) (Proves : Tree → Tree → Type 0) (e g 
           predicates = λ p i. (let q = k.goals p i in over_known p.predicate q.predicate);
         }
 
-    begun : IsBegunAt truth (IsGranted Proves) c d w xs (plain_part m.candidate)
+    equations_known : KnowsEquations d xs m.candidate.equations
+    equations_known =
+        let k = over in
+        record { left = λ q i. over_known (left_of q) (left_over q (k.equations q i)); right = λ q i. over_known (right_of q) (right_over q (k.equations q i)) }
+
+    begun : IsBegunWith truth (IsGranted Proves) c d w e xs m.candidate
     begun =
         let f = freshened truth 0 c.universe m.candidate.fresh xs m.chosen c d w proper fresh m.values n.named m.free s in
         record {
-          reaches = record { world = f.world; agrees = f.agrees; solution = f.solution; plain = f.plain; longer = f.longer; keeps = f.keeps };
-          meets = meets_filled h truth Proves 0 e g asked keep ι m c d w same known xs f;
-          known = all_known;
+          plain = record {
+            reaches = record { world = f.world; agrees = f.agrees; solution = f.solution; plain = f.plain; longer = f.longer; keeps = f.keeps };
+            meets = meets_filled h truth Proves 0 e g asked keep ι m c d w same known xs f;
+            known = all_known;
+          };
+          known = equations_known;
+          aliased = aliased_filled h truth Proves 0 e g asked keep ι m c d w same known xs f;
         }
 
-  pub can_begin : CanBegin truth (IsGranted Proves) c w m.candidate
+  pub can_begin : CanBegin truth (IsGranted Proves) c w e m.candidate
   can_begin =
       let k = over in
       record {
+        environment = known.0;
         is_met = record {
           world = w;
           solves = s.solves;

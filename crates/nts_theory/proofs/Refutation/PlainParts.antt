@@ -1,5 +1,5 @@
 -- The plain part of a candidate: its equations are among the candidate's, and are all of them where none relates aliases.
-use Rattle.std.proofs.Common.{◌≡◌, ◌⊎◌, inl, inr, Bool, true, false, List, [], ◌∷◌, refl, ap}
+use Rattle.std.proofs.Common.{◌≡◌, ◌⊎◌, inl, inr, Bool, true, false, List, [], ◌∷◌, refl, ap, ◌∙◌}
 use Rattle.nts_model.specs.Tables.Contents.{Content}
 use Rattle.nts_model.specs.Lists.{Among}
 use Rattle.nts_model.specs.Derivations.Rules.{Equation}
@@ -17,6 +17,20 @@ plain_first x qs q rest i = by_test (relates_aliases x) refl
 pub plain_among : (qs : List Equation) (q : Equation) → Among (plain_equations qs) q → Among qs q
 plain_among [] q i = i
 plain_among (x ∷ qs) q i = plain_first x qs q (λ j. plain_among qs q j) i
+
+aliased_first : (x : Equation) (qs : List Equation) (q : Equation) → (Among (aliased_equations qs) q → Among qs q × (relates_aliases q ≡ true)) → Among (aliased_equations (x ∷ qs)) q → Among (x ∷ qs) q × (relates_aliases q ≡ true)
+aliased_first x qs q rest i = by_test (relates_aliases x) refl
+  where
+    later : Among (aliased_equations qs) q → Among (x ∷ qs) q × (relates_aliases q ≡ true)
+    later j = (let r = rest j in (inr r.0, r.1))
+
+    by_test : (z : Bool) → relates_aliases x ≡ z → Among (x ∷ qs) q × (relates_aliases q ≡ true)
+    by_test true e = elim (rw e at i) [ inl s ↦ (inl s, ap relates_aliases s ∙ e) | inr j ↦ later j ]
+    by_test false e = later (rw e at i)
+
+pub aliased_among : (qs : List Equation) (q : Equation) → Among (aliased_equations qs) q → Among qs q × (relates_aliases q ≡ true)
+aliased_among [] q i = absurd i
+aliased_among (x ∷ qs) q i = aliased_first x qs q (λ j. aliased_among qs q j) i
 
 -- an equation is plain, or it relates aliases
 one_of_both : (x : Equation) (qs : List Equation) (q : Equation) → (Among qs q → Among (plain_equations qs) q ⊎ Among (aliased_equations qs) q) → Among (x ∷ qs) q → Among (plain_equations (x ∷ qs)) q ⊎ Among (aliased_equations (x ∷ qs)) q

@@ -6,7 +6,7 @@ use Rattle.nts_model.specs.declared.labels.Relation.TheVariants as relation
 use Rattle.nts_model.specs.declared.labels.Leaf.{Leaf}
 use Rattle.nts_model.specs.declared.labels.Label.{Label}
 use Rattle.nts_model.specs.declared.labels.Label.TheVariants as label
-use Rattle.nts_model.specs.Terms.Trees.{Tree, empty, more, node, IsClosed, IsFormed}
+use Rattle.nts_model.specs.Terms.Trees.{Tree, empty, more, node, kind_of, IsClosed, IsFormed}
 use Rattle.nts_model.specs.Tables.Passing.{AllLabels}
 use Rattle.nts_model.specs.Terms.Substitutions.{put, replace, Instance, instance_of}
 use Rattle.nts_model.specs.Derivations.Related.{Constraint, pair, unbound, IsAlias, alias}
@@ -236,14 +236,17 @@ module _ (h : Handler) (V : ℕ → List Variance) (truth : Truth) where
           (subst (λ z. RelatedIn (strictly m) IsAliasFree (let q = p.reached in GrantsAt q.node q.at) Rests e v z r) same y))
       related_one r s free same (inr (inr (h, ts, us, other, is, rest))) = absurd (no_head h us (subst HasNoAlias is (free_none r free)))
 
-      by_results : (r s : Tree) → IsResult IsAliasFree Rests e a r → s ≡ t → AreResultsRelated (strictly m) IsAliasFree (let q = p.reached in GrantsAt q.node q.at) Rests e v r s ⊎ AreResultsRelated (strictly m) IsAliasFree (let q = p.reached in GrantsAt q.node q.at) Rests e v s r → Proves e (normalization_goal x.head x.parts t)
+      by_results : (r s : Tree) → IsResult IsAliasFree Rests e a r → s ≡ t → AreResultsRelated (strictly m) IsAliasFree (let q = p.reached in GrantsAt q.node q.at) Rests e v r s ⊎ AreResultsRelated (strictly m) IsAliasFree (let q = p.reached in GrantsAt q.node q.at) Rests e v s r → Proves e (normalization_goal x.head x.parts t) × (kind_of t ≡ kind_of a)
       by_results r s (inl (same, may)) is related = absurd (no_head x.head x.parts (subst HasNoAlias x.is (free_none a (may x))))
       by_results r s (inr (y, term, free, inl (i, rests), kinds)) is related =
           let q = rested e g p (relating e (normalization_goal y.head y.parts r)) rests in
-          subst (λ z. Proves e (normalization_goal x.head x.parts z)) (related_one r s free is related) (subst (Proves e) (same_parts y r) q)
+          let one = related_one r s free is related in (
+            subst (λ z. Proves e (normalization_goal x.head x.parts z)) one (subst (Proves e) (same_parts y r) q),
+            sym (ap kind_of one) ∙ kinds,
+          )
       by_results r s (inr (y, term, free, inr (loose, stands), kinds)) is related = absurd (loose tt)
 
-    equates : Proves e (alias_relation direction.Equate a t) ⊎ Proves e (alias_relation direction.Equate t a) → Proves e (normalization_goal x.head x.parts t)
+    equates : Proves e (alias_relation direction.Equate a t) ⊎ Proves e (alias_relation direction.Equate t a) → Proves e (normalization_goal x.head x.parts t) × (kind_of t ≡ kind_of a)
     equates (inl p) =
         let r = p.reached in
         let u = unfold_alias (strictly m) coherence IsAliasFree (GrantsAt r.node r.at) (HidesAt r.node r.at) (RestsOnAt m r.node r.at) e direction.Equate a t x.closed closed (goal_rule e (alias_relation direction.Equate a t) p) in

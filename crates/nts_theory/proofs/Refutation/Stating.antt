@@ -228,9 +228,9 @@ module _ (h : Handler) (truth : Truth) (Proves : Tree → Tree → Type 0) (theo
   filled_plain : (u : Tree) → Knows there u → filled [] u ≡ u
   filled_plain u k = filled-none [] u (known_no_positions there u k)
 
-  type_begins : (b : ℕ) (u t : Tree) → Knows there u → Knows there t → IsFormed u → IsFormed t → inst w u ≡ inst w t → CanBegin truth (IsGranted Proves) there w (plain_way (related u t ∷ []) [])
-  type_begins b u t ku kt fu ft same =
-      begins_whole truth (IsGranted Proves) there w (plain_way (related u t ∷ []) [])
+  type_begins : (b : ℕ) (u t : Tree) → Knows there e → HasPlainEquations (plain_way (related u t ∷ []) []) → Knows there u → Knows there t → IsFormed u → IsFormed t → inst w u ≡ inst w t → CanBegin truth (IsGranted Proves) there w e (plain_way (related u t ∷ []) [])
+  type_begins b u t ke plain ku kt fu ft same =
+      begins_whole truth (IsGranted Proves) there w e (plain_way (related u t ∷ []) []) ke plain
       (record { world = w; solves = solved.solves; values = []; fit = tt; named = tt; equal = λ q i. elim i [ inl x ↦ rw x (read_plain u ku fu ∙ same ∙ sym (read_plain t kt ft)) | inr x ↦ absurd x ] })
       by_values
     where
@@ -259,9 +259,9 @@ module _ (h : Handler) (truth : Truth) (Proves : Tree → Tree → Type 0) (theo
       by_values [] d x = begun d x
       by_values (y ∷ xs) d x = absurd x
 
-  goals_begin : (ps : List Tree) → Knows there e → ((p : Tree) → Among ps p → IsGranted Proves (inst w e) (inst w p)) → ((p : Tree) → Among ps p → Knows there (filled [] p)) → ((p : Tree) → Among ps p → filled [] p ≡ p) → CanBegin truth (IsGranted Proves) there w (plain_way [] (goals_there e ps))
+  goals_begin : (ps : List Tree) → Knows there e → ((p : Tree) → Among ps p → IsGranted Proves (inst w e) (inst w p)) → ((p : Tree) → Among ps p → Knows there (filled [] p)) → ((p : Tree) → Among ps p → filled [] p ≡ p) → CanBegin truth (IsGranted Proves) there w e (plain_way [] (goals_there e ps))
   goals_begin ps ke each kp none =
-      begins_whole truth (IsGranted Proves) there w (plain_way [] (goals_there e ps)) (record { world = w; solves = solved.solves; values = []; fit = tt; named = tt; equal = λ q i. absurd i }) by_values
+      begins_whole truth (IsGranted Proves) there w e (plain_way [] (goals_there e ps)) ke refl (record { world = w; solves = solved.solves; values = []; fit = tt; named = tt; equal = λ q i. absurd i }) by_values
     where
       begun : (d : Content) → d ≡ there → IsBegunAt truth (IsGranted Proves) there d w [] (plain_way [] (goals_there e ps))
       begun d x =
@@ -285,7 +285,7 @@ module _ (h : Handler) (truth : Truth) (Proves : Tree → Tree → Type 0) (theo
       by_values [] d x = begun d x
       by_values (y ∷ xs) d x = absurd x
 
-  by_way : (st : Tree) (x : Candidate) → opened_in c g ≡ unbound st → IsOwnWay h.judges e st x → HasPlainEquations x → IsFormed e → IsFormed st → IsClosed st → Knows there (pair e (opened_in c g)) → CanBegin truth (IsGranted Proves) there w x
+  by_way : (st : Tree) (x : Candidate) → opened_in c g ≡ unbound st → IsOwnWay h.judges e st x → HasPlainEquations x → IsFormed e → IsFormed st → IsClosed st → Knows there (pair e (opened_in c g)) → CanBegin truth (IsGranted Proves) there w e x
   by_way st x is (by_type {b = b} {u = u} {t = t}) plain fe f z k =
       let o : Knows there (unbound st) = subst (Knows there) is k.1.0 in
       let ks = o.1.1.0 in
@@ -293,9 +293,9 @@ module _ (h : Handler) (truth : Truth) (Proves : Tree → Tree → Type 0) (theo
       let ft = (let y = f.1 in y.1.0) in
       let kind : kind_of t ≡ Some (of_sort sort.Ty) = f.0.1.0 in
       let none = no_alias_of u t kind (none_of_one (relates_aliases (related u t)) (related u t) plain) in
-      type_begins b u t ks.1.0.1.0 ks.1.1.0 fu ft (said_there st is _ is_its_type z (refl, ((refl, (none.0, tt)), (none.1, tt))))
+      type_begins b u t k.0 plain ks.1.0.1.0 ks.1.1.0 fu ft (said_there st is _ is_its_type z (refl, ((refl, (none.0, tt)), (none.1, tt))))
   by_way st x is (by_goals {t = t} {ps = ps} given) plain fe f z k =
       goals_begin ps k.0 (each_proved st t ps is refl fe f z k given) (each_known st t ps is refl fe f z k given) (none_filled st t ps is refl fe f z k given)
 
-  pub own_begins : (x : Candidate) → HasOwnWay h.judges e (opened_in c g) x → HasPlainEquations x → IsFormed e → Knows there (pair e (opened_in c g)) → CanBegin truth (IsGranted Proves) there w x
+  pub own_begins : (x : Candidate) → HasOwnWay h.judges e (opened_in c g) x → HasPlainEquations x → IsFormed e → Knows there (pair e (opened_in c g)) → CanBegin truth (IsGranted Proves) there w e x
   own_begins x o plain fe k = by_way o.statement x o.binds_nothing o.way plain fe o.formed o.closed k

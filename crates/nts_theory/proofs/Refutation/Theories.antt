@@ -35,9 +35,9 @@ use Rattle.nts_theory.proofs.Refutation.Affirming.{denied_replaced}
 use Rattle.nts_theory.proofs.Refutation.Outliving.{true_again}
 use Rattle.nts_theory.proofs.Refutation.Saying.{was_formed, said_renamed, both_formed, said_before, said_opened, both_moved}
 use Rattle.nts_theory.specs.RelatingCandidates.{may_be_argument, AreTypesApart}
-use Rattle.nts_theory.specs.Refutation.Refutation.{HasNoAlias, HasPlainSides, IsGranted, IsCarrying, IsFair, UsesClause, UsesNamed, binding, GrantsFormed, AreUsed, IsTheory}
-use Rattle.nts_model.proofs.Terms.Substituting.{replace-equal, replace-leaf}
-use Rattle.nts_model.proofs.Terms.Composing.{IsFormed-instance, IsClosed-instance}
+use Rattle.nts_theory.specs.Refutation.Refutation.{HasNoAlias, HasPlainSides, IsGranted, IsCarrying, IsFair, IsEqualAlias, EqualsBy, same_tree, by_alias, by_row, by_node, AreEqualSides, UsesClause, UsesNamed, binding, GrantsFormed, AreUsed, IsTheory}
+use Rattle.nts_model.proofs.Terms.Substituting.{replace-equal, replace-leaf, kind_of-replace}
+use Rattle.nts_model.proofs.Terms.Composing.{IsFormed-instance, IsClosed-instance, instance_kinds}
 use Rattle.nts_model.proofs.Tables.Solving.{NamesAll-more}
 use Rattle.nts_model.proofs.Canonical.Numbering.{distinct-seen}
 use Rattle.nts_model.proofs.Canonical.Moving.{among-seen, occurs-seen}
@@ -154,6 +154,53 @@ true_renamed truth fair ρ k relation.RegionOutlives a b (inl e) = inl (ap (rena
 true_renamed truth fair ρ k relation.RegionOutlives a b (inr e) = inr (fair.renamed ρ k a b ∙ e)
 true_renamed truth fair ρ k relation.TypeOutlives a b e = fair.renamed ρ k a b ∙ e
 
+-- what an alias is, once renamed
+alias_renamed : (ρ : Renaming) (a : Tree) (x : IsAlias a) → rename ρ a ≡ alias x.head (rename ρ x.parts)
+alias_renamed ρ a x = ap (rename ρ) x.is ∙ renamed_alias x.head
+  where
+    renamed_alias : (h : AliasHead) → rename ρ (alias h x.parts) ≡ alias h (rename ρ x.parts)
+    renamed_alias (alias_of.Ty i) = refl
+    renamed_alias (alias_of.Const i) = refl
+
+abbrev still_alias : (ρ : Renaming) → IsCarrying ρ → (a : Tree) → IsAlias a → IsAlias (rename ρ a)
+still_alias ρ k a x = record { head = x.head; parts = rename ρ x.parts; is = alias_renamed ρ a x; closed = IsClosed-instance (instance_by ρ k) a x.closed }
+
+-- what aliases are equal to, renamed
+module _ (Granted Later : Tree → Tree → Type 0) (ρ : Renaming) (k : IsCarrying ρ) (later : (e g : Tree) → Granted e g → Later (rename ρ e) (rename ρ g)) where
+  equal_alias_renamed : (e a t : Tree) → IsEqualAlias Granted e a t → IsEqualAlias Later (rename ρ e) (rename ρ a) (rename ρ t)
+  equal_alias_renamed e a t x =
+      record {
+        alias = still_alias ρ k a x.alias;
+        ends = IsClosed-instance (instance_by ρ k) t x.ends;
+        none = no_alias_renamed ρ t x.none;
+        granted = elim x.granted [ inl g ↦ inl (later e (alias_relation direction.Equate a t) g) | inr g ↦ inr (later e (alias_relation direction.Equate t a) g) ];
+      }
+
+  put_equal : (R : Tree → Tree → Type 0) (f : Leaf → Tree) (l : Label) (c d : Tree) → EqualsBy R c d → EqualsBy R (put f l c) (put f l d)
+  put_equal R f (label.Leaf x) c d q = same_tree
+  put_equal R f (label.Bound s i n) c d q = by_node q
+  put_equal R f (label.Ty x) c d q = by_node q
+  put_equal R f (label.Const x) c d q = by_node q
+  put_equal R f (label.Clause x) c d q = by_node q
+  put_equal R f (label.Predicate x) c d q = by_node q
+  put_equal R f (label.List x) c d q = by_node q
+
+  equal_renamed : (e a b : Tree) → EqualsBy (IsEqualAlias Granted e) a b → EqualsBy (IsEqualAlias Later (rename ρ e)) (rename ρ a) (rename ρ b)
+  equal_renamed e a b same_tree = same_tree
+  equal_renamed e a b (by_alias x) = by_alias (equal_alias_renamed e a b x)
+  equal_renamed e (more a s) (more b t) (by_row p q) = by_row (equal_renamed e a b p) (equal_renamed e s t q)
+  equal_renamed e (node l c) (node m d) (by_node p) = put_equal _ (λ x. leaf_tree (ρ.to x)) l (rename ρ c) (rename ρ d) (equal_renamed e c d p)
+
+  sides_renamed : (e a b : Tree) (q : Equation) → related a b ≡ equation_by (rename ρ) q → ((x y : Tree) → q ≡ related x y → AreEqualSides Granted e x y) → AreEqualSides Later (rename ρ e) a b
+  sides_renamed e a b (related x y) is h =
+      let left : rename ρ x ≡ a = cc is in
+      let right : rename ρ y ≡ b = cc is in
+      let s = h x y refl in
+      subst (AreEqualSides Later (rename ρ e) a) right
+      (subst (λ z. AreEqualSides Later (rename ρ e) z (rename ρ y)) left
+      (record { from_left = λ n. equal_renamed e x y (s.from_left (no_alias_before ρ y n)); from_right = λ n. equal_renamed e y x (s.from_right (no_alias_before ρ x n)) }))
+  sides_renamed e a b (alike x y) is h = cc is
+
 -- a use of a clause, renamed
 pub uses_renamed : (h : Handler) (truth : Truth) (Proves Later : Tree → Tree → Type 0) (rules : InstancesAreRules h) → IsFair truth → (ρ : Renaming) (k : IsCarrying ρ)
     → ((e g : Tree) → IsGranted Proves e g → IsGranted Later (rename ρ e) (rename ρ g)) → (e s : Tree) → UsesClause h truth Proves e s → UsesClause h truth Later (rename ρ e) (rename ρ s)
@@ -166,6 +213,8 @@ uses_renamed h truth Proves Later rules fair ρ k later e s x =
       values = λ v i. (let r = mapped (rename ρ) x.use_of.values v i in subst IsAliasFree (sym r.2) (free_renamed ρ r.0 (x.values r.0 r.1)));
       equal = λ q i n. (let r = mapped (equation_by (rename ρ)) x.use_of.equations q i in
           subst (λ z. left_of z ≡ right_of z) (sym r.2) (equal_by (rename ρ) r.0 (x.equal r.0 r.1 (plain_before_renaming ρ r.0 (subst HasPlainSides r.2 n)))));
+      aliased = λ a b i. (let r = mapped (equation_by (rename ρ)) x.use_of.equations (related a b) i in
+          sides_renamed (IsGranted Proves) (IsGranted Later) ρ k later e a b r.0 r.2 (λ y z is. x.aliased y z (subst (Among x.use_of.equations) is r.1)));
       apart = λ a b i t. (let r = mapped (equation_by (rename ρ)) x.use_of.equations (related a b) i in apart_before ρ x.use_of.equations r.0 a b r.2 t x.apart r.1);
       met = λ y i. (let r = mapped (constraint_by (rename ρ)) x.use_of.constraints y i in
           subst (λ z. IsTrueBy truth z.relation z.left z.right) (sym r.2) (true_renamed truth fair ρ k r.0.relation r.0.left r.0.right (x.met r.0 r.1)));
@@ -888,31 +937,27 @@ module _ (h : Handler) (truth : Truth) (Proves : Tree → Tree → Type 0) (rule
       subst (λ y. IsGranted Later y p) m.environment (subst (IsGranted Later (rename m.by c.environment)) (forth_again m.by p over.formed) l)
 
   -- what an alias is equal to before it is later
-  alias_renamed : (ρ : Renaming) (k : IsCarrying ρ) (a : Tree) (x : IsAlias a) → rename ρ a ≡ alias x.head (rename ρ x.parts)
-  alias_renamed ρ k a x = ap (rename ρ) x.is ∙ renamed_alias x.head
-    where
-      renamed_alias : (h : AliasHead) → rename ρ (alias h x.parts) ≡ alias h (rename ρ x.parts)
-      renamed_alias (alias_of.Ty i) = refl
-      renamed_alias (alias_of.Const i) = refl
-
   parts_formed : (h : AliasHead) (ts : Tree) → IsFormed (alias h ts) → IsFormed ts
   parts_formed (alias_of.Ty i) ts f = f.1.0.1
   parts_formed (alias_of.Const i) ts f = f.1.0.1
 
   equated_carried : (e g a t : Tree) (x : IsAlias a) (c : Later e g) → IsFormed a → IsFormed t → IsClosed t → HasNoAlias t
-      → (let b = back_to c.by in (c.predicate ≡ alias_relation direction.Equate (rename b a) (rename b t)) ⊎ (c.predicate ≡ alias_relation direction.Equate (rename b t) (rename b a))) → Later e (normalization_goal x.head x.parts t)
+      → (let b = back_to c.by in (c.predicate ≡ alias_relation direction.Equate (rename b a) (rename b t)) ⊎ (c.predicate ≡ alias_relation direction.Equate (rename b t) (rename b a))) → Later e (normalization_goal x.head x.parts t) × (kind_of t ≡ kind_of a)
   equated_carried e g a t x c fa ft closed none says =
       let b = back_to c.by in
       let k = back_carrying c.by c.carrying in
-      let y : IsAlias (rename b a) = record { head = x.head; parts = rename b x.parts; is = alias_renamed b k a x; closed = IsClosed-instance (instance_by b k) a x.closed } in
+      let y : IsAlias (rename b a) = still_alias b k a x in
       let p = used.equates c.environment (rename b a) (rename b t) y (elim says [ inl s ↦ inl (subst (Proves c.environment) s c.proved) | inr s ↦ inr (subst (Proves c.environment) s c.proved) ]) (IsClosed-instance (instance_by b k) t closed) (no_alias_renamed b t none) in
-      let l = carried_later c.by c.carrying c.environment (normalization_goal x.head (rename b x.parts) (rename b t)) p in
+      let l = carried_later c.by c.carrying c.environment (normalization_goal x.head (rename b x.parts) (rename b t)) p.0 in
       let parts = forth_again c.by x.parts (parts_formed x.head x.parts (subst IsFormed x.is fa)) in
       let term = forth_again c.by t ft in
       let same : rename c.by (normalization_goal x.head (rename b x.parts) (rename b t)) ≡ normalization_goal x.head x.parts t = ap (λ z. normalization_goal x.head z (rename c.by (rename b t))) parts ∙ ap (normalization_goal x.head x.parts) term in
-      subst (λ z. Later z (normalization_goal x.head x.parts t)) c.is_environment (subst (Later (rename c.by c.environment)) same l)
+      let kinds = instance_kinds (instance_by b k) in (
+        subst (λ z. Later z (normalization_goal x.head x.parts t)) c.is_environment (subst (Later (rename c.by c.environment)) same l),
+        sym (kind_of-replace (λ y. leaf_tree (b.to y)) kinds t) ∙ p.1 ∙ kind_of-replace (λ y. leaf_tree (b.to y)) kinds a,
+      )
 
-  equates_later : (e a t : Tree) (x : IsAlias a) → Later e (alias_relation direction.Equate a t) ⊎ Later e (alias_relation direction.Equate t a) → IsClosed t → HasNoAlias t → Later e (normalization_goal x.head x.parts t)
+  equates_later : (e a t : Tree) (x : IsAlias a) → Later e (alias_relation direction.Equate a t) ⊎ Later e (alias_relation direction.Equate t a) → IsClosed t → HasNoAlias t → Later e (normalization_goal x.head x.parts t) × (kind_of t ≡ kind_of a)
   equates_later e a t x (inl c) closed none =
       let f = formed_later e (alias_relation direction.Equate a t) c in
       let w = f.1.0 in

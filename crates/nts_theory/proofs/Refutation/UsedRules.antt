@@ -23,11 +23,11 @@ use Rattle.nts_model.specs.Derivations.Rules.{region_lives, type_lives, subtyped
 use Rattle.nts_model.specs.Refutation.Choosing.{left_of, right_of}
 use Rattle.nts_model.specs.Derivations.Handlers.{Handler}
 use Rattle.nts_model.specs.Refutation.Containing.{IsAliasFree, Truth, IsTrueBy, IsGroundLabel, AreGround}
-use Rattle.nts_theory.specs.Refutation.Refutation.{HasNoAlias, StandsAsIs, HasPlainSides, IsGranted, UsesClause, UsesOpened, binding}
+use Rattle.nts_theory.specs.Refutation.Refutation.{HasNoAlias, StandsAsIs, HasPlainSides, IsGranted, IsEqualAlias, AreEqualSides, UsesClause, UsesOpened, binding}
 use Rattle.nts_theory.specs.Affirming.{has_type, is_well_formed, SaysOfTwo, outlives_it, is_its_type}
 use Rattle.nts_theory.proofs.Derivations.ClosedStatements.{opened_closed}
 use Rattle.nts_theory.proofs.Refutation.Outliving.{built_in_holds}
-use Rattle.nts_theory.proofs.Refutation.Covering.{related_equal, related_other, related_apart, alike_equal, predicate_with, unreplaced_goal, replaced_labels, not_built_in, applied_by_rule}
+use Rattle.nts_theory.proofs.Refutation.Covering.{related_equal, related_by_left, related_by_right, related_other, related_apart, alike_equal, predicate_with, unreplaced_goal, replaced_labels, not_built_in, applied_by_rule}
 
 -- statements of a handler, by their labels
 abbrev HandlersHead : Label → Type 0
@@ -179,6 +179,20 @@ module _ (h : Handler) (m : Meaning) (truth : Truth) (Proves : Tree → Tree →
   equation_equal k e (related a b) (inr n) r = related_equal m.variances G H (λ z. Stands G P k (relating e z)) one_side variance.Invariant a b refl n.0 n.1 r
   equation_equal k e (alike a b) n r = alike_equal _ one_side a b r
 
+  -- an alias that a premise relates with a term is equal to it
+  left_alias : (k : GoalKind) (e a b : Tree) → IsAlias a → IsClosed b → HasNoAlias b → Stands G P k (relating e (alias_goal variance.Invariant a b)) → IsEqualAlias (IsGranted Proves) e a b
+  left_alias k e a b i c n s = record { alias = i; ends = c; none = n; granted = inl (stands_granted k (relating e (alias_goal variance.Invariant a b)) s) }
+
+  right_alias : (k : GoalKind) (e a b : Tree) → IsAlias b → IsClosed a → HasNoAlias a → Stands G P k (relating e (alias_goal variance.Invariant a b)) → IsEqualAlias (IsGranted Proves) e b a
+  right_alias k e a b i c n s = record { alias = i; ends = c; none = n; granted = inr (stands_granted k (relating e (alias_goal variance.Invariant a b)) s) }
+
+  equal_sides : (k : GoalKind) (e a b : Tree) → HoldsEquation m G H (Stands G P k) e (related a b) → AreEqualSides (IsGranted Proves) e a b
+  equal_sides k e a b r =
+      record {
+        from_left = λ n. related_by_left m.variances G H (λ z. Stands G P k (relating e z)) one_side (IsEqualAlias (IsGranted Proves) e) (left_alias k e) variance.Invariant a b refl n r;
+        from_right = λ n. related_by_right m.variances G H (λ z. Stands G P k (relating e z)) one_side (IsEqualAlias (IsGranted Proves) e) (right_alias k e) variance.Invariant a b refl n r;
+      }
+
   uses_applied : (k : GoalKind) (e s : Tree) → IsApplied m coherence G H D (Stands G P k) e (unbound s) → UsesClause h truth Proves e s
   uses_applied k e s a =
       record {
@@ -188,6 +202,7 @@ module _ (h : Handler) (m : Meaning) (truth : Truth) (Proves : Tree → Tree →
         conclusion = a.conclusion;
         values = λ v i. (let x = a.values v i in unaliased v x.0);
         equal = λ q i n. equation_equal k e q n (a.equations q i);
+        aliased = λ x y i. equal_sides k e x y (a.equations (related x y) i);
         apart = λ x y i t. related_apart m.variances G H (λ z. Stands G P k (relating e z)) one_side variance.Invariant x y refl t (a.equations (related x y) i);
         met = λ x i. holds x (a.constraints x i);
         goals = λ p i. stands_granted k p (a.goals p i);

@@ -17,7 +17,7 @@ use Rattle.nts_model.specs.Answers.Responses.{IsQueryTable}
 use Rattle.nts_model.specs.Refutation.Containing.{IsAliasFree, IsPlainWorld, Truth, IsSolution, AreInputValues, ContainsSolution, AnswerContains, HasNoSolution, SolvesGoals, ExtendsTo}
 use Rattle.nts_model.specs.Refutation.Coherence.{RulesAreOffered}
 use Rattle.nts_model.specs.Derivations.Rules.{statement_of}
-use Rattle.nts_theory.specs.Refutation.Refutation.{IsPlainFor, IsGranted, IsFair, RespectsLeaks, IsTheory}
+use Rattle.nts_theory.specs.Refutation.Refutation.{IsPlainFor, IsGranted, IsFair, RespectsLeaks, IsTheory, TurnsEqualities}
 use Rattle.nts_model.proofs.Tables.Instances.{Agrees-trans}
 use Rattle.nts_model.proofs.Tables.Slots.{KeepsKinds-refl, KeepsKinds-trans}
 use Rattle.nts_theory.proofs.Refutation.AskingWorlds.{image, contained_granted}
@@ -34,7 +34,8 @@ use Rattle.nts_theory.proofs.Refutation.Stating.{own_begins}
 use Rattle.nts_theory.proofs.Refutation.Equating.{equality_begins, equality_no_lesser}
 use Rattle.nts_theory.specs.Telling.{Verdict, Queries, AreTermsOfKinds, StandsForAll, SaysOf, IsFound, without_constraints, IsPlainResponse, Tells, tells_nothing, says_nothing, tells_one, tells_outlives, tells_affirmed, tells_own, tells_subtype, tells_alias, tells_normal, Refutes, all_fail, is_denied, own_fails, is_no_subtype, subtype_refused, aliases_fail, normal_refused, by_lesser, by_one, Outcomes, no_outcome, then_fails, then_replies, Replies, replies, Fails, is_unmet, has_types_apart, is_unrelated, is_refused, is_leaky, Reaches, asks_nothing, then_asks, RefusesOne, refuses_one, cuts_one, Asked, asked_by, Refused, by_query, by_response}
 use Rattle.nts_theory.proofs.Refutation.Queried.{BeginsEach, Leads, Reached, IsSolved, IsQuery, first_query, IsTried, tried, tried_knows, found_table, solution_without, plain_without, entered_solution, entered_plain, says_contains, says_long}
-use Rattle.nts_theory.proofs.Refutation.Begun.{asked_from, originals_plain, BegunAt, begun_with, asks_more, goal_known, goal_plain, goal_there}
+use Rattle.nts_theory.proofs.Refutation.Begun.{asked_from, originals_plain, BegunAt, asks_more, goal_known, goal_plain, goal_there}
+use Rattle.nts_theory.proofs.Refutation.OneSided.{never_unrelated, begun_with}
 use Rattle.nts_theory.proofs.Refutation.QueryLabels.{entered_query, query_without}
 
 -- each verdict of candidates has as many values as there are positions
@@ -59,7 +60,7 @@ pub record OneContains (truth : Truth) (vs : List Verdict) (ts : List Tree) : Ty
   pub contains : ContainsSolution truth verdict.response ts
 
 -- the theorem: in coherence each answer contains each solution, and what is refused has none
-module _ (Q : Queries) (begins : BeginsEach Q) (h : Handler) (truth : Truth) (Proves : Tree → Tree → Type 0) (theory : IsTheory h truth Proves) (fair : IsFair truth) (respects : RespectsLeaks h truth) (lawful : IsLawfulHandler h) (law : RulesAreOffered h) where
+module _ (Q : Queries) (begins : BeginsEach Q) (h : Handler) (truth : Truth) (Proves : Tree → Tree → Type 0) (theory : IsTheory h truth Proves) (turns : TurnsEqualities Proves) (fair : IsFair truth) (respects : RespectsLeaks h truth) (lawful : IsLawfulHandler h) (law : RulesAreOffered h) where
   abbrev Granted : Tree → Tree → Type 0
   Granted = IsGranted Proves
 
@@ -152,38 +153,39 @@ module _ (Q : Queries) (begins : BeginsEach Q) (h : Handler) (truth : Truth) (Pr
         refuses_goals refused b.terms b.reaches.world b.goals
 
     outcomes_contain : {ks : List PositionKind} {c : Content} {e g : Tree} {qs : List Tree} {xs : List Candidate} {vs : List Verdict} → Outcomes Q h coherence c e g qs xs vs → IsTried ks c e g qs
-        → (w : World) → IsSolution truth 0 c w → IsPlainWorld c w → (x : Candidate) → Among xs x → CanBegin truth Granted c w x → OneContains truth vs (map (inst w) qs)
+        → (w : World) → IsSolution truth 0 c w → IsPlainWorld c w → (x : Candidate) → Among xs x → CanBegin truth Granted c w e x → OneContains truth vs (map (inst w) qs)
     outcomes_contain no_outcome t w s f y a k = absurd a
     outcomes_contain {ks} {c} {e} {g} {qs} (then_fails {xs = xs} {vs = vs} {x = x} before fails) t w s f y a k =
         let rest = λ (i : Among xs y). outcomes_contain before t w s f y i k in
         elim (among_split xs (x ∷ []) y a) [
           | inl i ↦ rest i
-          | inr i ↦ (elim i [ inl q ↦ absurd (fails_never fails w s f (subst (CanBegin truth Granted c w) q k)) | inr j ↦ absurd j ])
+          | inr i ↦ (elim i [ inl q ↦ absurd (fails_never fails w s f (subst (CanBegin truth Granted c w e) q k)) | inr j ↦ absurd j ])
         ]
     outcomes_contain {ks} {c} {e} {g} {qs} (then_replies {xs = xs} {vs = vs} {x = x} {v = v} before reply) t w s f y a k =
         let rest = λ (i : Among xs y). outcomes_contain before t w s f y i k in
         elim (among_split xs (x ∷ []) y a) [
           | inl i ↦ (let o = rest i in record { verdict = o.verdict; among = among_left vs (v ∷ []) o.verdict o.among; contains = o.contains })
           | inr i ↦ (elim i [
-            | inl q ↦ record { verdict = v; among = among_right vs (v ∷ []) v (inl refl); contains = replies_contain reply t w s f (subst (CanBegin truth Granted c w) q k) }
+            | inl q ↦ record { verdict = v; among = among_right vs (v ∷ []) v (inl refl); contains = replies_contain reply t w s f (subst (CanBegin truth Granted c w e) q k) }
             | inr j ↦ absurd j
           ])
         ]
 
     replies_contain : {ks : List PositionKind} {c : Content} {e g : Tree} {qs : List Tree} {x : Candidate} {v : Verdict} → Replies Q h coherence c e g qs x v → IsTried ks c e g qs
-        → (w : World) → IsSolution truth 0 c w → IsPlainWorld c w → CanBegin truth Granted c w x → ContainsSolution truth v.response (map (inst w) qs)
+        → (w : World) → IsSolution truth 0 c w → IsPlainWorld c w → CanBegin truth Granted c w e x → ContainsSolution truth v.response (map (inst w) qs)
     replies_contain {ks} {c} {e} {g} {qs} {x} {v} (replies ps met found begun reach is says) t w s f k =
-        let b = begun_with truth Granted Q.variances c met w e x ps f begun k in
+        let b = begun_with h truth Proves theory fair turns Q.variances c w e x f k met ps begun in
         some_says ks c met found w e g qs v ps t is s f b (reaches_keep reach b.terms) says
 
-    fails_never : {k : GoalKind} {c : Content} {e : Tree} {x : Candidate} → Fails Q h coherence k c e x → (w : World) → IsSolution truth 0 c w → IsPlainWorld c w → CanBegin truth Granted c w x → ⊥
+    fails_never : {k : GoalKind} {c : Content} {e : Tree} {x : Candidate} → Fails Q h coherence k c e x → (w : World) → IsSolution truth 0 c w → IsPlainWorld c w → CanBegin truth Granted c w e x → ⊥
     fails_never {c = c} {x = x} (is_unmet n) w s f k = n k.is_met
     fails_never {c = c} {x = x} (has_types_apart y) w s f k = k.apart y
-    fails_never (is_unrelated outside n) w s f k = outside refl
+    fails_never (is_unrelated (inl outside) n) w s f k = outside refl
+    fails_never {c = c} {e = e} {x = x} (is_unrelated (inr sides) n) w s f k = never_unrelated h truth Proves theory fair turns Q.variances c w e x f k sides n
     fails_never {c = c} {e = e} {x = x} (is_refused ps met begun refused) w s f k =
-        let b = begun_with truth Granted Q.variances c met w e x ps f begun k in refuses_goals refused b.terms b.reaches.world b.goals
+        let b = begun_with h truth Proves theory fair turns Q.variances c w e x f k met ps begun in refuses_goals refused b.terms b.reaches.world b.goals
     fails_never {c = c} {e = e} {x = x} (is_leaky ps met found begun reach leaks) w s f k =
-        let b = begun_with truth Granted Q.variances c met w e x ps f begun k in
+        let b = begun_with h truth Proves theory fair turns Q.variances c w e x f k met ps begun in
         let r = reaches_keep reach b.terms in
         let there = r.solutions.each b.reaches.world b.goals in
         respects.none found 0 there.world leaks there.solves.solution

@@ -1,5 +1,5 @@
 -- What is proved in coherence without aliases: in solutions none stands for a variable, and in proofs none is chosen.
-use Rattle.std.specs.Prelude.{List, [], length, Some, false, ◌≡◌, ◌⊎◌, ℕ, ◌+◌}
+use Rattle.std.specs.Prelude.{List, [], length, Some, true, false, ◌≡◌, ◌⊎◌, ℕ, ◌+◌}
 use Rattle.nts_model.specs.declared.labels.VariableKind.{VariableKind}
 use Rattle.nts_model.specs.declared.labels.Sort.{Sort}
 use Rattle.nts_model.specs.declared.labels.Leaf.{Leaf}
@@ -29,6 +29,8 @@ use Rattle.nts_model.specs.Tables.Passing.{AllLabels}
 use Rattle.nts_theory.specs.Affirming.{IsDenied, SaysOfTwo, is_well_formed}
 use Rattle.nts_theory.specs.RelatingCandidates.{may_be_argument, AreTypesApart}
 use Rattle.nts_variance_model.specs.Variances.SettledProofs.{IsReached, GrantsAt, HidesAt, RestsOnAt}
+use Rattle.nts_variance_model.specs.Variances.Leaving.{IsErased}
+use Rattle.nts_model.specs.declared.labels.FreeRegion.{FreeRegion}
 
 -- no alias stands for a leaf of the term
 abbrev pub IsPlainFor : World → Tree → Type 0
@@ -64,16 +66,37 @@ pub record IsCarrying (ρ : Renaming) : Type 0 where
   pub plain : IsPlain ρ
   pub variables : (k : VariableKind) (n : ℕ) → ρ.to (leaf.Variable k n) ≡ leaf.Variable k n
 
--- which types and regions outlive which regions does not depend on the names of constants and regions
+-- which types and regions outlive which regions does not depend on the names of constants and regions; erased and error regions stand to
+-- themselves alone
 pub record IsFair (truth : Truth) : Type 0 where
   pub renamed : (ρ : Renaming) → IsCarrying ρ → (a b : Tree) → truth (rename ρ a) (rename ρ b) ≡ truth a b
+  pub alone : (r : FreeRegion) → IsErased r → (a : Tree) → (truth a (leaf_tree (leaf.Region r)) ≡ true) ⊎ (truth (leaf_tree (leaf.Region r)) a ≡ true) → a ≡ leaf_tree (leaf.Region r)
 
 -- the handler is right about leaks where this is what outlives what: what its leak check says can't be met has no solution
 pub record RespectsLeaks (h : Handler) (truth : Truth) : Type 0 where
   pub none : (c : Content) (u : ℕ) (w : World) → h.leaks c u → IsSolution truth u c w → ⊥
 
--- a use of a clause: its values have no aliases, its equations are equalities, as far as no alias stands in them, and equate no types
--- that are apart, its constraints are true, and its goals are granted
+-- an alias is granted to be equal to a closed term in which no alias stands, said the one way or the other
+pub record IsEqualAlias (Granted : Tree → Tree → Type 0) (e a t : Tree) : Type 0 where
+  pub alias : IsAlias a
+  pub ends : IsClosed t
+  pub none : HasNoAlias t
+  pub granted : Granted e (alias_relation direction.Equate a t) ⊎ Granted e (alias_relation direction.Equate t a)
+
+-- the first tree is the second, once aliases in it gave place to terms that they are equal to
+pub data EqualsBy (R : Tree → Tree → Type 0) : Tree → Tree → Type 0 where
+  same_tree : {t : Tree} → EqualsBy R t t
+  by_alias : {a t : Tree} → R a t → EqualsBy R a t
+  by_row : {a b s t : Tree} → EqualsBy R a b → EqualsBy R s t → EqualsBy R (more a s) (more b t)
+  by_node : {l : Label} {c d : Tree} → EqualsBy R c d → EqualsBy R (node l c) (node l d)
+
+-- the sides of an equation are equal so, if no alias stands in one of them
+pub record AreEqualSides (Granted : Tree → Tree → Type 0) (e a b : Tree) : Type 0 where
+  pub from_left : HasNoAlias b → EqualsBy (IsEqualAlias Granted e) a b
+  pub from_right : HasNoAlias a → EqualsBy (IsEqualAlias Granted e) b a
+
+-- a use of a clause: its values have no aliases, its equations are equalities, as far as no alias stands in them, and so are those with
+-- aliases on one side, once aliases gave place; it equates no types that are apart, its constraints are true, and its goals are granted
 pub record UsesClause (h : Handler) (truth : Truth) (Proves : Tree → Tree → Type 0) (e s : Tree) : Type 0 where
   pub use_of : Application
   pub applies : h.applies coherence use_of
@@ -81,6 +104,7 @@ pub record UsesClause (h : Handler) (truth : Truth) (Proves : Tree → Tree → 
   pub conclusion : use_of.conclusion ≡ unbound s
   pub values : (v : Tree) → Among use_of.values v → IsAliasFree v
   pub equal : (q : Equation) → Among use_of.equations q → HasPlainSides q → left_of q ≡ right_of q
+  pub aliased : (a b : Tree) → Among use_of.equations (related a b) → AreEqualSides (IsGranted Proves) e a b
   pub apart : (a b : Tree) → Among use_of.equations (related a b) → AreTypesApart a b → ⊥
   pub met : (x : Constraint) → Among use_of.constraints x → IsTrueBy truth x.relation x.left x.right
   pub goals : (p : Premise) → Among use_of.goals p → IsGranted Proves p.environment p.predicate
@@ -100,7 +124,8 @@ GrantsFormed j Proves e s = (t : Tree) (ps : List Tree) → s ≡ is_well_formed
 
 -- what is proved: terms without region variables. Names of constants and regions play no part, and each goal that a handler's rules say follows by a
 -- use of a clause, as it stands or with the placeholders of a new universe for what it binds. What is proved to outlive a region does,
--- and what is a value's type is, if no alias stands there; what an alias is equal to, in which none stands, it normalizes to; what is well formed is so by predicates that are granted; and nothing is
+-- and what is a value's type is, if no alias stands there; what an alias is equal to, in which none stands, it normalizes to, and is of its
+-- kind; what is well formed is so by predicates that are granted; and nothing is
 -- proved that the handler denies
 pub record IsTheory (h : Handler) (truth : Truth) (Proves : Tree → Tree → Type 0) : Type 0 where
   pub ground : AreGround Proves
@@ -109,11 +134,15 @@ pub record IsTheory (h : Handler) (truth : Truth) (Proves : Tree → Tree → Ty
   pub denies : (e g : Tree) → Proves e g → IsDenied h.judges (statement_of g) → ⊥
   pub says_opened : (u : ℕ) (e x xs s : Tree) (y : Constraint) → Proves e (binding x xs s) → SaysOfTwo y (opened (placeholder_in (u + 1)) 0 s) → NamesAll leaf_level u (pair e s) → HasNoAlias s → IsTrueBy truth y.relation y.left y.right
   pub formed : (e s : Tree) → Proves e (unbound s) → IsClosed s → GrantsFormed h.judges Proves e s
-  pub equates : (e a t : Tree) (x : IsAlias a) → Proves e (alias_relation direction.Equate a t) ⊎ Proves e (alias_relation direction.Equate t a) → IsClosed t → HasNoAlias t → Proves e (normalization_goal x.head x.parts t)
+  pub equates : (e a t : Tree) (x : IsAlias a) → Proves e (alias_relation direction.Equate a t) ⊎ Proves e (alias_relation direction.Equate t a) → IsClosed t → HasNoAlias t → Proves e (normalization_goal x.head x.parts t) × (kind_of t ≡ kind_of a)
   pub formed_opened : (u : ℕ) (e x xs s : Tree) → Proves e (binding x xs s) → NamesAll leaf_level u (pair e s) → GrantsFormed h.judges Proves e (opened (placeholder_in (u + 1)) 0 s)
   pub plain : (u : ℕ) (e s : Tree) → Proves e (unbound s) → IsHandlers s → IsClosed s → NamesAll leaf_level u (pair e s) → UsesNamed h truth Proves u e s
   pub opened : (u : ℕ) (e x xs s : Tree) → Proves e (binding x xs s) → IsHandlers (opened (placeholder_in (u + 1)) 0 s) → IsFormed (opened (placeholder_in (u + 1)) 0 s) → NamesAll leaf_level u (pair e s)
       → UsesNamed h truth Proves (u + 1) e (opened (placeholder_in (u + 1)) 0 s)
+
+-- that two terms are equal is proved both ways or not at all
+abbrev pub TurnsEqualities : (Tree → Tree → Type 0) → Type 0
+TurnsEqualities Proves = (e a b : Tree) → Proves e (alias_relation direction.Equate a b) → Proves e (alias_relation direction.Equate b a)
 
 -- what a goal that binds variables says of two terms is so with fresh placeholders for them
 pub record SaysOpened (truth : Truth) (e c s : Tree) : Type 0 where
@@ -143,7 +172,7 @@ pub record AreUsed (h : Handler) (truth : Truth) (Proves : Tree → Tree → Typ
   pub denies : (e g : Tree) → Proves e g → IsDenied h.judges (statement_of g) → ⊥
   pub says_opened : (e x xs s : Tree) → Proves e (binding x xs s) → HasNoAlias s → SaysOpened truth e (binding x xs s) s
   pub formed : (e s : Tree) → Proves e (unbound s) → IsClosed s → GrantsFormed h.judges Proves e s
-  pub equates : (e a t : Tree) (x : IsAlias a) → Proves e (alias_relation direction.Equate a t) ⊎ Proves e (alias_relation direction.Equate t a) → IsClosed t → HasNoAlias t → Proves e (normalization_goal x.head x.parts t)
+  pub equates : (e a t : Tree) (x : IsAlias a) → Proves e (alias_relation direction.Equate a t) ⊎ Proves e (alias_relation direction.Equate t a) → IsClosed t → HasNoAlias t → Proves e (normalization_goal x.head x.parts t) × (kind_of t ≡ kind_of a)
   pub formed_opened : (e x xs s : Tree) → Proves e (binding x xs s) → FormedOpened h Proves e (binding x xs s) s
 
 -- an instance that leaves no region variable: each has been assigned a free region

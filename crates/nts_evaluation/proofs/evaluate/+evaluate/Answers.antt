@@ -818,8 +818,8 @@ try_evaluate_goals-returns-in_err-stepped = steps.try_evaluate_goals-returns-in_
 pub try_evaluate_goals-returns-then-not-stepped : goal.try_evaluate_goals-returns-then-not-stepped
 try_evaluate_goals-returns-then-not-stepped = steps.try_evaluate_goals-returns-then-not-stepped
 
-pub try_relating-returns-in_err-goals : goal.try_relating-returns-in_err-goals
-try_relating-returns-in_err-goals = relating.try_relating-returns-in_err-goals
+pub try_relating-returns-in_err-begun : goal.try_relating-returns-in_err-begun
+try_relating-returns-in_err-begun = relating.try_relating-returns-in_err-begun
 
 pub try_relating-try_evaluate_goals-requires : goal.try_relating-try_evaluate_goals-requires
 try_relating-try_evaluate_goals-requires = relating.try_relating-try_evaluate_goals-requires
@@ -830,8 +830,11 @@ try_relating-returns-in_err-certainty = relating.try_relating-returns-in_err-cer
 pub try_relating-returns : goal.try_relating-returns
 try_relating-returns = relating.try_relating-returns
 
-pub try_candidate-returns-then-matches : goal.try_candidate-returns-then-matches
-try_candidate-returns-then-matches = relating.try_candidate-returns-then-matches
+pub try_relating-returns-then-not-may_ask : goal.try_relating-returns-then-not-may_ask
+try_relating-returns-then-not-may_ask = relating.try_relating-returns-then-not-may_ask
+
+pub try_candidate-returns-then-not-may_relate : goal.try_candidate-returns-then-not-may_relate
+try_candidate-returns-then-not-may_relate = relating.try_candidate-returns-then-not-may_relate
 
 pub try_candidate-try_relating-requires : goal.try_candidate-try_relating-requires
-try_candidate-try_relating-requires g t c = λ κs k. (omega (arith, c.decreases), (k, (c.requires.posed, (c.requires.ready, (c.requires.candidate, (search rules, (c.needs_relating.ensures.yes c.if-needs_relating.true, c.requires.search)))))))
+try_candidate-try_relating-requires g t c = λ κs k. (omega (arith, c.decreases), (k, (c.requires.posed, (c.requires.ready, (c.requires.candidate, (rw c.typing_mode.ensures at (c.may_relate.ensures.yes c.if-not-may_relate.false), (c.needs_relating.ensures.yes c.if-needs_relating.true, c.requires.search)))))))

@@ -11,4 +11,4 @@ pub returns : goal.returns
 returns c =
     let ts = c.args.cx.now.nodes in
     let says : statement_of (tree_at ts c.args.goal.predicate.node) ≡ tree_of_statement ts c.kind-predicate.result.value = ap statement_of c.kind-predicate.ensures.tree in
-    λ yes. inr (record { statement = subst IsHandlers (sym says) (c.says_by_rules.ensures yes ts); no_alias = sym c.has_alias.ensures ∙ search rules })
+    λ yes. inr (record { statement = subst IsHandlers (sym says) (c.says_by_rules.ensures yes ts); no_alias = search rules })

@@ -2,7 +2,7 @@ use Rattle.std.proofs.Common.{rules, ◌≡◌, inl, inr, Err}
 use Rattle.nts_store.specs.declared.fault.EvalError.TheVariants as error
 use Rattle.nts_meaning.proofs.Evaluating.{Runs-refl, Runs-trans, Runs-extends, IsPosed-later, AreValues-later, IsCandidate-extended}
 use Rattle.nts_meaning.proofs.Running.{constraints-kept}
-use Rattle.nts_trying.proofs.BegunRelating.{begun_by, is_unrelated, equations_there, values_known, plain_unmet, fits_there}
+use Rattle.nts_trying.proofs.BegunRelating.{begun_by, is_unrelated, equations_there, values_known, plain_unmet, fits_there, related_hold}
 use Rattle.nts_trying.proofs.relating.begin_relating.Goals as goal
 
 pub returns-in_err-aliased-clause-runs : goal.returns-in_err-aliased-clause-runs
@@ -67,6 +67,13 @@ returns-in_err-goals-clause-no c = λ q.
     inr (is_unrelated c.args.goal c.args.candidate.now c.in_ok-plain.plain c.in_ok-values.values.items c.requires.posed c.requires.candidate c.in_ok-plain.ensures v.runs k.runs v.values v.equated (rw (c.deref-2.ensures.value, c.deref-3.ensures.value) at k.added) c.requires.some
     (rw (c.deref-2.ensures.value, c.deref-4.ensures.value, c.in_ok-aliased.ensures) at (c.relate_equations.ensures.no no)))
 
+pub are_plain_equalities-equalities-requires : goal.are_plain_equalities-equalities-requires
+are_plain_equalities-equalities-requires c =
+    let v = c.in_ok-values.ensures in
+    let k = c.in_ok-record_constraints.ensures in
+    let r = c.in_ok-goals.ensures in
+    rw c.deref-5.ensures.value (related_hold r.relates (IsPosed-later r.runs.goes (IsPosed-later k.runs.goes (IsPosed-later v.runs.goes c.requires.posed))))
+
 pub added_goals-requires-clause-posed : goal.added_goals-requires-clause-posed
 added_goals-requires-clause-posed c =
     IsPosed-later c.in_ok-goals.ensures.runs.goes (IsPosed-later c.in_ok-record_constraints.ensures.runs.goes (IsPosed-later c.in_ok-values.ensures.runs.goes c.requires.posed))
@@ -75,7 +82,7 @@ pub added_goals-requires-clause-nested : goal.added_goals-requires-clause-nested
 added_goals-requires-clause-nested c =
     let all = Runs-trans c.in_ok-values.ensures.runs (Runs-trans c.in_ok-record_constraints.ensures.runs c.in_ok-goals.ensures.runs) in
     let k = IsCandidate-extended all.goes.extends c.requires.posed.holds c.requires.candidate in
-    rw (c.deref.ensures.value, c.deref-5.ensures.value) k.goals
+    rw (c.deref.ensures.value, c.deref-6.ensures.value) k.goals
 
 pub added_goals-requires-clause-values : goal.added_goals-requires-clause-values
 added_goals-requires-clause-values c =
@@ -112,4 +119,5 @@ returns-clause-begins c =
     rw c.in_ok-append.ensures.items
     (begun_by c.args.goal x c.in_ok-plain.plain c.in_ok-values.values.items c.requires.posed c.requires.candidate c.in_ok-plain.ensures v.runs k.runs v.values v.equated (rw (c.deref-2.ensures.value, c.deref-3.ensures.value) at k.added)
     c.in_ok-goals.goals.items c.in_ok-own.own.items c.requires.some r.runs c.in_ok-own.ensures.grows v.equal v.labels (rw (c.deref-2.ensures.value, c.deref-3.ensures.value, constraints) at k.held) k.labels
-    (rw (c.deref-2.ensures.value, c.deref-4.ensures.value, c.in_ok-aliased.ensures) at r.relates) (rw (c.deref-2.ensures.value, c.deref-5.ensures.value) at c.in_ok-own.ensures.added))
+    (rw (c.deref-2.ensures.value, c.deref-4.ensures.value, c.in_ok-aliased.ensures) at r.relates) (rw (c.deref-2.ensures.value, c.deref-6.ensures.value) at c.in_ok-own.ensures.added)
+    c.are_plain_equalities-equalities.result (rw c.deref-5.ensures.value at c.are_plain_equalities-equalities.ensures))

@@ -165,7 +165,7 @@ evaluate_alias-returns g t c =
           let run = rw c.deref.ensures.value at (r.told (Since-later e.grows s) (tell_grown h c.args.depth c.requires.search e.grows tells)) in
           IfOk-map c.evaluate_candidates.result
           (λ x f. ⊎_elim
-          (λ v. inl (record { offers = subst (λ m. IsOpenToOffers (mode_of m) (tree_at c.args.cx.now.nodes c.args.goal.param_env.node) (tree_at c.args.cx.now.nodes c.args.goal.predicate.node)) c.typing_mode.ensures (c.is_open_to_offers.ensures c.if-not-is_open_to_offers.false); verdicts = v.0; outcomes = v.1; stands = v.2 }))
+          (λ v. inl (record { offers = subst (λ m. IsOpenToOffers (mode_of m) (tree_at c.args.cx.now.nodes c.args.goal.predicate.node)) c.typing_mode.ensures (c.is_open_to_offers.ensures c.if-not-is_open_to_offers.false); verdicts = v.0; outcomes = v.1; stands = v.2 }))
           (λ v. inr v)
           (told_offered h mode c.args.table.now c.args.goal c.args.values.now c.in_ok-candidates.candidates.items c.evaluate_candidates.new.cx.nodes x.value e.grows.extends table posed.holds trees offered f)) run;
       refuted = λ s tells n.
@@ -177,7 +177,7 @@ evaluate_alias-returns g t c =
           let predicate = e.grows.extends.kept c.args.goal.predicate.node posed.holds.predicate.within in
           let kept = offers-kept (g.H.GoalHandler.handler s.base c.args.handler.now) (mode_of mode) e.grows.extends posed.holds in
           record {
-            offers = subst (λ m. IsOpenToOffers (mode_of m) (tree_at c.args.cx.now.nodes c.args.goal.param_env.node) (tree_at c.args.cx.now.nodes c.args.goal.predicate.node)) c.typing_mode.ensures (c.is_open_to_offers.ensures c.if-not-is_open_to_offers.false);
+            offers = subst (λ m. IsOpenToOffers (mode_of m) (tree_at c.args.cx.now.nodes c.args.goal.predicate.node)) c.typing_mode.ensures (c.is_open_to_offers.ensures c.if-not-is_open_to_offers.false);
             outcomes = rw (here, trees, kept, environment, predicate) at (all_outcomes offered _ _ refl run);
           };
     }

@@ -7,7 +7,8 @@ use Rattle.nts_theory.specs.Telling.Fails.{is_unmet, is_unrelated, is_refused}
 use Rattle.nts_store.specs.declared.fault.EvalError.TheVariants as EvalError
 use Rattle.nts_terms.specs.Modes.{mode_of}
 use Rattle.nts_unify.specs.Reading.{content_of}
-use Rattle.nts_candidates.specs.Offered.{certainty_of}
+use Rattle.nts_candidates.specs.Offered.{certainty_of, candidate_of}
+use Rattle.nts_theory.specs.RelatingCandidates.{goals_with}
 use Rattle.nts_meaning.specs.Evaluation.{goals_at}
 use Rattle.nts_meaning.specs.Meant.{ruling_since}
 use Rattle.nts_meaning.specs.Searching.{assumed_in}
@@ -26,6 +27,8 @@ use Rattle.nts_certainty.specs.Certainties.{ambiguous}
 use Rattle.nts_certainty.specs.declared.certainty.Certainty.{Certainty}
 use Rattle.nts_certainty.specs.declared.certainty.Certainty.TheVariants as certainty
 use Rattle.nts_store.specs.declared.fault.EvalError.{EvalError as EvalFault}
+use Rattle.nts_trying.proofs.OneSidedEquations.{begins_in, doubted_in, may_be_asked}
+use Rattle.nts_model.proofs.Tables.Bringing.{only-refl}
 use Rattle.nts_evaluation.proofs.evaluate.+evaluate.Goals as goal
 
 -- what is in doubt is no yes
@@ -33,23 +36,23 @@ doubt_no_yes : (r : Result Certainty EvalFault) → IfOk r (λ y. y ≡ ambiguou
 doubt_no_yes r h e = (let same : certainty.Yes ≡ ambiguous = subst (λ z. IfOk z (λ y. y ≡ ambiguous)) e h in cc same)
 
 -- in coherence such a candidate is begun in part, and in doubt
-pub try_candidate-returns-then-matches : goal.try_candidate-returns-then-matches
-try_candidate-returns-then-matches g t c =
+pub try_candidate-returns-then-not-may_relate : goal.try_candidate-returns-then-not-may_relate
+try_candidate-returns-then-not-may_relate g t c =
     let b = c.begin_in_part.ensures in
     let some = c.needs_relating.ensures.yes c.if-needs_relating.true in
-    let inside : mode_of c.args.table.now.mode ≡ coherence = search rules in
+    let inside : mode_of c.args.table.now.mode ≡ coherence = ap mode_of (sym c.typing_mode.ensures) ∙ c.may_relate.ensures.no c.if-not-may_relate.true in
     record {
       runs = b.runs;
       searches = Searches-refl c.args.depth c.requires.search (ran b.runs);
       labels = OnOk-map c.begin_in_part.result (λ h. h.labels) b.begins;
       proved = λ s y. absurd (doubt_no_yes c.begin_in_part.result b.doubt y);
-      told = λ s tells. OnOk-map c.begin_in_part.result (λ h. record { left = h.left; met = content_of c.begin_in_part.new.cx.nodes c.begin_in_part.new.table.entries; begun = inr (inr (inside, h.begun)); reaches = asks_nothing }) b.begins;
+      told = λ s tells. OnOk-map c.begin_in_part.result (λ h. record { left = h.left; met = content_of c.begin_in_part.new.cx.nodes c.begin_in_part.new.table.entries; begun = inr (inr (inside, inl h.begun)); reaches = asks_nothing }) b.begins;
       refuted = λ s tells n. is_unmet (b.no n);
       decided = λ s n k d can. absurd (some d.plain);
     }
 
-pub try_relating-returns-in_err-goals : goal.try_relating-returns-in_err-goals
-try_relating-returns-in_err-goals g t c =
+pub try_relating-returns-in_err-begun : goal.try_relating-returns-in_err-begun
+try_relating-returns-in_err-begun g t c =
     let fails : is_err c.from_residual.result ≡ true = search rules in
     record {
       runs = search rules;
@@ -59,16 +62,13 @@ try_relating-returns-in_err-goals g t c =
       told = λ s tells. IfOk-from_err c.from_residual.result _ fails;
       refuted = λ s tells n.
           let no : c.begin_relating.result ≡ Err EvalError.NoSolution = search rules in
-          ⊎_elim
-          (λ u. is_unmet u)
-          (λ u. is_unrelated c.requires.outside (rw s.declared u))
-          (c.begin_relating.ensures.no no);
+          elim (c.begin_relating.ensures.no no) [ inl u ↦ is_unmet u | inr u ↦ is_unrelated c.requires.may (rw s.declared u) ];
       decided = λ s n b d can. absurd (c.requires.some d.plain);
     }
 
 pub try_relating-try_evaluate_goals-requires : goal.try_relating-try_evaluate_goals-requires
 try_relating-try_evaluate_goals-requires g t c = λ κs k-1.
-    let b = c.in_ok-goals.ensures in
+    let b = c.in_ok-begun.ensures in
     let begins = b.begins in (
       omega (arith, c.decreases),
       (
@@ -86,9 +86,35 @@ try_relating-try_evaluate_goals-requires g t c = λ κs k-1.
       ),
     )
 
+-- in coherence it is in doubt where relating left another goal than that an alias is equal to a term without aliases
+pub try_relating-returns-then-not-may_ask : goal.try_relating-returns-then-not-may_ask
+try_relating-returns-then-not-may_ask g t c =
+    let b = c.in_ok-begun.ensures in
+    let begins = b.begins in
+    let m = c.begin_relating.new.cx in
+    let u = c.begin_relating.new.table in
+    let inside : mode_of u.mode ≡ coherence = ap mode_of (sym c.typing_mode.ensures) ∙ c.may_ask.ensures.no c.if-not-may_ask.true in
+    record {
+      runs = b.runs;
+      searches = Searches-refl c.args.depth c.requires.search (ran b.runs);
+      labels = begins.labels (only-refl _ _);
+      proved = λ s y. cc y;
+      told = λ s tells.
+          (let first = begins.begun in
+          let asks = candidate_of c.args.cx.now.nodes c.args.candidate.now in
+          record {
+            left = goals_with first.values asks.goals;
+            met = content_of m.nodes u.entries;
+            begun = rw s.declared (doubted_in _ _ _ _ _ _ _ begins.begun begins.continues c.requires.may (ap mode_of (sym b.runs.goes.mode) ∙ inside));
+            reaches = asks_nothing;
+          });
+      refuted = λ s tells n. cc n;
+      decided = λ s n k d can. absurd (c.requires.some d.plain);
+    }
+
 pub try_relating-returns-in_err-certainty : goal.try_relating-returns-in_err-certainty
 try_relating-returns-in_err-certainty g t c =
-    let b = c.in_ok-goals.ensures in
+    let b = c.in_ok-begun.ensures in
     let begins = b.begins in
     let e = c.try_evaluate_goals.ensures in
     let m = c.begin_relating.new.cx in
@@ -104,20 +130,20 @@ try_relating-returns-in_err-certainty g t c =
           let h = ruling_since (λ ts. g.H.GoalHandler.handler ts c.args.handler.now) s in
           let refused : c.try_evaluate_goals.result ≡ Err EvalError.NoSolution = search rules in
           let no = stopped_refused u c.args.graph.now c.goal_kind-kind.result (e.refuted (Since-later (ran b.runs) s) (tell_grown h c.args.depth c.requires.search (ran b.runs) tells) refused) in
-          is_refused (goals_at m.nodes c.in_ok-goals.goals.items) (content_of m.nodes u.entries) (inr (inl (c.requires.outside, rw s.declared begins.begun))) (rw (b.runs.goes.mode, c.goal_kind-kind.ensures.kind s.base s.variances) at no);
+          is_refused (goals_at m.nodes c.in_ok-begun.begun.goals.items) (content_of m.nodes u.entries) (rw s.declared (begins_in _ _ _ _ _ _ _ begins.begun begins.continues c.requires.may (may_be_asked begins.equalities (ap mode_of (c.typing_mode.ensures ∙ b.runs.goes.mode)) (c.may_ask.ensures.yes c.if-not-may_ask.false)))) (rw (b.runs.goes.mode, c.goal_kind-kind.ensures.kind s.base s.variances) at no);
       decided = λ s n k d can. absurd (c.requires.some d.plain);
     }
 
 pub try_relating-returns : goal.try_relating-returns
 try_relating-returns g t c =
-    let b = c.in_ok-goals.ensures in
+    let b = c.in_ok-begun.ensures in
     let begins = b.begins in
     let e = c.in_ok-certainty.ensures in
     let m = c.begin_relating.new.cx in
     let u = c.begin_relating.new.table in
     let z = c.try_evaluate_goals.new.cx in
     let w = c.try_evaluate_goals.new.table in
-    let gs = c.in_ok-goals.goals.items in
+    let gs = c.in_ok-begun.begun.goals.items in
     let mode = c.args.table.now.mode in
     record {
       runs = Runs-trans b.runs e.runs;
@@ -128,13 +154,13 @@ try_relating-returns g t c =
           let sure = both_sure _ _ (sym c.and.ensures ∙ ok_inside y) in
           let settled = rw (b.runs.goes.mode, c.goal_kind-kind.ensures.kind s.base s.variances) at (e.proved (Since-later (ran b.runs) s)) in
           let none = e.sure (ap Ok sure.1) in
-          relating_holds (meaning h s.variances) (mode_of mode) (assumed_in z.nodes c.try_evaluate_goals.new.graph) c.args.goal c.args.candidate.now gs z.nodes w c.requires.posed c.requires.candidate c.requires.some begins s.declared e.runs.goes c.terms_are_formed-2.ensures (proved_all _ gs none settled) (ap certainty_of sure.0);
+          relating_holds (meaning h s.variances) (mode_of mode) (assumed_in z.nodes c.try_evaluate_goals.new.graph) c.args.goal c.args.candidate.now gs c.in_ok-begun.begun.equalities z.nodes w c.requires.posed c.requires.candidate c.requires.some begins s.declared e.runs.goes c.terms_are_formed-2.ensures (proved_all _ gs none settled) (ap certainty_of sure.0);
       told = λ s tells.
           let h = ruling_since (λ ts. g.H.GoalHandler.handler ts c.args.handler.now) s in
           record {
             left = goals_at m.nodes gs;
             met = content_of m.nodes u.entries;
-            begun = inr (inl (c.requires.outside, rw s.declared begins.begun));
+            begun = rw s.declared (begins_in _ _ _ _ _ _ _ begins.begun begins.continues c.requires.may (may_be_asked begins.equalities (ap mode_of (c.typing_mode.ensures ∙ b.runs.goes.mode)) (c.may_ask.ensures.yes c.if-not-may_ask.false)));
             reaches = rw b.runs.goes.mode at (e.told (Since-later (ran b.runs) s) (tell_grown h c.args.depth c.requires.search (ran b.runs) tells));
           };
       refuted = search rules;
