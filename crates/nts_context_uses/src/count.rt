@@ -5,7 +5,7 @@ ghost use Rattle.nts_delegate.specs.Clauses.{AreClausesReady};
 ghost use Rattle.nts_table.specs.Tables.{IsTable, IsPlainSide};
 ghost use Rattle.nts_terms.specs.Rest.{Grows};
 ghost use Rattle.nts_meaning.specs.Evaluation.{IsPosed};
-ghost use Rattle.nts_contexts.specs.Related.{IsEnvOf};
+ghost use Rattle.nts_nested_goals.specs.Related.{IsEnvOf};
 ghost use Rattle.nts_contexts.specs.Contexts.{IsContextReady, KeepsContext, IsGoalOfContext};
 
 use crate::rule::{goal_of, is_plain, vecs_of};

@@ -6,19 +6,7 @@ mod count;
 #[cfg(test)]
 mod errors;
 #[cfg(test)]
-mod free;
-#[cfg(test)]
-mod free_tests;
-#[cfg(test)]
-mod normal;
-#[cfg(test)]
-mod normal_tests;
-#[cfg(test)]
 mod related;
-#[cfg(test)]
-mod rigid;
-#[cfg(test)]
-mod rigid_tests;
 #[cfg(test)]
 mod rule;
 #[cfg(test)]

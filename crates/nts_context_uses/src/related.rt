@@ -4,7 +4,7 @@ ghost use Rattle.nts_model.specs.Terms.Trees.{any_argument};
 ghost use Rattle.nts_delegate.specs.Clauses.{AreClausesReady};
 ghost use Rattle.nts_table.specs.Tables.{IsTable, IsSide};
 ghost use Rattle.nts_contexts.specs.Contexts.{IsContextReady, KeepsContext};
-ghost use Rattle.nts_contexts.specs.Related.{IsEnvOf};
+ghost use Rattle.nts_nested_goals.specs.Related.{IsEnvOf};
 
 use crate::terms::vec_of;
 use next_trait_solver::clauses::Clauses;

@@ -9,8 +9,9 @@ use Rattle.nts_table.specs.TableLaws.{IsTable-opened}
 use Rattle.nts_evaluation.specs.nts_meaning.proofs.Evaluating.{IsPosed-opened}
 use Rattle.nts_contexts.specs.declared.context.EvalCtxt.{EvalCtxt}
 use Rattle.nts_evaluation.specs.nts_trying.specs.Stepping.{ArePosed}
-use Rattle.nts_contexts.specs.Contexts.{IsContextReady, IsOpened, IsCopy, IsProbe, IsRootContext}
+use Rattle.nts_contexts.specs.Contexts.{IsContextReady, IsProbe, IsRootContext}
 use Rattle.nts_terms.specs.declared.modes.Span.{Span}
+use Rattle.nts_nested_goals.specs.Probing.{IsOpened, IsCopy}
 
 -- no goals
 pub none_posed : {ts : List Tree} {t : Table} → ArePosed ts t []

@@ -16,9 +16,9 @@ use Rattle.nts_unify.specs.Reading.{content_of}
 use Rattle.nts_unify.proofs.Keeping.{closed_later}
 use Rattle.nts_evaluation.specs.nts_meaning.proofs.Evaluating.{Runs-trans, Runs-refl, runs-back, goes}
 use Rattle.nts_evaluation.specs.nts_trying.proofs.Stepping.{posed_later}
-use Rattle.nts_contexts.specs.declared.state.EvalState.{EvalState}
+use Rattle.nts_nested_goals.specs.declared.state.EvalState.{EvalState}
 use Rattle.nts_contexts.specs.declared.context.EvalCtxt.{EvalCtxt}
-use Rattle.nts_contexts.specs.Faults.{fault_after}
+use Rattle.nts_nested_goals.specs.Faults.{fault_after}
 use Rattle.nts_evaluation.specs.nts_trying.specs.Stepping.{ArePosed}
 use Rattle.nts_contexts.specs.Contexts.{IsContextReady, KeepsContext}
 

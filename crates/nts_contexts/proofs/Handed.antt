@@ -12,10 +12,11 @@ use Rattle.nts_table.specs.Tables.{Table, IsTable, IsSide, IsPlainSide}
 use Rattle.nts_evaluation.specs.nts_meaning.specs.Evaluation.{Goes, IsPosed}
 use Rattle.nts_evaluation.specs.nts_meaning.proofs.Evaluating.{IsPosed-opened, IsPosed-later, Knows-goes}
 use Rattle.nts_contexts.specs.declared.context.EvalCtxt.{EvalCtxt}
-use Rattle.nts_contexts.specs.Contexts.{IsGoalOfContext, KeepsContext, IsOpened, IsRootContext, IsProbe}
-use Rattle.nts_contexts.specs.Related.{IsEnvOf}
-use Rattle.nts_contexts.proofs.Relates.{env_later}
+use Rattle.nts_contexts.specs.Contexts.{IsGoalOfContext, KeepsContext, IsRootContext, IsProbe}
+use Rattle.nts_nested_goals.specs.Related.{IsEnvOf}
+use Rattle.nts_nested_goals.proofs.Relates.{env_later}
 use Rattle.nts_terms.specs.declared.modes.Span.{Span}
+use Rattle.nts_nested_goals.specs.Probing.{IsOpened}
 
 pub goal_in_root : {H : Type 0} {ready : List Tree → H → Type 0} {t : Table} {s : Cx} {h : H} {n : ℕ} {at : Span} {c : EvalCtxt H} {g : Goal} → IsRootContext ready t s h n at c → IsPosed s.nodes t g → IsGoalOfContext c g
 goal_in_root r p = (let o = r.table in rw r.cx (IsPosed-opened p o.entries o.saved))

@@ -19,8 +19,9 @@ use Rattle.nts_unify.specs.Reading.{content_of}
 use Rattle.nts_contexts.specs.declared.context.EvalCtxt.{EvalCtxt}
 use Rattle.nts_adding.specs.Equal.{IsEqualToNew}
 use Rattle.nts_adding.proofs.AddingExamples.{item, grown, one_goal, no_entries, one_entry, equal_by_a_goal}
-use Rattle.nts_contexts.specs.declared.state.EvalState.{EvalState}
-use Rattle.nts_contexts.specs.Normalizing.{AddsEqualToNew, HasBegun, Normalizes, RefusesNormal}
+use Rattle.nts_nested_goals.specs.declared.state.EvalState.{EvalState}
+use Rattle.nts_contexts.specs.Normalizing.{HasBegun, Normalizes, RefusesNormal}
+use Rattle.nts_nested_goals.specs.Related.{AddsEqualToNew}
 
 -- what is put behind a list and is not empty makes another list
 longer_no : {X : Type 0} (ys zs xs ws : List X) (x : X) → ys ≡ ys ++ zs → zs ≡ (xs ++ x ∷ []) ++ ws → ⊥

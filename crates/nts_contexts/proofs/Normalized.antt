@@ -20,14 +20,15 @@ use Rattle.nts_evaluation.specs.nts_meaning.specs.Meant.{Rules, Always, ruling_s
 use Rattle.nts_evaluation.specs.nts_meaning.proofs.Evaluating.{Knows-goes, Goes-extends}
 use Rattle.nts_evaluation.specs.nts_trying.proofs.Stepping.{settled_after}
 use Rattle.nts_contexts.specs.declared.context.EvalCtxt.{EvalCtxt}
-use Rattle.nts_contexts.specs.declared.state.EvalState.{EvalState}
+use Rattle.nts_nested_goals.specs.declared.state.EvalState.{EvalState}
 use Rattle.nts_contexts.specs.Contexts.{IsContextReady, KeepsContext, content_in, tree_in}
-use Rattle.nts_contexts.specs.Faults.{fault_after}
+use Rattle.nts_nested_goals.specs.Faults.{fault_after}
 use Rattle.nts_contexts.specs.Promises.{EvaluatesAdded, ReachesAdded, RefusesOneAdded}
 use Rattle.nts_terms.specs.Modes.{mode_of}
 use Rattle.nts_evaluation.specs.nts_meaning.specs.Evaluation.{goals_at}
 use Rattle.nts_evaluation.specs.nts_meaning.specs.Telling.{Reaches}
-use Rattle.nts_contexts.specs.Normalizing.{AddsEqualToNew, HasBegun, Normalizes, RefusesNormal}
+use Rattle.nts_contexts.specs.Normalizing.{HasBegun, Normalizes, RefusesNormal}
+use Rattle.nts_nested_goals.specs.Related.{AddsEqualToNew}
 
 -- a side stays one
 pub side_later : {a b : List Tree} {t u : Table} {p : Place} {x : NodeId} → Goes a b t u → IsSide p a t x → IsSide p b u x

@@ -1,5 +1,5 @@
 -- The context of an evaluation, as its callers see it.
-use Rattle.std.specs.Prelude.{◌≡◌, ◌⊎◌, ℕ, List, [], ◌∷◌, ◌++◌, Some, None, IfSome, true, false, Result, Err, OnOk}
+use Rattle.std.specs.Prelude.{◌≡◌, ◌⊎◌, ℕ, List, [], Some, None, IfSome, true, false, Result, Err, OnOk}
 use Rattle.std.specs.Borrow.{MutBor}
 use Rattle.nts_model.specs.Terms.Trees.{Tree}
 use Rattle.nts_model.specs.Tables.Contents.{Content}
@@ -14,8 +14,9 @@ use Rattle.nts_unify.specs.Reading.{content_of}
 use Rattle.nts_table.specs.Tables.{Table, IsTable}
 use Rattle.nts_evaluation.specs.nts_meaning.specs.Evaluation.{Runs, IsPosed}
 use Rattle.nts_evaluation.specs.nts_trying.specs.Stepping.{ArePosed}
-use Rattle.nts_contexts.specs.declared.state.EvalState.{EvalState}
+use Rattle.nts_nested_goals.specs.declared.state.EvalState.{EvalState}
 use Rattle.nts_contexts.specs.declared.context.EvalCtxt.{EvalCtxt}
+use Rattle.nts_nested_goals.specs.Probing.{IsOpened}
 use Rattle.nts_terms.specs.declared.modes.Span.{Span}
 
 -- what a context's table stands for
@@ -52,21 +53,6 @@ pub record KeepsContext {H : Type 0} (ready : List Tree → H → Type 0) (old n
 pub record EvaluatedNothing (old new : EvalState) : Type 0 where
   pub taint : new.is_tainted ≡ old.is_tainted
   pub steps : new.last_steps ≡ old.last_steps
-
--- a state with the same goals, taint and place, without a fault
-pub record IsCopy (old new : EvalState) : Type 0 where
-  pub goals : new.nested_goals.items ≡ old.nested_goals.items
-  pub taint : new.is_tainted ≡ old.is_tainted
-  pub fault : new.fault ≡ None
-  pub steps : new.last_steps ≡ old.last_steps
-  pub depth : new.root_depth ≡ old.root_depth
-  pub span : new.span ≡ old.span
-
--- the table with one more snapshot
-pub record IsOpened (t u : Table) : Type 0 where
-  pub entries : u.entries ≡ t.entries
-  pub saved : u.saved ≡ t.saved ++ t.entries ∷ []
-  pub mode : u.mode ≡ t.mode
 
 -- a root context as it begins, over this table, store and handler, with this depth and place in the user's text
 pub record IsRootContext {H : Type 0} (ready : List Tree → H → Type 0) (t : Table) (s : Cx) (h : H) (n : ℕ) (at : Span) (c : EvalCtxt H) : Type 0 where

@@ -1,22 +1,16 @@
 -- Terms that are normalized in a context.
-use Rattle.std.specs.Prelude.{◌≡◌, ◌++◌, ◌<◌, ◌≤◌, List, None, Result, Ok}
+use Rattle.std.specs.Prelude.{◌≡◌, ◌<◌, ◌≤◌, List, None, Result, Ok}
 use Rattle.nts_model.specs.Terms.Trees.{Tree, kind_of}
 use Rattle.nts_model.specs.Derivations.Handlers.{Handler}
 use Rattle.nts_model.specs.Tables.Resolving.{deeply_resolved}
 use Rattle.nts_store.specs.declared.nodes.NodeId.{NodeId}
 use Rattle.nts_store.specs.declared.fault.EvalError.{EvalError}
-use Rattle.nts_terms.specs.declared.cx.Cx.{Cx}
-use Rattle.nts_terms.specs.declared.handles.Goal.{Goal}
 use Rattle.nts_terms.specs.declared.handles.ParamEnv.{ParamEnv}
 use Rattle.nts_certainty.specs.declared.sources.GoalSource.{GoalSource}
-use Rattle.nts_certainty.specs.declared.sources.GoalSource.TheVariants as source
 use Rattle.nts_search.specs.declared.kinds.CurrentGoalKind.TheVariants as kind
-use Rattle.nts_adding.specs.Adding.{AddsEach}
-use Rattle.nts_adding.specs.Equal.{IsEqualToNew}
-use Rattle.nts_unify.specs.Entries.{Entries}
 use Rattle.nts_evaluation.specs.nts_meaning.specs.Meant.{Rules, Always, rules_of, ruling_since}
 use Rattle.nts_contexts.specs.declared.context.EvalCtxt.{EvalCtxt}
-use Rattle.nts_contexts.specs.declared.state.EvalState.{EvalState}
+use Rattle.nts_nested_goals.specs.Related.{AddsEqualToNew}
 use Rattle.nts_contexts.specs.Contexts.{KeepsContext, content_in, tree_in}
 use Rattle.nts_contexts.specs.Promises.{EvaluatesAdded, ReachesAdded, RefusesOneAdded}
 
@@ -27,16 +21,6 @@ AreOfOneKind s t = kind_of s ≡ kind_of t
 -- the rules of a context's handler
 abbrev pub rules_in : {H : Type 0} → (List Tree → H → Type 0) → (List Tree → H → Handler) → EvalCtxt H → Rules
 rules_in ready handler c = rules_of ready handler c.handler.now
-
--- the goal that an alias is equal to a new variable is added behind the goals that were there, as relating adds goals
-pub record AddsEqualToNew (a b : Cx) (e f : Entries) (m n : EvalState) (env : ParamEnv) (x v : NodeId) : Type 0 where
-  pub store : List Tree
-  pub entries : Entries
-  pub goals : List Goal
-  pub equal : IsEqualToNew a.nodes store e entries env x v goals
-  pub added : List (GoalSource × Goal)
-  pub adds : AddsEach store b.nodes entries f kind.Misc source.TypeRelating goals added
-  pub behind : n.nested_goals.items ≡ m.nested_goals.items ++ added
 
 -- the context once that goal is added
 pub record HasBegun {H : Type 0} (ready : List Tree → H → Type 0) (a b : EvalCtxt H) (env : ParamEnv) (x v : NodeId) : Type 0 where

@@ -19,8 +19,8 @@ use Rattle.nts_evaluation.specs.nts_trying.specs.Stopping.{RefusesAmong}
 use Rattle.nts_evaluation.specs.nts_trying.specs.Stepping.{AreLeft, AreSettled}
 use Rattle.nts_contexts.specs.declared.context.EvalCtxt.{EvalCtxt}
 use Rattle.nts_contexts.specs.Contexts.{KeepsContext, EvaluatedNothing, IsGoalOfContext, content_in}
-use Rattle.nts_contexts.specs.Faults.{fault_after}
-use Rattle.nts_contexts.specs.Related.{AddsTo, AddsRelated, AreEquatedIn}
+use Rattle.nts_nested_goals.specs.Faults.{fault_after}
+use Rattle.nts_nested_goals.specs.Related.{AddsTo, AddsRelated, AreEquatedIn}
 
 -- the goals that were added to a context were asked, in any order and more than once; and one of them is refused after that
 abbrev pub ReachesAdded : {H : Type 0} → Ruling → EvalCtxt H → EvalCtxt H → Type 0

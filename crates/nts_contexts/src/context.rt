@@ -4,11 +4,12 @@ ghost use Rattle.std.specs.Borrow.{MutBor};
 ghost use Rattle.nts_store.specs.Errors.{error_of};
 ghost use Rattle.nts_table.specs.Tables.{IsTable};
 ghost use Rattle.nts_evaluation.specs.nts_meaning.specs.Evaluation.{Runs};
-ghost use Rattle.nts_contexts.specs.Faults.{fault_of, fault_in, fault_after, AnsweredNoFault};
-ghost use Rattle.nts_contexts.specs.Contexts.{IsContextReady, KeepsContext, IsOpened, IsRootContext, IsProbe, IsContextRun, IsLeftByRoot, IsCopy, EvaluatedNothing, RanOutIn, WasAnswered};
+ghost use Rattle.nts_nested_goals.specs.Faults.{fault_of, fault_in, fault_after, AnsweredNoFault};
+ghost use Rattle.nts_contexts.specs.Contexts.{IsContextReady, KeepsContext, IsRootContext, IsProbe, IsContextRun, IsLeftByRoot, EvaluatedNothing, RanOutIn, WasAnswered};
+ghost use Rattle.nts_nested_goals.specs.Probing.{IsOpened, IsCopy};
 
-use crate::state::EvalState;
 use nts_delegate::GoalHandler;
+use nts_nested_goals::EvalState;
 use nts_store::{EvalError, Fault};
 use nts_table::{InferCtxt, Snapshot};
 use nts_terms::{Cx, Span};

@@ -8,7 +8,7 @@ ghost use Rattle.nts_response.specs.Forms.{response_at, HoldsResponse};
 ghost use Rattle.nts_theory.specs.Telling.{IsResponseOf};
 ghost use Rattle.nts_evaluation.specs.nts_meaning.specs.Answering.{told_in};
 ghost use Rattle.nts_evaluation.specs.nts_meaning.specs.Meant.{rules_of, ruling_since, Always};
-ghost use Rattle.nts_contexts.specs.Faults.{fault_after, tainted_after};
+ghost use Rattle.nts_nested_goals.specs.Faults.{fault_after, tainted_after};
 ghost use Rattle.nts_contexts.specs.Contexts.{IsContextReady, KeepsContext, content_in};
 ghost use Rattle.nts_contexts.specs.Promises.{EvaluatesAdded, ReachesAdded, RefusesOneAdded};
 

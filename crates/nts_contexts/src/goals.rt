@@ -1,14 +1,14 @@
 //! Goals that are added to a context.
 ghost use Rattle.std.specs.Prelude.{◌≡◌, ◌∷◌, [], All, Ok, None, Err, IfSome, OnOk, OnErr, IsOkUnless};
 ghost use Rattle.nts_store.specs.Errors.{error_of};
-ghost use Rattle.nts_contexts.specs.Faults.{fault_after};
+ghost use Rattle.nts_nested_goals.specs.Faults.{fault_after};
 ghost use Rattle.nts_contexts.specs.Contexts.{IsContextReady, KeepsContext, EvaluatedNothing, IsGoalOfContext};
 ghost use Rattle.nts_contexts.specs.Promises.{AddsGoals};
 
-use crate::adding::add_all;
 use crate::context::EvalCtxt;
 use nts_certainty::GoalSource;
 use nts_delegate::GoalHandler;
+use nts_nested_goals::add_all;
 use nts_store::EvalError;
 use nts_terms::Goal;
 

@@ -2,7 +2,6 @@
 //! tried out.
 #![tactic(auto, using(crate::proofs::Frames::keeps_then))]
 
-mod adding;
 mod context;
 mod evaluating;
 mod goals;
@@ -10,9 +9,8 @@ mod modes;
 mod normalizing;
 mod relating;
 mod rigid;
-mod state;
 mod unconstrained;
 
 pub use context::EvalCtxt;
+pub use nts_nested_goals::EvalState;
 pub use nts_solver_relating;
-pub use state::EvalState;

@@ -1,7 +1,7 @@
 use Rattle.std.proofs.Common.{refl, sym, ◌∙◌, []}
 use Rattle.std.proofs.lemmas.List.{append-nil}
 use Rattle.nts_contexts.proofs.Frames.{keeps_refl, keeps_grown}
-use Rattle.nts_contexts.proofs.Relates.{adds_none, no_goals}
+use Rattle.nts_nested_goals.proofs.Relates.{adds_none, no_goals}
 use Rattle.nts_contexts.proofs.context.EvalCtxt.add_goals.Goals as goal
 
 pub returns-in_err-check-clause-keeps : goal.returns-in_err-check-clause-keeps

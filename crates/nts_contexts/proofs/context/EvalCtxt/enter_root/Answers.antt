@@ -1,7 +1,7 @@
 use Rattle.std.proofs.Common.{rules, sym, ◌∙◌, refl}
 use Rattle.nts_evaluation.specs.nts_meaning.proofs.Evaluating.{Runs-refl}
 use Rattle.nts_contexts.proofs.Begun.{root_begun}
-use Rattle.nts_contexts.proofs.Ended.{answered, ran_out, runs_at, left_at, ended_runs}
+use Rattle.nts_nested_goals.proofs.Ended.{answered, ran_out, runs_at, left_at, ended_runs}
 use Rattle.nts_contexts.proofs.context.EvalCtxt.enter_root.Goals as goal
 
 pub returns-in_err-snapshot-clause-runs : goal.returns-in_err-snapshot-clause-runs

@@ -1,7 +1,7 @@
 use Rattle.std.proofs.Common.{refl, rules}
 use Rattle.nts_contexts.proofs.Frames.{keeps_refl, keeps_ran}
 use Rattle.nts_adding.proofs.Relating.{relate_runs}
-use Rattle.nts_contexts.proofs.Relates.{answered_posed}
+use Rattle.nts_nested_goals.proofs.Relates.{answered_posed}
 use Rattle.nts_contexts.proofs.context.EvalCtxt.eq_and_get_goals.Goals as goal
 
 pub returns-in_err-check : goal.returns-in_err-check

@@ -9,10 +9,10 @@ use Rattle.nts_unify.specs.Lawful.{content_of-extended}
 use Rattle.nts_evaluation.specs.nts_meaning.proofs.Evaluating.{Goes-extends, Runs-extends}
 use Rattle.nts_evaluation.specs.nts_trying.proofs.Stepping.{settled_after, left_refl, posed_later}
 use Rattle.nts_contexts.proofs.Frames.{keeps_refl, keeps_then, keeps_ended, none_after}
-use Rattle.nts_contexts.specs.Faults.{tainted_after}
+use Rattle.nts_nested_goals.specs.Faults.{tainted_after}
 use Rattle.nts_theory.specs.Telling.Reaches.{asks_nothing}
 use Rattle.nts_contexts.proofs.context.EvalCtxt.evaluate_added_goals_and_make_canonical_response.Goals as goal
-use Rattle.nts_contexts.specs.declared.state.EvalState.{EvalState}
+use Rattle.nts_nested_goals.specs.declared.state.EvalState.{EvalState}
 use Rattle.nts_model.specs.Tables.Contents.{Content}
 use Rattle.nts_model.specs.Answers.Responses.{Response as Form}
 use Rattle.nts_certainty.specs.declared.certainty.Certainty.{Certainty}

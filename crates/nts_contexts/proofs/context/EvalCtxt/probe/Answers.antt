@@ -1,9 +1,9 @@
 use Rattle.std.proofs.Common.{arith, sym, ap, ◌∷◌, [], length, length-append, MutBor}
 use Rattle.nts_terms.specs.declared.cx.Cx.{Cx}
 use Rattle.nts_evaluation.specs.nts_meaning.proofs.Evaluating.{rolled_back}
-use Rattle.nts_contexts.specs.declared.state.EvalState.{EvalState}
+use Rattle.nts_nested_goals.specs.declared.state.EvalState.{EvalState}
 use Rattle.nts_contexts.proofs.Begun.{probe_begun}
-use Rattle.nts_contexts.proofs.Ended.{kept_fault, back_at}
+use Rattle.nts_nested_goals.proofs.Ended.{kept_fault, back_at}
 use Rattle.nts_contexts.proofs.Frames.{keeps_refused, keeps_ran}
 use Rattle.nts_contexts.proofs.context.EvalCtxt.probe.Goals as goal
 

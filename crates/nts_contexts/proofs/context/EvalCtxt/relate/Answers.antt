@@ -1,7 +1,7 @@
 use Rattle.std.proofs.Common.{refl, ap, rules}
-use Rattle.nts_contexts.specs.declared.state.EvalState.{EvalState}
+use Rattle.nts_nested_goals.specs.declared.state.EvalState.{EvalState}
 use Rattle.nts_contexts.proofs.Frames.{keeps_refl, keeps_grown}
-use Rattle.nts_contexts.proofs.Relates.{related_noted}
+use Rattle.nts_nested_goals.proofs.Relates.{related_noted}
 use Rattle.nts_contexts.proofs.context.EvalCtxt.relate.Goals as goal
 
 pub returns-in_err-check : goal.returns-in_err-check

@@ -2,7 +2,7 @@ use Rattle.std.proofs.Common.{Err, refl, sym, ap, ◌∙◌}
 use Rattle.nts_model.specs.Terms.Trees.{kind_of}
 use Rattle.nts_evaluation.specs.nts_meaning.proofs.Evaluating.{Goes-extends, Runs-extends}
 use Rattle.nts_evaluation.specs.nts_trying.proofs.Stepping.{posed_later}
-use Rattle.nts_contexts.specs.declared.state.EvalState.{EvalState}
+use Rattle.nts_nested_goals.specs.declared.state.EvalState.{EvalState}
 use Rattle.nts_contexts.proofs.Frames.{keeps_refl, keeps_then, keeps_grown, none_after}
 use Rattle.nts_contexts.proofs.Normalized.{side_later, side_of, kind_of_answered, kind_as, begun, normal_of, refuses_normal, same_no}
 use Rattle.nts_contexts.proofs.context.EvalCtxt.structurally_normalize_term.Goals as goal

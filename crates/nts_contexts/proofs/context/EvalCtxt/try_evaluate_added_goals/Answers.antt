@@ -1,7 +1,7 @@
 use Rattle.nts_evaluation.specs.nts_meaning.specs.Meant.{ruling_since}
 use Rattle.std.proofs.Common.{◌≡◌, Err, ap, sym, subst, rules}
 use Rattle.std.proofs.lemmas.Result.{IfOk-from_err}
-use Rattle.nts_contexts.specs.declared.state.EvalState.{EvalState}
+use Rattle.nts_nested_goals.specs.declared.state.EvalState.{EvalState}
 use Rattle.nts_contexts.proofs.Frames.{keeps_refl}
 use Rattle.nts_model.specs.Derivations.Rules.{other_goal}
 use Rattle.nts_candidates.proofs.Results.{OnOk-map}

@@ -1,0 +1,4 @@
+pub mod Ended
+pub mod Relates
+pub mod Spared
+mod UnconstrainedExamples

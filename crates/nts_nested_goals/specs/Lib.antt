@@ -1,0 +1,4 @@
+pub mod Faults
+pub mod Probing
+pub mod Related
+pub mod Unconstrained
