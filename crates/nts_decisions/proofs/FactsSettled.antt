@@ -32,6 +32,8 @@ use Rattle.nts_model.specs.Canonical.Numbered.{position}
 use Rattle.nts_model.specs.Derivations.Sequents.{Premise}
 use Rattle.nts_model.specs.Derivations.Rules.{Mode}
 use Rattle.nts_model.specs.Derivations.Handlers.{Handler}
+use Rattle.nts_theory.specs.AskedGoals.{asked_in}
+use Rattle.nts_theory.proofs.Refutation.AskedGoals.{asks_none}
 use Rattle.nts_theory.specs.Telling.{Queries, Reaches, asks_nothing, then_asks}
 use Rattle.nts_theory.specs.RelatingCandidates.{goals_with}
 use Rattle.nts_theory.specs.Telling.{IsResponseOf, AreTermsOfKinds}
@@ -193,9 +195,9 @@ pub are_places : (ts : List Tree) → ((i : ℕ) → i < length ts → (s : Sort
 are_places ts h = places_from 0 ts (λ i l. (let r = h i l in (r.0, r.1 ∙ ap (position r.0) (let e : i ≡ 0 + i = omega arith in e))))
 
 -- where there are no goals, none is asked
-no_goal_asked : (vs : List Tree) (ps : List Premise) → ps ≡ [] → (p : Premise) → Among (goals_with vs ps) p → ⊥
-no_goal_asked vs ps e p i = rw e at i
+no_goal_asked : (mode : Mode) (vs : List Tree) (ps : List Premise) → ps ≡ [] → (p : Premise) → Among (asked_in mode (goals_with vs ps)) p → ⊥
+no_goal_asked mode vs ps e p i = subst (λ z. Among z p) (asks_none mode) (rw e at i)
 
-pub reached_nothing : (Q : Queries) (h : Handler) (mode : Mode) (vs : List Tree) (ps : List Premise) (c d : Content) → ps ≡ [] → Reaches Q h mode (goals_with vs ps) c d → d ≡ c
+pub reached_nothing : (Q : Queries) (h : Handler) (mode : Mode) (vs : List Tree) (ps : List Premise) (c d : Content) → ps ≡ [] → Reaches Q h mode (asked_in mode (goals_with vs ps)) c d → d ≡ c
 reached_nothing Q h mode vs ps c d e asks_nothing = refl
-reached_nothing Q h mode vs ps c d e (then_asks m p r i can asked) = absurd (no_goal_asked vs ps e p i)
+reached_nothing Q h mode vs ps c d e (then_asks m p r i can asked) = absurd (no_goal_asked mode vs ps e p i)

@@ -3,6 +3,7 @@ pub mod BegunFacts
 pub mod BlurredMeeting
 pub mod BlurredWorlds
 pub mod ConstantGoals
+pub mod DecidedAliases
 pub mod DecidedGoals
 pub mod DecidedInfer
 pub mod DecidedInputs

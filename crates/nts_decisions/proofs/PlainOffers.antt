@@ -29,7 +29,7 @@ pub none_relates : (qs : List Equation) → ((q : Equation) → Among qs q → r
 none_relates [] f = refl
 none_relates (x ∷ qs) f = (let e = f x (inl refl) in rw e (none_relates qs (λ q i. f q (inr i))))
 
-alias_blurred : (t : Tree) → IsFormed t → any_label is_alias (blurred t) ≡ any_label is_alias t
+pub alias_blurred : (t : Tree) → IsFormed t → any_label is_alias (blurred t) ≡ any_label is_alias t
 alias_blurred t f = ap (any_label is_alias) (as_leaves t) ∙ labels_renamed is_alias merged_leaf (λ l. refl) t f
 
 sides_formed : (e g : Tree) (x : Candidate) → IsCandidateFor e g x → (q : Equation) → Among x.equations q → IsFormed (left_of q) × IsFormed (right_of q)

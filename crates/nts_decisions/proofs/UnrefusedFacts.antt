@@ -13,6 +13,8 @@ use Rattle.nts_model.specs.Terms.Substitutions.{leaf_tree, filled}
 use Rattle.nts_model.specs.Derivations.Related.{Constraint, pair}
 use Rattle.nts_model.specs.declared.labels.ClauseHead.TheVariants as clause
 use Rattle.nts_model.specs.declared.labels.Label.TheVariants as label
+use Rattle.nts_theory.specs.AskedGoals.{asked_in}
+use Rattle.nts_decisions.proofs.FactsSettled.{reached_nothing}
 use Rattle.nts_theory.specs.Affirming.{SaysAffirmed, IsDenied, HasOwnWay}
 use Rattle.nts_theory.specs.Outliving.{IsOutlives}
 use Rattle.nts_theory.specs.Subtyping.{IsSubtyping}
@@ -67,11 +69,6 @@ without q qs ts m =
       solves = (let z = m.solves in record { values = z.values; constraints = tt; nameable = record { each = (let n = z.nameable in n.each) }; fitting = record { each = (let f = z.fitting in f.each) } });
       images = m.images;
     }
-
-nothing_reached : (Q : Queries) (h : Handler) (mode : Mode) (c d : Content) (vs : List Tree) (gs : List Premise) → gs ≡ [] → Reaches Q h mode (goals_with vs gs) c d → d ≡ c
-nothing_reached Q h mode c d vs [] e asks_nothing = refl
-nothing_reached Q h mode c d vs [] e (then_asks b p r i can a) = absurd i
-nothing_reached Q h mode c d vs (g ∷ gs) e r = absurd (cc e)
 
 -- each verdict of candidates has as many values as there are positions
 reply_long : (c found : Content) (qs : List Tree) (v : Verdict) → SaysOf c found qs v → (let r = v.response in let x = r.findings in length x.values ≡ length qs)
@@ -190,7 +187,7 @@ module _ (Q : Queries) (h : Handler) (law : IsLawfulHandler h) (mode : Mode) (ti
     never_fails (is_unmet n) = n (plain_met q y is_met)
     never_fails (has_types_apart a) = apart_unmet q y a is_met
     never_fails (is_unrelated outside n) = n.some is_plain
-    never_fails {k} (is_refused ps met (inl (values, in_one, begun, same)) refused) = no_refusal Q h mode met k values y.goals no_goals (subst (λ z. RefusesOne Q h mode k z met) same refused)
+    never_fails {k} (is_refused ps met (inl (values, in_one, begun, same)) refused) = no_refusal Q h mode met k values y.goals no_goals (subst (λ z. RefusesOne Q h mode k (asked_in mode z) met) same refused)
     never_fails (is_refused ps met (inr (inl (outside, begun))) refused) = begun.some is_plain
     never_fails (is_refused ps met (inr (inr (inside, inl begun))) refused) = begun.some is_plain
     never_fails (is_refused ps met (inr (inr (inside, inr begun))) refused) = (let b = begun.begun in b.some is_plain)
@@ -212,7 +209,7 @@ module _ (Q : Queries) (h : Handler) (law : IsLawfulHandler h) (mode : Mode) (ti
     fact_replies v (replies ps met found (inl (values, in_one, begun, are)) reach is says) =
         let n = entered in
         let b = begun_there q n.world n.solves e' g' first.knows y over us fit one named equal proper values met begun (map leaf_tree u) ts (tried_knows (canonical_of i).kinds q e' g' (map leaf_tree u) is_tried) n.images in
-        let same : found ≡ met = nothing_reached Q h mode met found values y.goals no_goals (subst (λ z. Reaches Q h mode z met found) are reach) in
+        let same : found ≡ met = reached_nothing Q h mode values y.goals met found no_goals (subst (λ z. Reaches Q h mode (asked_in mode z) met found) are reach) in
         let table = found_table (canonical_of i).kinds q found e' g' (map leaf_tree u) is_tried is (subst (KeepsKinds q) (sym same) b.1) in
         says_so found v table (subst (λ z. MergedWorld z (map leaf_tree u) ts) (sym same) b.0) says
 
@@ -269,7 +266,7 @@ module _ (Q : Queries) (h : Handler) (law : IsLawfulHandler h) (mode : Mode) (ti
   query_never_refutes (own_fails y own one fails) = trait_has_no_way h.judges e' g' y is_trait (subst (λ z. HasOwnWay h.judges e' z y) same_goal own.way)
   query_never_refutes (is_no_subtype outside n) = trait_says_no_subtype g' n.left n.right is_trait (subst (λ z. IsSubtyping z n.left n.right) same_goal n.is)
   query_never_refutes (subtype_refused ps met outside l refused) = trait_says_no_subtype g' l.left l.right is_trait (subst (λ z. IsSubtyping z l.left l.right) same_goal l.is)
-  query_never_refutes (aliases_fail outside ready all) = no_alias_here ready
+  query_never_refutes (aliases_fail ready all) = no_alias_here ready
   query_never_refutes (normal_refused ps met outside l refused other) = equates_nothing_here l
   query_never_refutes (all_fail ready all) = (let o = contains_here [] ready all in o.among)
 
@@ -316,7 +313,7 @@ module _ (Q : Queries) (h : Handler) (law : IsLawfulHandler h) (mode : Mode) (ti
   tells_contained v (tells_affirmed a sure says) = absurd (trait_not_affirmed h.judges e' g' is_trait (subst (SaysAffirmed h.judges e') same_goal a))
   tells_contained v (tells_own y own one reply) = absurd (trait_has_no_way h.judges e' g' y is_trait (subst (λ z. HasOwnWay h.judges e' z y) same_goal own.way))
   tells_contained v (tells_subtype ps met found outside l reach is says) = absurd (trait_says_no_subtype g' l.left l.right is_trait (subst (λ z. IsSubtyping z l.left l.right) same_goal l.is))
-  tells_contained v (tells_alias vs outside ready all stands) = absurd (no_alias_here ready)
+  tells_contained v (tells_alias vs ready all stands) = absurd (no_alias_here ready)
   tells_contained v (tells_normal ps met found outside l reach is says) = absurd (no_way_here l)
   tells_contained v (tells_one vs ready all stands) = by_one stands
     where

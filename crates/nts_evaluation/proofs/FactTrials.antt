@@ -7,6 +7,7 @@ use Rattle.nts_model.specs.Derivations.Handlers.{Handler, Candidate, IsLawfulHan
 use Rattle.nts_model.specs.Derivations.Rules.{Mode}
 use Rattle.nts_model.specs.Refutation.Choosing.{IsCandidateMet}
 use Rattle.nts_model.specs.Refutation.Opening.{binds}
+use Rattle.nts_theory.specs.AskedGoals.{asked_in}
 use Rattle.nts_theory.specs.Telling.{IsTraitGoal, IsResponseOf, AreTermsOfKinds}
 use Rattle.nts_theory.specs.RelatingCandidates.{IsBegun, goals_with}
 use Rattle.nts_decisions.specs.Faring.{Fares, no_world, by_goals}
@@ -49,9 +50,9 @@ plain_later a b g x y env predicate same p = rw same (record { offered = rw (env
 
 -- one that relates no aliases was begun at once
 ran_plainly : (h : Ruling) (s : Table) (a b : List Tree) (u : Table) (g : Goal) (x : CandidateData) → IsPlainCandidate a g (candidate_of a x) → (run : HasRunTo h s.mode a s b u g x)
-    → (vs : List Tree) × IsBegun (content_of a s.entries) (candidate_of a x) vs run.met × Reaches h (mode_of s.mode) (goals_with vs (let y = candidate_of a x in y.goals)) run.met (content_of b u.entries)
+    → (vs : List Tree) × IsBegun (content_of a s.entries) (candidate_of a x) vs run.met × Reaches h (mode_of s.mode) (asked_in (mode_of s.mode) (goals_with vs (let y = candidate_of a x in y.goals))) run.met (content_of b u.entries)
 ran_plainly h s a b u g x p run =
-    ⊎_elim (λ w. (w.0, w.2, subst (λ ps. Reaches h (mode_of s.mode) ps run.met (content_of b u.entries)) w.3 run.reaches)) (λ w. absurd (⊎_elim (λ v. (let r = v.1 in r.some p.plain)) (λ v. ⊎_elim (λ r. r.some p.plain) (λ o. (let r = o.begun in r.some p.plain)) v.1) w)) run.begun
+    ⊎_elim (λ w. (w.0, w.2, subst (λ ps. Reaches h (mode_of s.mode) (asked_in (mode_of s.mode) ps) run.met (content_of b u.entries)) w.3 run.reaches)) (λ w. absurd (⊎_elim (λ v. (let r = v.1 in r.some p.plain)) (λ v. ⊎_elim (λ r. r.some p.plain) (λ o. (let r = o.begun in r.some p.plain)) v.1) w)) run.begun
 
 -- the response of the table that such a candidate left
 pub over_after : (h : Ruling) (s t u : Table) {a b : List Tree} (e : List Tree) (x : CandidateData) (g : Goal) (qs : List GenericArg) (r : Canonical Response) → HasRunTo h s.mode a s b u g x → s.entries ≡ t.entries

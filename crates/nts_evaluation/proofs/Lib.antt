@@ -10,6 +10,7 @@ mod OwnGoals
 mod AnswerExamples
 pub mod Deciding
 mod DecidedSteps
+mod AskedSteps
 mod DecidedCandidates
 mod DecidedTrials
 mod DecidedQueries

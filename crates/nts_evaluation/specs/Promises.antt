@@ -1,6 +1,7 @@
 -- What the calls of an evaluation promise: one record for each family of calls.
 use Rattle.std.specs.Global.{Box}
 use Rattle.std.specs.Prelude.{◌≡◌, ◌⊎◌, ℕ, ◌<◌, ◌≤◌, List, Option, Result, Err, ◌≢◌, [], ◌∷◌, ◌+◌, Bool, true, false, Ok, IfOk, IfSome, OnOk, OnErr, IsTrue}
+use Rattle.nts_model.specs.Lists.{Among}
 use Rattle.nts_model.specs.Terms.Trees.{Tree}
 use Rattle.nts_model.specs.Tables.Contents.{Content}
 use Rattle.nts_model.specs.Derivations.Rules.{Meaning, Mode, statement_of}
@@ -27,7 +28,7 @@ use Rattle.nts_response.specs.declared.types.Response.{Response}
 use Rattle.nts_response.specs.Forms.{response_at}
 use Rattle.nts_candidates.specs.Offered.{path_kind_of, candidate_of, certainty_of}
 use Rattle.nts_search.specs.declared.stack.SearchGraph.{SearchGraph}
-use Rattle.nts_meaning.specs.Meant.{Since, Rules, Always, meaning_since, ruling_since, IsQueryTold, IsQueryRefuted, AreOffered, HoldsSince, IsServedSince, IsProvedNow, IsProvedFromSince, IsNestedSince, EvaluatesGoal, IsRefusedIn, EvaluatesUnder, IsRefusedUnder, IsTold, IsRefuted, HaveOutcomes, CandidatesTell, RepliesWith, FailsIn, HasRunTo, ReachesBy}
+use Rattle.nts_meaning.specs.Meant.{Since, Rules, Always, meaning_since, ruling_since, IsQueryTold, IsQueryRefuted, AreOffered, HoldsSince, IsServedSince, IsProvedNow, IsProvedFromSince, IsNestedSince, EvaluatesGoal, IsRefusedIn, EvaluatesUnder, IsRefusedUnder, IsTold, IsRefuted, HaveOutcomes, CandidatesTell, RepliesWith, FailsIn, HasRunTo, ReachesBy, ReachesAsked, RefusesOneAsked}
 use Rattle.nts_meaning.specs.Searching.{Searches, HeadsTell, IsCut, assumed_in, IsHeadAnswer, IsAnswerTold, IsGoalCut}
 use Rattle.nts_meaning.specs.Answering.{IsAnswerTo, IfAnswered, IfCertain, IfSure, is_yes, verdict_at}
 use Rattle.nts_model.specs.Tables.Passing.{BringsOnly}
@@ -266,6 +267,16 @@ pub record RunsOne (R : Rules) (a b : Cx) (g h : SearchGraph) (t u : Table) (goa
   pub told : WhereTold R a g (λ m. OnOk r (HasRunTo m t.mode a.nodes t b.nodes u goal x))
   pub refuted : WhereTold R a g (λ m. r ≡ Err error.NoSolution → FailsIn m t.mode a.nodes t goal x)
   pub decided : AnswersDecided R a g h depth (λ m n k. IsSettled m t.mode n a.nodes t x k) r IsYes
+
+-- goals of a candidate are asked in steps, those that are asked as they stand: where it is certain, each of all is proved
+pub record StepsAsked (R : Rules) (a b : Cx) (g h : SearchGraph) (t u : Table) (given : List (GoalSource × Goal)) (kind : CurrentGoalKind) (depth : ℕ) (r : Result Certainty EvalError) : Type 0 where
+  pub runs : Runs a b t u
+  pub searches : Searches a b g h
+  pub labels : OnOk r (BringsOnlyOf (terms_of a.nodes given) a t b u)
+  pub proved : Always R a (λ s. r ≡ Ok certainty.Yes → (z : GoalSource × Goal) → Among given z → IsNestedSince R.handler s t.mode (goal_kind_of kind) (assumed_in b.nodes h) b.nodes u z)
+  pub told : WhereTold R a g (λ m. OnOk r (ReachesAsked m t.mode a.nodes t b.nodes u given))
+  pub refuted : WhereTold R a g (λ m. r ≡ Err error.NoSolution → RefusesOneAsked m t.mode (goal_kind_of kind) a.nodes t given)
+  pub decided : AnswersDecided R a g h depth (λ m i k. GoalsSettled m t.mode i a.nodes t given k) r IsYes
 
 -- goals are asked in steps: `left` are those that are left. After an error too the table is one that asking some of them leaves
 pub record StepsGoals (R : Rules) (a b : Cx) (g h : SearchGraph) (t u : Table) (given gone : List (GoalSource × Goal)) (kind : CurrentGoalKind) (depth : AvailableDepth) (n : ℕ) (r : Result Certainty EvalError) : Type 0 where

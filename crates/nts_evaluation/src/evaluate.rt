@@ -17,7 +17,7 @@ ghost use Rattle.nts_terms.specs.Modes.{mode_of};
 ghost use Rattle.nts_theory.specs.RelatingCandidates.{IsCutIn, HasPlainEquations, MayRelate};
 ghost use Rattle.nts_theory.specs.Telling.{IsOpenToNormalizing};
 ghost use Rattle.nts_store.specs.Growth.{tree_at};
-ghost use Rattle.nts_evaluation.specs.Promises.{AnswersQuery, AsksGoal, AsksAdded, EndsRound, AnswersGoal, AnswersOwn, AnswersSubtype, AnswersAlias, AnswersEquated, AnswersWay, TriesWay, TriesEach, TriesOne, RunsOne, StepsGoals, StepsOnce};
+ghost use Rattle.nts_evaluation.specs.Promises.{AnswersQuery, AsksGoal, AsksAdded, EndsRound, AnswersGoal, AnswersOwn, AnswersSubtype, AnswersAlias, AnswersEquated, AnswersWay, TriesWay, TriesEach, TriesOne, RunsOne, StepsAsked, StepsGoals, StepsOnce};
 
 use nts_asking::{
     answer_cycle, apply_answer, boxed_query, end_round, first_round, keeps_constraints,
@@ -34,10 +34,10 @@ use nts_table::InferCtxt;
 use nts_terms::{Cx, GenericArg, Goal};
 use nts_trying::{
     AvailableDepth, EquatedAlias, GoalRow, Judged, OwnGoal, Step, Trial, TypePair, answer_outlives,
-    begin_in_part, begin_relating, check_leaks, enter_forall, equate, fast_answer, goal_kind,
-    goal_row, is_open_to_normalizing, is_open_to_offers, judge, keep_response, may_ask, may_relate,
-    merge_responses, needs_relating, record_constraints, relate_types, relevant_candidates,
-    way_goals,
+    asked_of, asks_all, begin_in_part, begin_relating, check_leaks, enter_forall, equate,
+    fast_answer, goal_kind, goal_row, is_open_to_normalizing, judge, keep_response, may_ask,
+    may_relate, merge_responses, needs_relating, record_constraints, relate_types,
+    relevant_candidates, way_goals,
 };
 
 /// Evaluates a goal in a query of its own: its leaves give place to positions, the search answers the query, and the response is
@@ -318,8 +318,7 @@ fn evaluate_subtype<H: GoalHandler>(
     Ok(response)
 }
 
-/// Answers a goal about an alias, or one in which an alias stands, by the candidates of the handler. In coherence it is in doubt, unless
-/// it says that an alias is a term, and no other alias stands in it.
+/// Answers a goal about an alias, or one in which an alias stands, by the candidates of the handler.
 #[cycle(evaluate)]
 #[inline(never)]
 fn evaluate_alias<H: GoalHandler>(
@@ -339,11 +338,6 @@ fn evaluate_alias<H: GoalHandler>(
     ensures { AnswersAlias (rules_of H.ready H.handler handler.now) cx.old cx.new graph.old
         graph.new table.old goal values.now result }
 {
-    cx.terms_are_formed();
-    if !is_open_to_offers(cx, table.typing_mode(), goal) {
-        let doubt = boxed_response(table, cx, values, Certainty::AMBIGUOUS)?;
-        return Ok(doubt);
-    }
     let candidates = relevant_candidates(cx, handler, table.typing_mode(), goal)?;
     evaluate_candidates(table, cx, handler, graph, goal, &candidates, values, depth)
 }
@@ -595,21 +589,11 @@ fn try_candidate<H: GoalHandler>(
         values: &values,
     };
     record_constraints(table, cx, trial, &candidate.region_constraints)?;
-    let mut goals = trial.added_goals(table, cx, &candidate.goals)?;
+    let goals = trial.added_goals(table, cx, &candidate.goals)?;
     // They are not kept while the goals below are asked.
     drop(values);
     cx.terms_are_formed();
-    let mut last_steps = 0;
-    let certainty = try_evaluate_goals(
-        table,
-        cx,
-        handler,
-        graph,
-        &mut goals,
-        kind,
-        AvailableDepth::Below(depth),
-        &mut last_steps,
-    )?;
+    let certainty = evaluate_asked(table, cx, handler, graph, goals, kind, depth)?;
     cx.terms_are_formed();
     Ok(candidate.certainty.and(certainty))
 }
@@ -641,20 +625,57 @@ fn try_relating<H: GoalHandler>(
     if !may_ask(table.typing_mode(), begun.equalities) {
         return Ok(Certainty::AMBIGUOUS);
     }
-    let mut goals = begun.goals;
+    let goals = begun.goals;
+    let certainty = evaluate_asked(table, cx, handler, graph, goals, kind, depth)?;
+    cx.terms_are_formed();
+    Ok(candidate.certainty.and(certainty))
+}
+
+/// Asks the goals of a candidate in steps: in coherence those that are asked as they stand. Where others are left out, nothing is certain.
+#[cycle(evaluate)]
+fn evaluate_asked<H: GoalHandler>(
+    table: &mut InferCtxt,
+    cx: &mut Cx,
+    handler: &H,
+    graph: &mut SearchGraph,
+    goals: Vec<(GoalSource, Goal)>,
+    kind: CurrentGoalKind,
+    depth: usize,
+) -> Result<Certainty, EvalError>
+    requires table { IsTable cx.old.nodes table.old }
+    requires posed { ArePosed cx.old.nodes table.old goals.items }
+    requires ready { H.ready cx.old.nodes handler.now }
+    requires search { IsSearch cx.old graph.old (depth) }
+    ensures { StepsAsked (rules_of H.ready H.handler handler.now) cx.old cx.new graph.old graph.new
+        table.old table.new goals.items kind depth result }
+{
+    cx.terms_are_formed();
     let mut last_steps = 0;
+    if asks_all(cx, table.typing_mode(), &goals) {
+        let mut whole = goals;
+        return try_evaluate_goals(
+            table,
+            cx,
+            handler,
+            graph,
+            &mut whole,
+            kind,
+            AvailableDepth::Below(depth),
+            &mut last_steps,
+        );
+    }
+    let mut asked = asked_of(cx, &goals)?;
     let certainty = try_evaluate_goals(
         table,
         cx,
         handler,
         graph,
-        &mut goals,
+        &mut asked,
         kind,
         AvailableDepth::Below(depth),
         &mut last_steps,
     )?;
-    cx.terms_are_formed();
-    Ok(candidate.certainty.and(certainty))
+    Ok(certainty.and(Certainty::AMBIGUOUS))
 }
 
 /// Evaluates the goals of a goal of that kind in steps, until a step finds nothing out, or as often as the store's limit says:

@@ -207,16 +207,26 @@ fn a_rule_for_an_alias_serves_its_type_in_coherence(rt: HostRuntime) {
     plays(&rt, rt.alloc(), TypingMode::Coherence, PAIR, PARTS);
 }
 
-/// In coherence goals are in doubt in which an alias stands, but for one that an alias is equal to a term.
+/// In coherence goals of two aliases are in doubt, and so are subtypes of an alias.
 #[test]
-fn aliases_are_in_doubt_in_coherence(rt: HostRuntime) {
+fn two_aliases_are_in_doubt_in_coherence(rt: HostRuntime) {
     const NORMS: &[Norm] = &[Norm(&[], "byte", "word", None)];
     const ASKED: &[Asked] = &[
         Goal(Alias(Equal("alias", "other")), Is(DOUBT, HasChanged::No)),
-        Goal(Alias(Projects("alias", "word")), Is(DOUBT, HasChanged::No)),
         Goal(Alias(Projects("byte", "alias")), Is(DOUBT, HasChanged::No)),
-        Goal(Plain(Of(0, &["alias"])), Is(DOUBT, HasChanged::No)),
         Goal(Subtype("alias", "word"), Is(DOUBT, HasChanged::No)),
+    ];
+    const PARTS: &[Part] = &[Part(By::Aliases(NORMS), &[], ASKED)];
+    plays(&rt, rt.alloc(), TypingMode::Coherence, PAIR, PARTS);
+}
+
+/// In coherence what an alias of an alias is is answered by the clauses, and so is what trait an alias has.
+#[test]
+fn aliases_in_terms_are_answered_in_coherence(rt: HostRuntime) {
+    const NORMS: &[Norm] = &[Norm(&[], "byte", "word", None)];
+    const ASKED: &[Asked] = &[
+        Goal(Alias(Projects("alias", "word")), Refused),
+        Goal(Plain(Of(0, &["alias"])), Refused),
     ];
     const PARTS: &[Part] = &[Part(By::Aliases(NORMS), &[], ASKED)];
     plays(&rt, rt.alloc(), TypingMode::Coherence, PAIR, PARTS);

@@ -91,14 +91,14 @@ fn what_an_alias_is_assumed_to_be_it_is_in_coherence(rt: HostRuntime) {
     plays(&rt, rt.alloc(), TypingMode::Coherence, GIVEN, PARTS);
 }
 
-/// In coherence it is in doubt whether a trait holds of an alias, whatever the alias is assumed to be. Goals without aliases are answered,
-/// and so is what an alias is that is assumed to be an alias.
+/// In coherence a trait holds of an alias by what the alias is assumed to be. Goals without aliases are answered likewise, and so is what
+/// an alias is that is assumed to be an alias.
 #[test]
-fn traits_of_aliases_are_in_doubt_in_coherence(rt: HostRuntime) {
+fn traits_of_aliases_are_answered_in_coherence(rt: HostRuntime) {
     const ASKED: &[Asked] = &[
         Goal(
             WhereIs("byte", "word", Of(0, &["alias"])),
-            Is(DOUBT, HasChanged::No),
+            Is(YES, HasChanged::No),
         ),
         Goal(
             AliasWhereIs("byte", "other", Projects("byte", "word")),

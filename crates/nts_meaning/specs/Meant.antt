@@ -30,6 +30,7 @@ use Rattle.nts_model.specs.Canonical.Inputs.{PositionKind}
 use Rattle.nts_model.specs.Answers.Responses.{answer_sequent}
 use Rattle.nts_candidates.specs.Offered.{source_of, candidate_of, candidates_of}
 use Rattle.nts_meaning.specs.Telling.{Ruling, Tells, Refutes, Outcomes, Replies, Fails, Reaches, RefusesOne, Asked, Refused, QueryTells, QueryRefutes}
+use Rattle.nts_theory.specs.AskedGoals.{asked_in}
 use Rattle.nts_theory.specs.Telling.{IsPlainResponse}
 use Rattle.nts_theory.specs.RelatingCandidates.{HasPlainEquations, HoldsByRelating, Begins}
 use Rattle.nts_model.specs.Derivations.Sequents.{Premise}
@@ -183,16 +184,23 @@ RepliesWith h mode a t g qs x b r = Replies h (mode_of mode) (content_of a t.ent
 abbrev pub FailsIn : Ruling → TypingMode → List Tree → Table → Goal → CandidateData → Type 0
 FailsIn h mode a t g x = Fails h (mode_of mode) (kind_for h.handler (tree_at a g.predicate.node)) (content_of a t.entries) (tree_at a g.param_env.node) (candidate_of a x)
 
--- a candidate for a goal was run: it is begun, and then some of what is left of it is asked
+-- a candidate for a goal was run: it is begun, and then some of the goals that are asked of those that are left of it were
 pub record HasRunTo (h : Ruling) (mode : TypingMode) (a : List Tree) (t : Table) (b : List Tree) (u : Table) (g : Goal) (x : CandidateData) : Type 0 where
   pub left : List Premise
   pub met : Content
   pub begun : Begins h.variances (mode_of mode) (content_of a t.entries) (tree_at a g.param_env.node) (candidate_of a x) met left
-  pub reaches : Reaches h (mode_of mode) left met (content_of b u.entries)
+  pub reaches : Reaches h (mode_of mode) (asked_in (mode_of mode) left) met (content_of b u.entries)
 
 -- goals of the store a were asked
 abbrev pub ReachesBy : Ruling → TypingMode → List Tree → Table → List Tree → Table → List (GoalSource × Goal) → Type 0
 ReachesBy h mode a t b u gs = Reaches h (mode_of mode) (goals_at a gs) (content_of a t.entries) (content_of b u.entries)
 
+-- .. those of a candidate that are asked
+abbrev pub ReachesAsked : Ruling → TypingMode → List Tree → Table → List Tree → Table → List (GoalSource × Goal) → Type 0
+ReachesAsked h mode a t b u gs = Reaches h (mode_of mode) (asked_in (mode_of mode) (goals_at a gs)) (content_of a t.entries) (content_of b u.entries)
+
 abbrev pub RefusesOneOf : Ruling → TypingMode → GoalKind → List Tree → Table → List (GoalSource × Goal) → Type 0
 RefusesOneOf h mode k a t gs = RefusesOne h (mode_of mode) k (goals_at a gs) (content_of a t.entries)
+
+abbrev pub RefusesOneAsked : Ruling → TypingMode → GoalKind → List Tree → Table → List (GoalSource × Goal) → Type 0
+RefusesOneAsked h mode k a t gs = RefusesOne h (mode_of mode) k (asked_in (mode_of mode) (goals_at a gs)) (content_of a t.entries)

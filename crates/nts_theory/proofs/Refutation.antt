@@ -30,6 +30,7 @@ pub mod PlainParts
 pub mod PlainTerms
 pub mod Begun
 pub mod OneSided
+pub mod AskedGoals
 pub mod Turned
 pub mod Witnesses
 pub mod Refuted

@@ -4,5 +4,6 @@ pub mod Outliving
 pub mod Subtyping
 pub mod Aliasing
 pub mod RelatingCandidates
+pub mod AskedGoals
 pub mod Refutation
 pub mod Telling

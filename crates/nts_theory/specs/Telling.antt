@@ -20,7 +20,7 @@ use Rattle.nts_model.specs.Tables.Recording.{resolved_constraints, AreNews}
 use Rattle.nts_model.specs.Derivations.Related.{Constraint, pair}
 use Rattle.nts_model.specs.Lists.{Among}
 use Rattle.nts_model.specs.Derivations.Sequents.{inductive, Premise}
-use Rattle.nts_model.specs.Derivations.Rules.{Mode, GoalKind, other_goal, statement_kind, step_kind, statement_of, IsHandlers}
+use Rattle.nts_model.specs.Derivations.Rules.{Mode, GoalKind, other_goal, statement_kind, step_kind, statement_of}
 use Rattle.nts_model.specs.Terms.Substitutions.{leaf_tree, filled}
 use Rattle.nts_model.specs.Canonical.Numbered.{position}
 use Rattle.nts_model.specs.Derivations.Handlers.{Handler, Candidate, IsAsked}
@@ -35,6 +35,7 @@ use Rattle.nts_theory.specs.Affirming.{SaysAffirmed, IsDenied, HasOwnWay}
 use Rattle.nts_theory.specs.Outliving.{IsOutlives}
 use Rattle.nts_theory.specs.Subtyping.{LeavesPremises, IsNoSubtype}
 use Rattle.nts_theory.specs.Aliasing.{IsPlainEquality, NormalizesSides, NormalizesLesser, IsLesserGoal}
+use Rattle.nts_theory.specs.AskedGoals.{asked_in}
 use Rattle.nts_theory.specs.RelatingCandidates.{IsCutIn, HasPlainEquations, plain_part, Begins, MayRelate, IsUnrelated, HasTypesApart}
 use Rattle.nts_model.specs.Answers.Responses.{Findings, AreFindings, Response, response_of, IsResponseTo, Applies, RefusesResponse}
 
@@ -145,12 +146,6 @@ pub record IsTraitGoal (e g : Tree) : Type 0 where
   pub statement : IsTraitStatement (statement_of g)
   pub no_alias : any_label is_alias (pair e g) ≡ false
 
--- a goal that a handler's rules may say, in whose terms no alias stands: that a trait holds, or that an alias with arguments is a term, or
--- normalizes to one. What is assumed may have aliases
-pub record IsPlainClauseGoal (g : Tree) : Type 0 where
-  pub statement : IsHandlers (statement_of g)
-  pub no_alias : any_label is_alias g ≡ false
-
 -- what is said of an alias and a term: that the one is the other, or that the one normalizes to the other
 abbrev pub IsAliasStatement : Tree → Type 0
 IsAliasStatement (node (label.Clause (clause.Projection i)) ts) = Unit {0}
@@ -160,11 +155,6 @@ IsAliasStatement t = ⊥
 -- a goal that says so, or a trait goal in whose terms or environment an alias stands
 abbrev pub IsAliasGoal : Tree → Tree → Type 0
 IsAliasGoal e g = IsAliasStatement (statement_of g) ⊎ IsTraitStatement (statement_of g) × (any_label is_alias (pair e g) ≡ true)
-
--- where goals about aliases are answered by what is offered for them: outside of coherence, and there where no alias stands in their
--- terms
-abbrev pub IsOpenToOffers : Mode → Tree → Type 0
-IsOpenToOffers mode g = IsCutIn mode ⊎ IsPlainClauseGoal g
 
 -- where goals that an alias is equal to a term are answered by what it normalizes to: outside of coherence, and there where they bind
 -- nothing, and no alias stands in the term
@@ -237,7 +227,7 @@ mutual
     tells_own : {ks : List PositionKind} {c : Content} {e g : Tree} {qs : List Tree} {v : Verdict} (x : Candidate) → IsOwnWayIn h c e g x → HasPlainEquations x → Replies Q h mode (entered_table c g) e (opened_in c g) qs x v → Tells Q h mode ks c e g qs v
     tells_subtype : {ks : List PositionKind} {c : Content} {e g : Tree} {qs : List Tree} {v : Verdict} (ps : List Premise) (met found : Content) → IsCutIn mode → LeavesPremises Q.variances (entered_table c g) met e (opened_in c g) ps
         → Reaches Q h mode ps met found → IsFound (entered_table c g) e (opened_in c g) found → SaysOf (entered_table c g) found qs v → Tells Q h mode ks c e g qs v
-    tells_alias : {ks : List PositionKind} {c : Content} {e g : Tree} {qs : List Tree} {v : Verdict} (vs : List Verdict) → IsOpenToOffers mode (opened_in c g) → IsAliasReady c e g → Outcomes Q h mode (entered_table c g) e (opened_in c g) qs (h.offers mode e (opened_in c g)) vs → StandsForAll qs vs v
+    tells_alias : {ks : List PositionKind} {c : Content} {e g : Tree} {qs : List Tree} {v : Verdict} (vs : List Verdict) → IsAliasReady c e g → Outcomes Q h mode (entered_table c g) e (opened_in c g) qs (h.offers mode e (opened_in c g)) vs → StandsForAll qs vs v
         → Tells Q h mode ks c e g qs v
     tells_normal : {ks : List PositionKind} {c : Content} {e g : Tree} {qs : List Tree} {v : Verdict} (ps : List Premise) (met found : Content) → IsOpenToNormalizing mode g → IsWay Q h mode (entered_table c g) met e (opened_in c g) ps → Reaches Q h mode ps met found
         → IsFound (entered_table c g) e (opened_in c g) found → SaysOf (entered_table c g) found qs v → Tells Q h mode ks c e g qs v
@@ -251,7 +241,7 @@ mutual
     own_fails : {c : Content} {e g : Tree} {qs : List Tree} (x : Candidate) → IsOwnWayIn h c e g x → HasPlainEquations x → Fails Q h mode (kind_for h (opened_in c g)) (entered_table c g) e x → Refutes Q h mode c e g qs
     is_no_subtype : {c : Content} {e g : Tree} {qs : List Tree} → IsCutIn mode → IsNoSubtype Q.variances (entered_table c g) (opened_in c g) → Refutes Q h mode c e g qs
     subtype_refused : {c : Content} {e g : Tree} {qs : List Tree} (ps : List Premise) (met : Content) → IsCutIn mode → LeavesPremises Q.variances (entered_table c g) met e (opened_in c g) ps → RefusesOne Q h mode other_goal ps met → Refutes Q h mode c e g qs
-    aliases_fail : {c : Content} {e g : Tree} {qs : List Tree} → IsOpenToOffers mode (opened_in c g) → IsAliasReady c e g → Outcomes Q h mode (entered_table c g) e (opened_in c g) qs (h.offers mode e (opened_in c g)) [] → Refutes Q h mode c e g qs
+    aliases_fail : {c : Content} {e g : Tree} {qs : List Tree} → IsAliasReady c e g → Outcomes Q h mode (entered_table c g) e (opened_in c g) qs (h.offers mode e (opened_in c g)) [] → Refutes Q h mode c e g qs
     normal_refused : {c : Content} {e g : Tree} {qs : List Tree} (ps : List Premise) (met : Content) → IsOpenToNormalizing mode g → NormalizesSides (entered_table c g) met e (opened_in c g) ps → RefusesOne Q h mode other_goal ps met
         → ((a b : Tree) → IsLesserGoal (opened_in c g) a b → LesserRefused Q h mode (entered_table c g) e (opened_in c g)) → Refutes Q h mode c e g qs
 
@@ -271,9 +261,9 @@ mutual
     then_fails : {c : Content} {e g : Tree} {qs : List Tree} {xs : List Candidate} {vs : List Verdict} {x : Candidate} → Outcomes Q h mode c e g qs xs vs → Fails Q h mode (kind_for h g) c e x → Outcomes Q h mode c e g qs (xs ++ x ∷ []) vs
     then_replies : {c : Content} {e g : Tree} {qs : List Tree} {xs : List Candidate} {vs : List Verdict} {x : Candidate} {v : Verdict} → Outcomes Q h mode c e g qs xs vs → Replies Q h mode c e g qs x v → Outcomes Q h mode c e g qs (xs ++ x ∷ []) (vs ++ v ∷ [])
 
-  -- the reply of a candidate: it is begun, some of what is left of it was asked, and the table says what it found
+  -- the reply of a candidate: it is begun, some of the goals that are asked of those that are left of it were, and the table says what it found
   pub data Replies (Q : Queries) (h : Handler) (mode : Mode) : Content → Tree → Tree → List Tree → Candidate → Verdict → Type 0 where
-    replies : {c : Content} {e g : Tree} {qs : List Tree} {x : Candidate} {v : Verdict} (ps : List Premise) (met found : Content) → Begins Q.variances mode c e x met ps → Reaches Q h mode ps met found → IsFound c e g found → SaysOf c found qs v
+    replies : {c : Content} {e g : Tree} {qs : List Tree} {x : Candidate} {v : Verdict} (ps : List Premise) (met found : Content) → Begins Q.variances mode c e x met ps → Reaches Q h mode (asked_in mode ps) met found → IsFound c e g found → SaysOf c found qs v
         → Replies Q h mode c e g qs x v
 
   -- a candidate for a goal of that kind, in that environment, fails: no world of the table meets what is made equal of it at once; or it
@@ -284,8 +274,8 @@ mutual
     is_unmet : {k : GoalKind} {c : Content} {e : Tree} {x : Candidate} → (IsCandidateMet c (plain_part x) → ⊥) → Fails Q h mode k c e x
     has_types_apart : {k : GoalKind} {c : Content} {e : Tree} {x : Candidate} → HasTypesApart x → Fails Q h mode k c e x
     is_unrelated : {k : GoalKind} {c : Content} {e : Tree} {x : Candidate} → MayRelate mode x → IsUnrelated Q.variances c x → Fails Q h mode k c e x
-    is_refused : {k : GoalKind} {c : Content} {e : Tree} {x : Candidate} (ps : List Premise) (met : Content) → Begins Q.variances mode c e x met ps → RefusesOne Q h mode k ps met → Fails Q h mode k c e x
-    is_leaky : {k : GoalKind} {c : Content} {e : Tree} {x : Candidate} (ps : List Premise) (met found : Content) → Begins Q.variances mode c e x met ps → Reaches Q h mode ps met found → h.leaks found 0 → Fails Q h mode k c e x
+    is_refused : {k : GoalKind} {c : Content} {e : Tree} {x : Candidate} (ps : List Premise) (met : Content) → Begins Q.variances mode c e x met ps → RefusesOne Q h mode k (asked_in mode ps) met → Fails Q h mode k c e x
+    is_leaky : {k : GoalKind} {c : Content} {e : Tree} {x : Candidate} (ps : List Premise) (met found : Content) → Begins Q.variances mode c e x met ps → Reaches Q h mode (asked_in mode ps) met found → h.leaks found 0 → Fails Q h mode k c e x
 
   -- some of the goals were asked, in any order and more than once
   pub data Reaches (Q : Queries) (h : Handler) (mode : Mode) : List Premise → Content → Content → Type 0 where

@@ -13,6 +13,7 @@ pub mod Stepping
 pub mod Entering
 pub mod MergedResponses
 pub mod Adding
+pub mod AskedData
 pub mod LeftOut
 pub mod Instances
 pub mod Unasked

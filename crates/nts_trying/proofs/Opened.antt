@@ -52,7 +52,7 @@ use Rattle.nts_meaning.specs.Meant.{IsServed, offers_of, IsTold, IsRefuted, Cand
 use Rattle.nts_meaning.proofs.Evaluating.{Knows-goes, offers-kept}
 use Rattle.nts_meaning.proofs.Running.{term_table}
 use Rattle.nts_meaning.specs.Telling.{Ruling, Outcomes, Replies, Fails, IsWay}
-use Rattle.nts_theory.specs.Telling.{IsPlainResponse, IsOpenToOffers, Verdict, kind_for, IsReady, IsAliasReady, IsAliasGoal, IsTraitGoal, StandsForAll, SaysRecorded, IsTermTable, IsResponseOf, IsOwnWayIn, IsOpenToNormalizing}
+use Rattle.nts_theory.specs.Telling.{IsPlainResponse, Verdict, kind_for, IsReady, IsAliasReady, IsAliasGoal, IsTraitGoal, StandsForAll, SaysRecorded, IsTermTable, IsResponseOf, IsOwnWayIn, IsOpenToNormalizing}
 use Rattle.nts_theory.specs.RelatingCandidates.{HasPlainEquations, IsCutIn}
 use Rattle.nts_theory.specs.Affirming.{SaysAffirmed, IsDenied, HasOwnWay}
 use Rattle.nts_theory.proofs.Aliases.ByEngine.{IsClosedThere, affirmed_proved}
@@ -168,19 +168,16 @@ module _ {a b : List Tree} {t u : Table} {g o : Goal} (posed : IsPosed a t g) (o
         proper = subst IsProperContent opens.table (proper_content w);
       }
 
-  opened_offers : (mode : TypingMode) → IsOpenToOffers (mode_of mode) (tree_at b o.predicate.node) → IsOpenToOffers (mode_of mode) (opened_in before (tree_at a g.predicate.node))
-  opened_offers mode x = subst (IsOpenToOffers (mode_of mode)) opens.predicate x
-
   pub alias_told : AreFormed b → IsPosed b u o → AliasGoalIn b o → (h : Ruling) (mode : TypingMode) (qs : List GenericArg) (e : List Tree) (r : Canonical Response) → trees_of b qs ≡ trees_of a qs → IsAliasTold h mode b u o qs e r → IsTold h mode a t g qs e r
   alias_told formed p says h mode qs e r same (inl x) ks =
       let outcomes = subst (λ z. Outcomes h (mode_of mode) there (tree_at b o.param_env.node) (tree_at b o.predicate.node) z (offers_of h.handler (mode_of mode) b o) x.verdicts) same x.outcomes in
-      tells_alias x.verdicts (opened_offers mode x.offers) (alias_ready formed p says) (opened_outcomes h mode (trees_of a qs) x.verdicts outcomes) (subst (λ z. StandsForAll z x.verdicts (verdict_at e r)) same x.stands)
+      tells_alias x.verdicts (alias_ready formed p says) (opened_outcomes h mode (trees_of a qs) x.verdicts outcomes) (subst (λ z. StandsForAll z x.verdicts (verdict_at e r)) same x.stands)
   alias_told formed p says h mode qs e r same (inr (n, x)) ks = tells_nothing there (inr opens.table) n (subst (λ z. IsPlainResponse there z (response_at e r)) same x)
 
   pub alias_refuted : AreFormed b → IsPosed b u o → AliasGoalIn b o → (h : Ruling) (mode : TypingMode) (qs : List GenericArg) → trees_of b qs ≡ trees_of a qs → IsAliasRefuted h mode b u o qs → IsRefuted h mode a t g qs
   alias_refuted formed p says h mode qs same x =
       let outcomes = subst (λ z. Outcomes h (mode_of mode) there (tree_at b o.param_env.node) (tree_at b o.predicate.node) z (offers_of h.handler (mode_of mode) b o) []) same x.outcomes in
-      aliases_fail (opened_offers mode x.offers) (alias_ready formed p says) (opened_outcomes h mode (trees_of a qs) [] outcomes)
+      aliases_fail (alias_ready formed p says) (opened_outcomes h mode (trees_of a qs) [] outcomes)
 
   -- .. of which nothing is told there
   pub nothing_through : (h : Ruling) (mode : TypingMode) (qs : List GenericArg) (e : List Tree) (r : Canonical Response) → trees_of b qs ≡ trees_of a qs → is_yes r.value.certainty ≡ false → IsPlainResponse there (trees_of b qs) (response_at e r) → IsTold h mode a t g qs e r

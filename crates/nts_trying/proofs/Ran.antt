@@ -40,7 +40,7 @@ use Rattle.nts_theory.specs.RelatingCandidates.{IsBegun, goals_with, HasPlainEqu
 use Rattle.nts_theory.specs.Telling.Fails.{is_refused}
 use Rattle.nts_trying.specs.Stepping.{ArePosed, AreSettled, terms_of}
 use Rattle.nts_trying.specs.Adding.{AreAdded}
-use Rattle.nts_meaning.specs.Meant.{HasRunTo, FailsIn, ReachesBy, RefusesOneOf}
+use Rattle.nts_meaning.specs.Meant.{HasRunTo, FailsIn, ReachesAsked, RefusesOneAsked}
 use Rattle.nts_meaning.specs.Running.{Stays, PremiseHolds, EachStays, StaysProved}
 use Rattle.nts_meaning.specs.Evaluation.{Goes, IsPosed, asked_terms, goals_at}
 use Rattle.nts_meaning.proofs.Running.{premise_stays, premises-kept}
@@ -72,7 +72,7 @@ module _ {a b e f : List Tree} {t u v : Table} (h : Ruling) (mode : TypingMode) 
   begun_here : Begins h.variances (mode_of mode) (content_of a t.entries) (tree_at a g.param_env.node) (candidate_of a x) (content_of e v.entries) (goals_with (map (tree_at b) vs) (let y = candidate_of a x in y.goals))
   begun_here = inl (map (tree_at b) vs, at_once, begins e v x vs equated adds constraints, refl)
 
-  pub ran_to : (z : List Tree) (w : Table) → ReachesBy h mode f v z w gs → HasRunTo h mode a t z w g x
+  pub ran_to : (z : List Tree) (w : Table) → ReachesAsked h mode f v z w gs → HasRunTo h mode a t z w g x
   ran_to z w r =
       record {
         left = goals_with (map (tree_at b) vs) (let y = candidate_of a x in y.goals);
@@ -81,7 +81,7 @@ module _ {a b e f : List Tree} {t u v : Table} (h : Ruling) (mode : TypingMode) 
         reaches = rw (its_goals, content_of-extended ef table.now) at r;
       }
 
-  pub ran_refused : RefusesOneOf h mode (kind_for h.handler (tree_at a g.predicate.node)) f v gs → FailsIn h mode a t g x
+  pub ran_refused : RefusesOneAsked h mode (kind_for h.handler (tree_at a g.predicate.node)) f v gs → FailsIn h mode a t g x
   ran_refused r = is_refused (goals_with (map (tree_at b) vs) (let y = candidate_of a x in y.goals)) (content_of e v.entries) begun_here (rw (its_goals, content_of-extended ef table.now) at r)
 
 -- what is proved of the goals

@@ -20,7 +20,7 @@ use Rattle.nts_trying.specs.Stepping.{ArePosed, terms_of}
 use Rattle.nts_model.specs.Derivations.Sequents.{Premise}
 use Rattle.nts_model.specs.Searching.Stacks.{IsProvedFrom}
 use Rattle.nts_theory.specs.Aliasing.{EquatesAlias, EquatesAliases, NormalizesSide, NormalizesSides, IsLesserGoal, NormalizesLesser}
-use Rattle.nts_theory.specs.Telling.{IsAliasStatement, IsTraitStatement, IsOpenToOffers, IsOpenToNormalizing, Verdict, IsFound, SaysOf, StandsForAll, IsPlainResponse}
+use Rattle.nts_theory.specs.Telling.{IsAliasStatement, IsTraitStatement, IsOpenToNormalizing, Verdict, IsFound, SaysOf, StandsForAll, IsPlainResponse}
 use Rattle.nts_theory.specs.RelatingCandidates.{IsCutIn}
 use Rattle.nts_store.specs.Growth.{tree_at, IsIn}
 use Rattle.nts_certainty.specs.declared.sources.GoalSource.{GoalSource}
@@ -62,10 +62,8 @@ pub record AliasGoalIn (ts : List Tree) (g : Goal) : Type 0 where
   pub closed : IsClosed statement
   pub environment : IsClosedEnv (tree_at ts g.param_env.node)
 
--- each candidate that is offered for a goal, where goals are answered by offers, fails or replies, and what a response of the store e
--- says stands for the replies
+-- each candidate that is offered for a goal fails or replies, and what a response of the store e says stands for the replies
 pub record SaysOffered (h : Ruling) (mode : TypingMode) (a : List Tree) (t : Table) (g : Goal) (qs : List GenericArg) (e : List Tree) (r : Canonical Response) : Type 0 where
-  pub offers : IsOpenToOffers (mode_of mode) (tree_at a g.predicate.node)
   pub verdicts : List Verdict
   pub outcomes : Outcomes h (mode_of mode) (content_of a t.entries) (tree_at a g.param_env.node) (tree_at a g.predicate.node) (trees_of a qs) (offers_of h.handler (mode_of mode) a g) verdicts
   pub stands : StandsForAll (trees_of a qs) verdicts (verdict_at e r)
@@ -75,9 +73,8 @@ abbrev pub IsAliasTold : Ruling → TypingMode → List Tree → Table → Goal 
 IsAliasTold h mode a t g qs e r =
     SaysOffered h mode a t g qs e r ⊎ (is_yes r.value.certainty ≡ false) × IsPlainResponse (content_of a t.entries) (trees_of a qs) (response_at e r)
 
--- .. and why it has no solution: each candidate that is offered fails, where goals are answered by offers
+-- .. and why it has no solution: each candidate that is offered fails
 pub record IsAliasRefuted (h : Ruling) (mode : TypingMode) (a : List Tree) (t : Table) (g : Goal) (qs : List GenericArg) : Type 0 where
-  pub offers : IsOpenToOffers (mode_of mode) (tree_at a g.predicate.node)
   pub outcomes : Outcomes h (mode_of mode) (content_of a t.entries) (tree_at a g.param_env.node) (tree_at a g.predicate.node) (trees_of a qs) (offers_of h.handler (mode_of mode) a g) []
 
 -- a goal says that an alias is equal to a closed term, which may be another alias, or that the one is a subtype of the other: it binds

@@ -5,6 +5,7 @@ pub mod Fast
 pub mod Found
 pub mod Stepping
 pub mod Adding
+pub mod Asking
 pub mod Rows
 pub mod Outliving
 pub mod Subtyping

@@ -6,10 +6,8 @@ ghost use Rattle.nts_store.specs.Growth.{tree_at};
 ghost use Rattle.nts_terms.specs.Kinds.{tree_of_statement};
 ghost use Rattle.nts_terms.specs.Handles.{HoldsGoal};
 ghost use Rattle.nts_terms.specs.Modes.{mode_of};
-ghost use Rattle.nts_model.specs.Derivations.Rules.{IsHandlers};
 ghost use Rattle.nts_theory.specs.Aliasing.{IsPlainEquality};
 ghost use Rattle.nts_theory.specs.RelatingCandidates.{IsCutIn};
-ghost use Rattle.nts_theory.specs.Telling.{IsOpenToOffers};
 ghost use Rattle.nts_trying.specs.Aliasing.{ConcernsAlias, AliasGoalIn, IsEquality, IsEquatedGoal};
 
 use crate::normal::EquatedAlias;
@@ -69,45 +67,11 @@ pub(crate) fn is_alias_goal(cx: &Cx, goal: Goal) -> bool
     is_closed_env(cx, goal.param_env)
 }
 
-/// Whether a statement is one that the rules of a handler may say: that a trait holds, or that an alias is a term, or normalizes to one.
-fn says_by_rules(statement: PredicateKind) -> bool
-    ensures { result ≡ true → (ts : List Tree) → IsHandlers (tree_of_statement ts statement) }
-{
-    match statement {
-        PredicateKind::NormalizesTo { .. } => true,
-        PredicateKind::Clause(clause) => match clause {
-            ClauseKind::Trait(_) => true,
-            ClauseKind::HostEffect(_) => true,
-            ClauseKind::Projection { .. } => true,
-            _ => false,
-        },
-        _ => false,
-    }
-}
-
 /// Whether aliases are normalized in that mode wherever they stand: in each but coherence.
 fn is_outside(mode: &TypingMode) -> bool
     ensures { IsTrue result ↔ IsCutIn (mode_of mode.now) }
 {
     !matches!(mode, TypingMode::Coherence)
-}
-
-/// Whether a goal about an alias is answered by what the handler offers for it: outside of coherence each is, and there one in whose
-/// terms no alias stands, whatever it assumes.
-#[inline(never)]
-pub fn is_open_to_offers(cx: &Cx, mode: &TypingMode, goal: Goal) -> bool
-    requires { HoldsGoal cx.now.nodes goal }
-    ensures { result ≡ true → IsOpenToOffers (mode_of mode.now) (tree_at cx.now.nodes
-        goal.predicate.node) }
-{
-    if is_outside(mode) {
-        return true;
-    }
-    if cx.nodes.flags(goal.predicate.node).has_alias {
-        return false;
-    }
-    let predicate = goal.predicate.kind(cx);
-    says_by_rules(predicate.value)
 }
 
 /// Whether a statement says that two terms are equal, of which one may be an alias.

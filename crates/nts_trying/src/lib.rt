@@ -3,6 +3,7 @@
 #![tactic(auto)]
 
 mod aliases;
+mod asked;
 mod binder;
 mod candidate;
 mod fast;
@@ -19,7 +20,8 @@ mod relating;
 mod steps;
 mod subtypes;
 
-pub use aliases::{is_open_to_normalizing, is_open_to_offers};
+pub use aliases::is_open_to_normalizing;
+pub use asked::{asked_of, asks_all};
 pub use binder::enter_forall;
 pub use candidate::{Trial, equate, record_constraints};
 pub use fast::fast_answer;

@@ -1,5 +1,5 @@
 -- Goals about aliases: what a query tells and refutes of them, and which goals say that an alias is equal to a term.
-use Rattle.std.proofs.Common.{◌≡◌, inl, inr, true, List, [], ◌∷◌, refl, subst}
+use Rattle.std.proofs.Common.{◌≡◌, inl, inr, true, false, List, [], ◌∷◌, refl, subst}
 use Rattle.nts_model.specs.declared.labels.AliasHead.{AliasHead}
 use Rattle.nts_model.specs.declared.labels.AliasRelationDirection.TheVariants as direction
 use Rattle.nts_model.specs.declared.labels.AliasHead.TheVariants as alias_of
@@ -13,13 +13,14 @@ use Rattle.nts_model.specs.Tables.Contents.{Content}
 use Rattle.nts_model.specs.Answers.Applying.{IsNew}
 use Rattle.nts_model.specs.declared.labels.ListHead.TheVariants as list
 use Rattle.nts_model.specs.Derivations.Related.{constructor, alias, alias_goal, subtype_goal, pair, unbound, IsAlias}
-use Rattle.nts_model.specs.Derivations.Rules.{Mode, coherence, relating, normalization_goal, statement_of, IsHandlers}
+use Rattle.nts_model.specs.Derivations.Rules.{Mode, coherence, post_analysis, relating, normalization_goal, statement_of, IsHandlers}
+use Rattle.nts_model.specs.Derivations.Sequents.{Premise}
 use Rattle.nts_model.specs.Derivations.Handlers.{Handler}
 use Rattle.nts_model.specs.Refutation.Opening.{entered_table, opened_in}
 use Rattle.nts_theory.specs.Aliasing.{EquatesAlias, NormalizesSide, IsLesserGoal, NormalizesLesser}
-use Rattle.nts_theory.specs.Telling.{Queries, IsTraitStatement, IsAliasStatement, IsPlainClauseGoal, IsOpenToOffers, IsAliasReady, Refutes, all_fail, is_denied, own_fails, is_no_subtype, subtype_refused, aliases_fail, normal_refused, no_outcome}
-use Rattle.nts_theory.proofs.Refutation.Affirming.{denied_no_handlers, way_no_handlers}
-use Rattle.nts_theory.proofs.Refutation.Aliasing.{equated_no_handlers, sides_no_handlers}
+use Rattle.nts_theory.specs.Telling.{Queries, IsTraitStatement, IsAliasStatement, IsAliasReady, Refutes, aliases_fail, no_outcome}
+use Rattle.nts_theory.specs.AskedGoals.{is_asked, asked_in, asks_all}
+use Rattle.nts_theory.proofs.Refutation.Aliasing.{equated_no_handlers}
 
 -- a statement that an alias normalizes to a term is about an alias; one that a trait holds is not
 abbrev pub item : Tree
@@ -31,52 +32,48 @@ list_type = constructor 1 empty
 normalizing_is_about_an_alias : IsAliasStatement (statement_of (normalization_goal (alias_of.Ty 0) empty list_type))
 normalizing_is_about_an_alias = tt
 
--- that Item is List, and that it normalizes to List, is said by goals in whose terms no alias stands, and may be asked of what is offered
--- in every mode; that Auto holds of Item may so outside of coherence alone
-abbrev nothing_assumed : Tree
-nothing_assumed = node (label.List list.Env) empty
-
+-- that Auto holds of Item is not asked in coherence where it is a goal of a candidate; that it holds of List is, and so is that Item is
+-- equal to List, and that something normalizes to List
 abbrev projected : Tree
 projected = unbound (node (label.Clause (clause.Projection (alias_of.Ty 0))) (pair (node (label.List list.Args) empty) list_type))
 
-projection_is_open_to_offers : (mode : Mode) → IsOpenToOffers mode projected
-projection_is_open_to_offers mode = inr (record { statement = tt; no_alias = refl })
+projection_is_asked : is_asked projected ≡ true
+projection_is_asked = refl
 
-normalizing_is_open_to_offers : (mode : Mode) → IsOpenToOffers mode (normalization_goal (alias_of.Ty 0) empty list_type)
-normalizing_is_open_to_offers mode = inr (record { statement = tt; no_alias = refl })
+normalizing_is_asked : is_asked (normalization_goal (alias_of.Ty 0) empty list_type) ≡ true
+normalizing_is_asked = refl
 
-abbrev auto_of_item : Tree
-auto_of_item = unbound (node (label.Clause (clause.Trait 0)) (more (node (label.List list.Args) (more item empty)) empty))
+equality_is_asked : is_asked (alias_goal variance.Invariant item list_type) ≡ true
+equality_is_asked = refl
 
-trait_of_an_alias_is_not_in_coherence : IsOpenToOffers coherence auto_of_item → ⊥
-trait_of_an_alias_is_not_in_coherence (inl outside) = outside refl
-trait_of_an_alias_is_not_in_coherence (inr plain) = (let n = plain.no_alias in cc n)
+abbrev auto_of : Tree → Tree
+auto_of t = unbound (node (label.Clause (clause.Trait 0)) (more (node (label.List list.Args) (more t empty)) empty))
 
-trait_is_about_no_alias : (s : Tree) → IsTraitStatement s → IsAliasStatement s → ⊥
-trait_is_about_no_alias (node (label.Clause (clause.Trait i)) ts) t a = a
-trait_is_about_no_alias (node (label.Clause (clause.HostEffect i)) ts) t a = a
-trait_is_about_no_alias s t a = absurd t
+pub trait_of_an_alias_is_left_out : is_asked (auto_of item) ≡ false
+trait_of_an_alias_is_left_out = refl
 
--- outside of coherence a goal about an alias for which nothing is offered is refuted, and so is one in coherence that says what an alias
--- is, if no alias stands in its terms; another one is not
-pub alias_without_rules_is_refuted : (Q : Queries) (h : Handler) (mode : Mode) (c : Content) (e g : Tree) (qs : List Tree) → IsOpenToOffers mode (opened_in c g) → IsAliasReady c e g → h.offers mode e (opened_in c g) ≡ [] → Refutes Q h mode c e g qs
-alias_without_rules_is_refuted Q h mode c e g qs offers ready none = aliases_fail offers ready (rw none no_outcome)
+trait_of_a_list_is_asked : is_asked (auto_of list_type) ≡ true
+trait_of_a_list_is_asked = refl
 
-alias_handlers : (s : Tree) → IsAliasStatement s → IsHandlers s
-alias_handlers (node (label.Clause (clause.Projection i)) ts) a = tt
-alias_handlers (node (label.Predicate (predicate.NormalizesTo i)) ts) a = tt
-alias_handlers s a = absurd a
+-- of these two goals in coherence the second alone is asked, and not all are; elsewhere both are
+abbrev of_item : Premise
+of_item = relating (node (label.List list.Env) empty) (auto_of item)
 
-pub alias_is_not_refuted_in_coherence : (Q : Queries) (h : Handler) (c : Content) (e g : Tree) (qs : List Tree) → IsAliasStatement (statement_of (opened_in c g)) → (IsPlainClauseGoal (opened_in c g) → ⊥) → Refutes Q h coherence c e g qs → ⊥
-alias_is_not_refuted_in_coherence Q h c e g qs a n (all_fail ready all) = (let t = ready.trait_goal in trait_is_about_no_alias (statement_of (opened_in c g)) t.statement a)
-alias_is_not_refuted_in_coherence Q h c e g qs a n (is_denied d) = denied_no_handlers h.judges (statement_of (opened_in c g)) d (alias_handlers (statement_of (opened_in c g)) a)
-alias_is_not_refuted_in_coherence Q h c e g qs a n (own_fails x own plain fails) =
-    (let z = own.way in way_no_handlers h.judges e z.statement x z.way (subst (λ v. IsHandlers (statement_of v)) z.binds_nothing (alias_handlers (statement_of (opened_in c g)) a)))
-alias_is_not_refuted_in_coherence Q h c e g qs a n (is_no_subtype outside none) = outside refl
-alias_is_not_refuted_in_coherence Q h c e g qs a n (subtype_refused ps there outside l refused) = outside refl
-alias_is_not_refuted_in_coherence Q h c e g qs a n (aliases_fail (inl outside) ready all) = outside refl
-alias_is_not_refuted_in_coherence Q h c e g qs a n (aliases_fail (inr plain) ready all) = n plain
-alias_is_not_refuted_in_coherence Q h c e g qs a n (normal_refused ps met normal left refused other) = sides_no_handlers (entered_table c g) met e (opened_in c g) ps left (alias_handlers (statement_of (opened_in c g)) a)
+abbrev of_list : Premise
+of_list = relating (node (label.List list.Env) empty) (auto_of list_type)
+
+pub one_is_asked : asked_in coherence (of_item ∷ of_list ∷ []) ≡ of_list ∷ []
+one_is_asked = refl
+
+not_all_are : asks_all coherence (of_item ∷ of_list ∷ []) ≡ false
+not_all_are = refl
+
+pub both_are_asked : (asked_in post_analysis (of_item ∷ of_list ∷ []) ≡ of_item ∷ of_list ∷ []) × (asks_all post_analysis (of_item ∷ of_list ∷ []) ≡ true)
+both_are_asked = (refl, refl)
+
+-- a goal about an alias for which nothing is offered is refuted
+pub alias_without_rules_is_refuted : (Q : Queries) (h : Handler) (mode : Mode) (c : Content) (e g : Tree) (qs : List Tree) → IsAliasReady c e g → h.offers mode e (opened_in c g) ≡ [] → Refutes Q h mode c e g qs
+alias_without_rules_is_refuted Q h mode c e g qs ready none = aliases_fail ready (rw none no_outcome)
 
 -- a goal says that Item and List are equal: what is left is that Item normalizes to List. Of two aliases no goal says so, and no
 -- trait's goal does

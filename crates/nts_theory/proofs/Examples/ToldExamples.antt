@@ -26,6 +26,8 @@ use Rattle.nts_theory.proofs.Refutation.Affirming.{denied_no_handlers, way_no_ha
 use Rattle.nts_theory.proofs.Refutation.Subtyping.{subtyping_no_handlers}
 use Rattle.nts_theory.proofs.Refutation.Aliasing.{sides_no_handlers}
 use Rattle.nts_theory.specs.Telling.{Verdict, Queries, IsReady, SaysNothing, ChangesNothing, StandsForAll, Refutes, all_fail, is_denied, own_fails, is_no_subtype, subtype_refused, aliases_fail, normal_refused, kind_for, Outcomes, no_outcome, then_fails, then_replies, Fails, is_unmet, has_types_apart, is_unrelated, is_refused, is_leaky, RefusesOne, refuses_one, cuts_one}
+use Rattle.nts_theory.specs.AskedGoals.{asked_in}
+use Rattle.nts_theory.proofs.Refutation.AskedGoals.{asks_none}
 use Rattle.nts_theory.specs.RelatingCandidates.{goals_with, HasPlainEquations}
 use Rattle.nts_theory.proofs.Refutation.Apart.{apart_unmet}
 use Rattle.nts_theory.proofs.Refutation.PlainParts.{plain_met}
@@ -52,16 +54,19 @@ two_made_one_say_something : SaysNothing two_variables both_one → ⊥
 two_made_one_say_something e = (let many : 1 ≡ 2 = ap (λ (r : Response). length r.kinds) e in omega (arith, many))
 
 -- a candidate without constraints, goals and aliases that is met does not fail, where the handler reports no leak
-pub no_refusal : (Q : Queries) (h : Handler) (mode : Mode) (c : Content) (k : GoalKind) (vs : List Tree) (gs : List Premise) → gs ≡ [] → RefusesOne Q h mode k (goals_with vs gs) c → ⊥
-no_refusal Q h mode c k vs [] e (refuses_one d p r i n q) = i
-no_refusal Q h mode c k vs [] e (cuts_one d p r i s n) = i
+nothing_refused : (Q : Queries) (h : Handler) (mode : Mode) (k : GoalKind) (c : Content) → RefusesOne Q h mode k [] c → ⊥
+nothing_refused Q h mode k c (refuses_one d p r i n q) = i
+nothing_refused Q h mode k c (cuts_one d p r i s n) = i
+
+pub no_refusal : (Q : Queries) (h : Handler) (mode : Mode) (c : Content) (k : GoalKind) (vs : List Tree) (gs : List Premise) → gs ≡ [] → RefusesOne Q h mode k (asked_in mode (goals_with vs gs)) c → ⊥
+no_refusal Q h mode c k vs [] e r = nothing_refused Q h mode k c (subst (λ z. RefusesOne Q h mode k z c) (asks_none mode) r)
 no_refusal Q h mode c k vs (g ∷ gs) e r = cc e
 
 pub fact_never_fails : (Q : Queries) (h : Handler) (mode : Mode) (c : Content) (e : Tree) (x : Candidate) → HasNoLeaks h → IsCandidateMet c x → x.constraints ≡ [] → x.goals ≡ [] → HasPlainEquations x → (k : GoalKind) → Fails Q h mode k c e x → ⊥
 fact_never_fails Q h mode c e x tight met constraints goals plain k (is_unmet n) = n (plain_met c x met)
 fact_never_fails Q h mode c e x tight met constraints goals plain k (has_types_apart y) = apart_unmet c x y met
 fact_never_fails Q h mode c e x tight met constraints goals plain k (is_unrelated outside n) = n.some plain
-fact_never_fails Q h mode c e x tight met constraints goals plain k (is_refused ps there (inl (vs, in_one, begun, same)) refused) = no_refusal Q h mode there k vs x.goals goals (subst (λ z. RefusesOne Q h mode k z there) same refused)
+fact_never_fails Q h mode c e x tight met constraints goals plain k (is_refused ps there (inl (vs, in_one, begun, same)) refused) = no_refusal Q h mode there k vs x.goals goals (subst (λ z. RefusesOne Q h mode k (asked_in mode z) there) same refused)
 fact_never_fails Q h mode c e x tight met constraints goals plain k (is_refused ps there (inr (inl (outside, begun))) refused) = begun.some plain
 fact_never_fails Q h mode c e x tight met constraints goals plain k (is_refused ps there (inr (inr (inside, inl begun))) refused) = begun.some plain
 fact_never_fails Q h mode c e x tight met constraints goals plain k (is_refused ps there (inr (inr (inside, inr begun))) refused) = (let b = begun.begun in b.some plain)
@@ -91,7 +96,7 @@ fact_is_not_refuted Q h mode c e g qs x tight offered met constraints goals plai
 fact_is_not_refuted Q h mode c e g qs x tight offered met constraints goals plain is (is_no_subtype outside n) = subtyping_no_handlers (opened_in c g) n.left n.right n.is is
 fact_is_not_refuted Q h mode c e g qs x tight offered met constraints goals plain is (subtype_refused ps there outside l refused) = subtyping_no_handlers (opened_in c g) l.left l.right l.is is
 fact_is_not_refuted Q h mode c e g qs x tight offered met constraints goals plain is (all_fail ready all) = fact_never_fails Q h mode (entered_table c g) e x tight met constraints goals plain (kind_for h (opened_in c g)) (all_failed all refl x offered)
-fact_is_not_refuted Q h mode c e g qs x tight offered met constraints goals plain is (aliases_fail outside ready all) = fact_never_fails Q h mode (entered_table c g) e x tight met constraints goals plain (kind_for h (opened_in c g)) (all_failed all refl x offered)
+fact_is_not_refuted Q h mode c e g qs x tight offered met constraints goals plain is (aliases_fail ready all) = fact_never_fails Q h mode (entered_table c g) e x tight met constraints goals plain (kind_for h (opened_in c g)) (all_failed all refl x offered)
 fact_is_not_refuted Q h mode c e g qs x tight offered met constraints goals plain is (normal_refused ps there outside left refused other) = sides_no_handlers (entered_table c g) there e (opened_in c g) ps left is
 
 -- and it refutes one for which nothing is offered

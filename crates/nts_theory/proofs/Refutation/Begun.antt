@@ -17,7 +17,7 @@ use Rattle.nts_model.specs.Terms.Substitutions.{leaf_tree, Occurs, IsConstant, f
 use Rattle.nts_model.specs.Derivations.Handlers.{Handler, Candidate, premise_by}
 use Rattle.nts_model.specs.Canonical.Inputs.{Input, originals, OccursIn}
 use Rattle.nts_model.specs.Refutation.Containing.{Truth, IsTrueBy, original_level, IsProvedIn, SolvesGoals, ExtendsTo, IsAliasFree, IsPlainWorld}
-use Rattle.nts_theory.specs.Refutation.Refutation.{IsFair, IsTheory, IsPlainFor, IsGranted}
+use Rattle.nts_theory.specs.Refutation.Refutation.{IsFair, IsTheory, IsPlainFor, IsGrantedAsAsked}
 use Rattle.nts_model.proofs.Tables.Instances.{inst-agrees}
 use Rattle.nts_model.proofs.Tables.Worlds.{inst-deeply_resolved}
 use Rattle.nts_model.proofs.Tables.Open.{Knows-deeply_resolved}
@@ -33,7 +33,7 @@ use Rattle.nts_theory.specs.RelatingCandidates.{IsBegun, goals_with, plain_part,
 use Rattle.nts_theory.proofs.Refutation.PlainParts.{aliased_among}
 use Rattle.nts_theory.proofs.Refutation.Queried.{Leads, Reached}
 use Rattle.nts_theory.proofs.Refutation.PlainTerms.{leaf_free}
-use Rattle.nts_theory.proofs.Refutation.Theories.{granted_renamed}
+use Rattle.nts_theory.proofs.Refutation.Theories.{asked_renamed}
 use Rattle.nts_theory.proofs.Refutation.OfferMeeting.{IsEqualOneWay}
 
 -- the caller and its query
@@ -74,7 +74,7 @@ module _ (h : Handler) (truth : Truth) (Proves : Tree → Tree → Type 0) (theo
       by_place (inr (inl o)) = p l (inr (inl (subst (Occurs l) of.predicate o)))
       by_place (inr (inr o)) = absurd (subst (Occurs l) of.hidden o)
 
-  pub asked_from : (c : Content) (e g : Tree) (i : Input) → IsInputFor c e g i → Knows c (pair e g) → AreCurrent c → IsAskedFrom truth (IsGranted Proves) c i
+  pub asked_from : (c : Content) (e g : Tree) (i : Input) → IsInputFor c e g i → Knows c (pair e g) → AreCurrent c → IsAskedFrom truth (IsGrantedAsAsked Proves) c i
   unfolding carrier
   asked_from c e g i of k current =
       let ls = originals i in
@@ -89,7 +89,7 @@ module _ (h : Handler) (truth : Truth) (Proves : Tree → Tree → Type 0) (theo
         nothing_hidden = of.hidden;
         originals_of = record { knows = known; low = low };
         carrier = carrier c.universe ls both.0 here;
-        carriable = record { carried = λ x y p. granted_renamed Proves Proves ρ is (theory.kept ρ is) x y p };
+        carriable = record { carried = λ x y p. asked_renamed Proves Proves ρ is (theory.kept ρ is) x y p };
         fair = λ x y. fair.renamed (back_to ρ) (back_carrying ρ is) x y;
         ground = λ x y p. p.ground;
         to_free = λ l. (refl, tt);

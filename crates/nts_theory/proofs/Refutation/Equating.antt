@@ -19,7 +19,7 @@ use Rattle.nts_model.specs.Derivations.Handlers.{Handler}
 use Rattle.nts_model.specs.Refutation.Opening.{binds, entered_table, opened_in}
 use Rattle.nts_model.specs.Refutation.Containing.{Truth, IsSolution, IsPlainWorld}
 use Rattle.nts_theory.specs.Aliasing.{alias_relation, EquatesAlias, IsPlainEquality, NormalizesBoth, NormalizesSides, IsLesserGoal}
-use Rattle.nts_theory.specs.Refutation.Refutation.{IsGranted, IsTheory, HasNoAlias}
+use Rattle.nts_theory.specs.Refutation.Refutation.{IsGrantedAsAsked, IsTheory, HasNoAlias}
 use Rattle.nts_model.proofs.Tables.Fitting.{IsClosed-inst}
 use Rattle.nts_theory.proofs.Refutation.PlainTerms.{free_none, unlabelled_free, none_inst}
 use Rattle.nts_theory.proofs.Refutation.Trying.{reaches_self}
@@ -90,14 +90,14 @@ inst_alias w (alias_of.Const i) ts = refl
 
 module _ (h : Handler) (truth : Truth) (Proves : Tree → Tree → Type 0) (theory : IsTheory h truth Proves) where
   module _ (c : Content) (w : World) (e a t : Tree) (s : IsSolution truth 0 c w) (free : IsPlainWorld c w) (x : IsAlias a) (ke : Knows c e) (ka : Knows c a) (kt : Knows c t) (ends : IsClosed t) (none : HasNoAlias t) where
-    normal_there : Proves (inst w e) (alias_relation direction.Equate (inst w a) (inst w t)) ⊎ Proves (inst w e) (alias_relation direction.Equate (inst w t) (inst w a)) → IsGranted Proves (inst w e) (inst w (normalization_goal x.head x.parts t))
+    normal_there : Proves (inst w e) (alias_relation direction.Equate (inst w a) (inst w t)) ⊎ Proves (inst w e) (alias_relation direction.Equate (inst w t) (inst w a)) → IsGrantedAsAsked Proves (inst w e) (inst w (normalization_goal x.head x.parts t))
     normal_there p =
         let y : IsAlias (inst w a) = record { head = x.head; parts = inst w x.parts; is = ap (inst w) x.is ∙ inst_alias w x.head x.parts; closed = IsClosed-inst c w 0 a s.solves.fitting ka x.closed } in
         let q = (theory.equates (inst w e) (inst w a) (inst w t) y p (IsClosed-inst c w 0 t s.solves.fitting kt ends) (none_inst c w free t kt none)).0 in
         let f = theory.ground in
         record { ground = f.ground _ _ q; proved = λ z. q }
 
-    begun_there : (p : Premise) → p ≡ relating e (normalization_goal x.head x.parts t) → IsGranted Proves (inst w e) (inst w (normalization_goal x.head x.parts t)) → BegunAt truth (IsGranted Proves) c c w (p ∷ [])
+    begun_there : (p : Premise) → p ≡ relating e (normalization_goal x.head x.parts t) → IsGrantedAsAsked Proves (inst w e) (inst w (normalization_goal x.head x.parts t)) → BegunAt truth (IsGrantedAsAsked Proves) c c w (p ∷ [])
     begun_there p is granted =
         record {
           reaches = reaches_self truth 0 c w s;
@@ -109,14 +109,14 @@ module _ (h : Handler) (truth : Truth) (Proves : Tree → Tree → Type 0) (theo
         }
 
   -- .. so the goal is begun by what is left of it
-  module _ (c : Content) (w : World) (e g : Tree) (s : IsSolution truth 0 c w) (free : IsPlainWorld c w) (k : Knows c (pair e g)) (granted : IsGranted Proves (inst w e) (inst w g)) (x : IsPlainEquality g) where
+  module _ (c : Content) (w : World) (e g : Tree) (s : IsSolution truth 0 c w) (free : IsPlainWorld c w) (k : Knows c (pair e g)) (granted : IsGrantedAsAsked Proves (inst w e) (inst w g)) (x : IsPlainEquality g) where
     proved_there : (a t : Tree) (y : EquatesAlias g a t) → y.by ≡ direction.Equate → Proves (inst w e) (alias_relation direction.Equate (inst w a) (inst w t)) ⊎ Proves (inst w e) (alias_relation direction.Equate (inst w t) (inst w a))
     proved_there a t y equal = elim y.says [
-      | inl i ↦ (let z = subst (λ v. IsGranted Proves (inst w e) (inst w v)) i granted in inl (subst (λ d. Proves (inst w e) (alias_relation d (inst w a) (inst w t))) equal (z.proved (inr tt))))
-      | inr i ↦ (let z = subst (λ v. IsGranted Proves (inst w e) (inst w v)) i granted in inr (subst (λ d. Proves (inst w e) (alias_relation d (inst w t) (inst w a))) equal (z.proved (inr tt))))
+      | inl i ↦ (let z = subst (λ v. IsGrantedAsAsked Proves (inst w e) (inst w v)) i granted in inl (subst (λ d. Proves (inst w e) (alias_relation d (inst w a) (inst w t))) equal (z.proved (inl (inr tt)))))
+      | inr i ↦ (let z = subst (λ v. IsGrantedAsAsked Proves (inst w e) (inst w v)) i granted in inr (subst (λ d. Proves (inst w e) (alias_relation d (inst w t) (inst w a))) equal (z.proved (inl (inr tt)))))
     ]
 
-    begun_by : (d : Content) (ps : List Premise) → NormalizesSides c d e g ps → BegunAt truth (IsGranted Proves) c d w ps
+    begun_by : (d : Content) (ps : List Premise) → NormalizesSides c d e g ps → BegunAt truth (IsGrantedAsAsked Proves) c d w ps
     begun_by d ps (inl (p, side, table, only)) =
         let y = side.is in
         let same = same_sides g x.left x.right side.left side.right x.is y in
@@ -127,12 +127,12 @@ module _ (h : Handler) (truth : Truth) (Proves : Tree → Tree → Type 0) (theo
         rw (table, only) (begun_there c w e side.left side.right s free y.alias k.0 sides.0 sides.1 ends none p side.premise there)
     begun_by d ps (inr both) = absurd (no_both c d e g ps x both)
 
-    pub equality_begins : (d : Content) (ps : List Premise) → NormalizesSides (entered_table c g) d e (opened_in c g) ps → BegunAt truth (IsGranted Proves) (entered_table c g) d w ps
+    pub equality_begins : (d : Content) (ps : List Premise) → NormalizesSides (entered_table c g) d e (opened_in c g) ps → BegunAt truth (IsGrantedAsAsked Proves) (entered_table c g) d w ps
     equality_begins d ps sides =
         let q = equality_binds_none g x in
         let there : entered_table c g ≡ c = rw q refl in
         let o : opened_in c g ≡ g = rw q refl in
-        subst (λ z. BegunAt truth (IsGranted Proves) z d w ps) (sym there) (begun_by d ps (subst (λ z. NormalizesSides z d e g ps) there (subst (λ z. NormalizesSides (entered_table c g) d e z ps) o sides)))
+        subst (λ z. BegunAt truth (IsGrantedAsAsked Proves) z d w ps) (sym there) (begun_by d ps (subst (λ z. NormalizesSides z d e g ps) there (subst (λ z. NormalizesSides (entered_table c g) d e z ps) o sides)))
 
 pub equality_no_lesser : (c : Content) (g a b : Tree) → IsPlainEquality g → IsLesserGoal (opened_in c g) a b → ⊥
 equality_no_lesser c g a b x l =

@@ -143,7 +143,7 @@ trivial_in w variance.Covariant a = inl refl
 trivial_in w variance.Contravariant a = inl refl
 
 -- a free tree in a plain world
-free_inst : (c : Content) (w : World) → IsPlainWorld c w → (t : Tree) → Knows c t → IsAliasFree t → IsAliasFree (inst w t)
+pub free_inst : (c : Content) (w : World) → IsPlainWorld c w → (t : Tree) → Knows c t → IsAliasFree t → IsAliasFree (inst w t)
 free_inst c w p empty k h = tt
 free_inst c w p (more a b) k h = (free_inst c w p a k.0 h.0, free_inst c w p b k.1 h.1)
 free_inst c w p (node (label.Leaf (leaf.Variable v n)) t) k h = p.each n v k.0.0

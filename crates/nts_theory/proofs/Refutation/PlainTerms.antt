@@ -21,7 +21,7 @@ use Rattle.nts_model.specs.Tables.Levels.{NamesAll, IfNamesAll}
 use Rattle.nts_model.specs.Tables.Resolving.{Knows}
 use Rattle.nts_model.specs.Tables.Worlds.{World, inst, IsNameable}
 use Rattle.nts_model.specs.Derivations.Related.{alias, IsAlias}
-use Rattle.nts_model.specs.Derivations.Rules.{opened, opened_at, statement_of, KeepsAliases}
+use Rattle.nts_model.specs.Derivations.Rules.{opened, opened_at, statement_of, KeepsAliases, IsHandlers}
 use Rattle.nts_model.specs.Canonical.Inputs.{PositionKind, type_variable, integer_variable, float_variable, const_variable, region_variable, placeholder}
 use Rattle.nts_model.specs.Answers.Responses.{IsNamedBy, AreNamedBy, bound_of}
 use Rattle.nts_model.specs.Lists.{Among}
@@ -252,36 +252,56 @@ keeps_before ρ (node (label.Predicate (predicate.NormalizesTo i)) c) h = tt
 keeps_before ρ s h = absurd h
 
 -- a predicate that is none says nothing, renamed too
-no_row : (f : Leaf → Leaf) (l : Label) (d : Tree) → KeepsAliases (statement_of (node (label.List list.Binder) (put (λ x. leaf_tree (f x)) l d))) → ⊥
-no_row f (label.Leaf x) d h = h
-no_row f (label.Bound s i n) d h = h
-no_row f (label.Ty x) d h = h
-no_row f (label.Const x) d h = h
-no_row f (label.Clause x) d h = h
-no_row f (label.Predicate x) d h = h
-no_row f (label.List x) d h = h
+no_row : (P : Tree → Type 0) → (P empty → ⊥) → (f : Leaf → Leaf) (l : Label) (d : Tree) → P (statement_of (node (label.List list.Binder) (put (λ x. leaf_tree (f x)) l d))) → ⊥
+no_row P q f (label.Leaf x) d h = q h
+no_row P q f (label.Bound s i n) d h = q h
+no_row P q f (label.Ty x) d h = q h
+no_row P q f (label.Const x) d h = q h
+no_row P q f (label.Clause x) d h = q h
+no_row P q f (label.Predicate x) d h = q h
+no_row P q f (label.List x) d h = q h
 
-no_rest : (v : Tree) (f : Leaf → Leaf) (l : Label) (d : Tree) → KeepsAliases (statement_of (node (label.List list.Binder) (more v (put (λ x. leaf_tree (f x)) l d)))) → ⊥
-no_rest v f (label.Leaf x) d h = h
-no_rest v f (label.Bound s i n) d h = h
-no_rest v f (label.Ty x) d h = h
-no_rest v f (label.Const x) d h = h
-no_rest v f (label.Clause x) d h = h
-no_rest v f (label.Predicate x) d h = h
-no_rest v f (label.List x) d h = h
+no_rest : (P : Tree → Type 0) → (P empty → ⊥) → (v : Tree) (f : Leaf → Leaf) (l : Label) (d : Tree) → P (statement_of (node (label.List list.Binder) (more v (put (λ x. leaf_tree (f x)) l d)))) → ⊥
+no_rest P q v f (label.Leaf x) d h = q h
+no_rest P q v f (label.Bound s i n) d h = q h
+no_rest P q v f (label.Ty x) d h = q h
+no_rest P q v f (label.Const x) d h = q h
+no_rest P q v f (label.Clause x) d h = q h
+no_rest P q v f (label.Predicate x) d h = q h
+no_rest P q v f (label.List x) d h = q h
 
-no_end : (v s : Tree) (f : Leaf → Leaf) (l : Label) (d : Tree) → KeepsAliases (statement_of (node (label.List list.Binder) (more v (more s (put (λ x. leaf_tree (f x)) l d))))) → ⊥
-no_end v s f (label.Leaf x) d h = h
-no_end v s f (label.Bound o i n) d h = h
-no_end v s f (label.Ty x) d h = h
-no_end v s f (label.Const x) d h = h
-no_end v s f (label.Clause x) d h = h
-no_end v s f (label.Predicate x) d h = h
-no_end v s f (label.List x) d h = h
+no_end : (P : Tree → Type 0) → (P empty → ⊥) → (v s : Tree) (f : Leaf → Leaf) (l : Label) (d : Tree) → P (statement_of (node (label.List list.Binder) (more v (more s (put (λ x. leaf_tree (f x)) l d))))) → ⊥
+no_end P q v s f (label.Leaf x) d h = q h
+no_end P q v s f (label.Bound o i n) d h = q h
+no_end P q v s f (label.Ty x) d h = q h
+no_end P q v s f (label.Const x) d h = q h
+no_end P q v s f (label.Clause x) d h = q h
+no_end P q v s f (label.Predicate x) d h = q h
+no_end P q v s f (label.List x) d h = q h
 
 pub kept_before : (ρ : Renaming) (g : Tree) → KeepsAliases (statement_of (rename ρ g)) → KeepsAliases (statement_of g)
 kept_before ρ (node (label.List list.Binder) (more v (more s empty))) h = keeps_before ρ s h
-kept_before ρ (node (label.List list.Binder) (more v (more s (node l c)))) h = absurd (no_end (rename ρ v) (rename ρ s) ρ.to l (rename ρ c) h)
-kept_before ρ (node (label.List list.Binder) (more v (node l c))) h = absurd (no_rest (rename ρ v) ρ.to l (rename ρ c) h)
-kept_before ρ (node (label.List list.Binder) (node l c)) h = absurd (no_row ρ.to l (rename ρ c) h)
+kept_before ρ (node (label.List list.Binder) (more v (more s (node l c)))) h = absurd (no_end KeepsAliases (λ z. z) (rename ρ v) (rename ρ s) ρ.to l (rename ρ c) h)
+kept_before ρ (node (label.List list.Binder) (more v (node l c))) h = absurd (no_rest KeepsAliases (λ z. z) (rename ρ v) ρ.to l (rename ρ c) h)
+kept_before ρ (node (label.List list.Binder) (node l c)) h = absurd (no_row KeepsAliases (λ z. z) ρ.to l (rename ρ c) h)
 kept_before ρ g h = absurd h
+
+-- .. and what rules of a handler say
+said_before : (ρ : Renaming) (s : Tree) → IsHandlers (rename ρ s) → IsHandlers s
+said_before ρ (node (label.Clause (clause.Trait i)) c) h = tt
+said_before ρ (node (label.Clause (clause.HostEffect i)) c) h = tt
+said_before ρ (node (label.Clause (clause.Projection i)) c) h = tt
+said_before ρ (node (label.Predicate (predicate.NormalizesTo i)) c) h = tt
+said_before ρ s h = absurd h
+
+pub rules_before : (ρ : Renaming) (g : Tree) → IsHandlers (statement_of (rename ρ g)) → IsHandlers (statement_of g)
+rules_before ρ (node (label.List list.Binder) (more v (more s empty))) h = said_before ρ s h
+rules_before ρ (node (label.List list.Binder) (more v (more s (node l c)))) h = absurd (no_end IsHandlers (λ z. z) (rename ρ v) (rename ρ s) ρ.to l (rename ρ c) h)
+rules_before ρ (node (label.List list.Binder) (more v (node l c))) h = absurd (no_rest IsHandlers (λ z. z) (rename ρ v) ρ.to l (rename ρ c) h)
+rules_before ρ (node (label.List list.Binder) (node l c)) h = absurd (no_row IsHandlers (λ z. z) ρ.to l (rename ρ c) h)
+rules_before ρ g h = absurd h
+
+-- what a term without aliases says has none
+pub statement_free : (g : Tree) → IsAliasFree g → HasNoAlias (statement_of g)
+statement_free (node (label.List list.Binder) (more v (more s empty))) f = free_none s f.1.1.0
+statement_free g f = tt

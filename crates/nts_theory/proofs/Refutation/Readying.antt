@@ -1,5 +1,5 @@
 -- A goal that is proved in a world of a query's table has a candidate that can be begun, in the table in which it is answered.
-use Rattle.std.proofs.Common.{ℕ, ◌≡◌, ◌+◌, Bool, true, false, length, Option, Some, None, refl, sym, ap, subst, ◌∙◌, arith, inl}
+use Rattle.std.proofs.Common.{ℕ, ◌≡◌, ◌+◌, Bool, true, false, length, Option, Some, None, refl, sym, ap, subst, ◌∙◌, arith, inl, inr}
 use Rattle.std.specs.Prelude.{slice_get, ◌||◌}
 use Rattle.nts_model.specs.declared.labels.Sort.{Sort}
 use Rattle.nts_model.specs.declared.labels.Sort.TheVariants as sort
@@ -7,6 +7,7 @@ use Rattle.nts_model.specs.declared.labels.VariableKind.{VariableKind}
 use Rattle.nts_model.specs.declared.labels.Leaf.TheVariants as leaf
 use Rattle.nts_model.specs.declared.labels.ListHead.TheVariants as list
 use Rattle.nts_model.specs.declared.labels.ClauseHead.TheVariants as clause
+use Rattle.nts_model.specs.declared.labels.PredicateHead.TheVariants as predicate
 use Rattle.nts_model.specs.declared.labels.Label.TheVariants as label
 use Rattle.nts_model.specs.Terms.Trees.{Tree, empty, more, node, any_label, is_alias, IsClosed, IsFormed}
 use Rattle.nts_model.specs.Tables.Contents.{Content, Slot, map_slot, universe_of, kind_at, in_universe}
@@ -23,8 +24,8 @@ use Rattle.nts_model.specs.Derivations.Handlers.{Handler, Candidate, IsAsked, Is
 use Rattle.nts_model.specs.Answers.Applying.{IsProperContent}
 use Rattle.nts_model.specs.Refutation.Containing.{Truth, IsSolution, IsAliasFree, IsPlainWorld}
 use Rattle.nts_model.specs.Refutation.Coherence.{RulesAreOffered}
-use Rattle.nts_theory.specs.Telling.{IsPlainClauseGoal, IsTraitStatement, IsTraitGoal}
-use Rattle.nts_theory.specs.Refutation.Refutation.{UsesNamed, binding, IsTheory, IsPlainFor, HasNoAlias, IsGranted}
+use Rattle.nts_theory.specs.Telling.{IsTraitStatement, IsTraitGoal, IsAliasStatement, IsAliasGoal}
+use Rattle.nts_theory.specs.Refutation.Refutation.{UsesNamed, binding, IsTheory, IsPlainFor, IsGranted, IsGrantedAsAsked}
 use Rattle.nts_model.proofs.Tables.Instances.{Agrees-refl}
 use Rattle.nts_model.proofs.Tables.Fitting.{IsClosed-inst, IsFormed-inst}
 use Rattle.nts_model.proofs.Tables.Solving.{NamesAll-more, Solves-in_universe}
@@ -34,7 +35,8 @@ use Rattle.nts_theory.proofs.Refutation.OfferMeeting.{handlers_inst}
 use Rattle.nts_theory.proofs.Refutation.Offering.{world_instance, world_instance_in, meets_used}
 use Rattle.nts_theory.proofs.Refutation.Opening.{CanBegin, can_begin}
 use Rattle.nts_theory.proofs.Derivations.ClosedStatements.{one_statement as same_statement}
-use Rattle.nts_theory.proofs.Refutation.PlainTerms.{free_none, unlabelled_free, either_false, none_inst, leaf_free, none_opened}
+use Rattle.nts_theory.proofs.Refutation.PlainTerms.{leaf_free}
+use Rattle.nts_theory.proofs.Refutation.UsedRules.{handlers_before}
 use Rattle.nts_theory.proofs.Refutation.Freshening.{knows_leaf}
 
 -- in a solution the current universe names the image of each term of the table
@@ -98,25 +100,24 @@ module _ (h : Handler) (truth : Truth) (Proves : Tree → Tree → Type 0) (theo
   themselves c w s sort.Const n = refl
   themselves c w s sort.Region n = ap (λ z. leaf_tree (leaf.Region z)) (s.new (c.universe + 1) n (omega arith))
 
-  module _ (c : Content) (e g : Tree) (w : World) (s : IsSolution truth 0 c w) (current : AreCurrent c) (known : Knows c (pair e g)) (free : IsPlainWorld c w) (granted : IsGranted Proves (inst w e) (inst w g)) where
+  module _ (c : Content) (e g : Tree) (w : World) (s : IsSolution truth 0 c w) (current : AreCurrent c) (known : Knows c (pair e g)) (free : IsPlainWorld c w) (granted : IsGrantedAsAsked Proves (inst w e) (inst w g)) where
     -- a goal that binds nothing
-    begins_plain : IsAsked e g → IsPlainClauseGoal g → IsProperContent c → (x : Candidate) × Among (h.offers coherence e g) x × CanBegin truth (IsGranted Proves) c w e x
-    begins_plain asked trait proper =
+    begins_plain : IsAsked e g → IsHandlers (statement_of g) → IsProperContent c → (x : Candidate) × Among (h.offers coherence e g) x × CanBegin truth (IsGranted Proves) c w e x
+    begins_plain asked said proper =
         let is : g ≡ unbound asked.statement = asked.binds_nothing in
         let there : Knows c (unbound asked.statement) = subst (Knows c) is (known.1.0) in
         let ks : Knows c asked.statement = there.1.1.0 in
         let closed : IsClosed (inst w asked.statement) = IsClosed-inst c w 0 asked.statement s.solves.fitting ks (let k = asked.closed in k.1.0) in
-        let says : IsHandlers asked.statement = subst (λ z. IsHandlers (statement_of z)) is trait.statement in
-        let none : HasNoAlias asked.statement = (let f : IsAliasFree (unbound asked.statement) = subst IsAliasFree is (unlabelled_free g trait.no_alias) in free_none asked.statement f.1.1.0) in
-        let here : IsGranted Proves (inst w e) (unbound (inst w asked.statement)) = subst (λ z. IsGranted Proves (inst w e) (inst w z)) is granted in
-        let u = theory.plain c.universe (inst w e) (inst w asked.statement) (here.proved (inl (none_inst c w free asked.statement ks none))) (handlers_inst w asked.statement says) closed
+        let says : IsHandlers asked.statement = subst (λ z. IsHandlers (statement_of z)) is said in
+        let here : IsGrantedAsAsked Proves (inst w e) (unbound (inst w asked.statement)) = subst (λ z. IsGrantedAsAsked Proves (inst w e) (inst w z)) is granted in
+        let u = theory.plain c.universe (inst w e) (inst w asked.statement) (here.proved (inr (handlers_inst w asked.statement says))) (handlers_inst w asked.statement says) closed
         (names_image truth 0 c w s current e known.0, (names_image truth 0 c w s current asked.statement ks, tt)) in
         begins_by c w e g asked known proper s free u
 
     -- .. and one that binds variables
-    begins_binding : IsBinding g → (let d = in_universe c (c.universe + 1) in let o = unbound (opened (placeholder_in (c.universe + 1)) 0 (statement_of g)) in (asked : IsAsked e o) → IsPlainClauseGoal o → Knows d (pair e o) → IsProperContent d
+    begins_binding : IsBinding g → (let d = in_universe c (c.universe + 1) in let o = unbound (opened (placeholder_in (c.universe + 1)) 0 (statement_of g)) in (asked : IsAsked e o) → IsHandlers (statement_of o) → Knows d (pair e o) → IsProperContent d
         → (x : Candidate) × Among (h.offers coherence e o) x × CanBegin truth (IsGranted Proves) d w e x)
-    begins_binding b asked trait there proper =
+    begins_binding b asked said there proper =
         let d = in_universe c (c.universe + 1) in
         let p = placeholder_in (c.universe + 1) in
         let t = b.says in
@@ -129,23 +130,21 @@ module _ (h : Handler) (truth : Truth) (Proves : Tree → Tree → Type 0) (theo
         let fs : IsFormed asked.statement = (let f : IsFormed (unbound asked.statement) = subst IsFormed asked.binds_nothing (let f = asked.formed in f.1.0) in f.1.1.0) in
         let formed : IsFormed (opened p 0 (inst w t)) = subst IsFormed image (IsFormed-inst d w asked.statement later.solves.fitting ks fs) in
         let same : unbound (opened p 0 (statement_of g)) ≡ unbound asked.statement = asked.binds_nothing in
-        let trait_says : IsHandlers asked.statement = subst (λ z. IsHandlers (statement_of z)) same trait.statement in
+        let trait_says : IsHandlers asked.statement = subst (λ z. IsHandlers (statement_of z)) same said in
         let is_trait : IsHandlers (opened p 0 (inst w t)) = subst IsHandlers image (handlers_inst w asked.statement trait_says) in
-        let whole = unlabelled_free (unbound (opened p 0 (statement_of g))) trait.no_alias in
-        let none : HasNoAlias t = none_opened p 0 t (subst (λ z. HasNoAlias (opened p 0 (statement_of z))) b.is (free_none (opened p 0 (statement_of g)) whole.1.1.0)) in
-        let here : IsGranted Proves (inst w e) (binding (inst w b.first) (inst w b.rest) (inst w t)) = subst (λ z. IsGranted Proves (inst w e) (inst w z)) b.is granted in
-        let u = theory.opened c.universe (inst w e) (inst w b.first) (inst w b.rest) (inst w t) (here.proved (inl (none_inst c w free t kt none))) is_trait formed
+        let here : IsGrantedAsAsked Proves (inst w e) (binding (inst w b.first) (inst w b.rest) (inst w t)) = subst (λ z. IsGrantedAsAsked Proves (inst w e) (inst w z)) b.is granted in
+        let u = theory.opened c.universe (inst w e) (inst w b.first) (inst w b.rest) (inst w t) (here.proved (inr (handlers_before p 0 (inst w t) is_trait))) is_trait formed
         (names_image truth 0 c w s current e known.0, (names_image truth 0 c w s current t kt, tt)) in
         begins_by d w e (unbound (opened p 0 (statement_of g))) asked there proper later (record { each = λ n k e. free.each n k e }) (subst (UsesNamed h truth Proves (c.universe + 1) (inst w e)) (sym image) u)
 
-    pub some_begins : IsAsked e (opened_in c g) → IsPlainClauseGoal (opened_in c g) → Knows (entered_table c g) (pair e (opened_in c g)) → IsProperContent (entered_table c g) → SomeBegins h truth Proves c e g w
+    pub some_begins : IsAsked e (opened_in c g) → IsHandlers (statement_of (opened_in c g)) → Knows (entered_table c g) (pair e (opened_in c g)) → IsProperContent (entered_table c g) → SomeBegins h truth Proves c e g w
     some_begins asked says knows proper = by_bool (binds g) refl
       where
         by_bool : (b : Bool) → binds g ≡ b → SomeBegins h truth Proves c e g w
         by_bool false q =
             let there : entered_table c g ≡ c = rw q refl in
             let o : opened_in c g ≡ g = rw q refl in
-            let x = begins_plain (subst (IsAsked e) o asked) (subst IsPlainClauseGoal o says) (subst IsProperContent there proper) in
+            let x = begins_plain (subst (IsAsked e) o asked) (subst (λ z. IsHandlers (statement_of z)) o says) (subst IsProperContent there proper) in
             record {
               candidate = x.0;
               offered = subst (λ z. Among (h.offers coherence e z) x.0) (sym o) x.1;
@@ -156,7 +155,7 @@ module _ (h : Handler) (truth : Truth) (Proves : Tree → Tree → Type 0) (theo
             let there : entered_table c g ≡ in_universe c (c.universe + 1) = rw q refl in
             let o : opened_in c g ≡ unbound (opened (placeholder_in (c.universe + 1)) 0 (statement_of g)) = rw q refl in
             let known_there = subst (λ z. Knows z (pair e (unbound (opened (placeholder_in (c.universe + 1)) 0 (statement_of g))))) there (subst (λ z. Knows (entered_table c g) (pair e z)) o knows) in
-            let x = begins_binding (binding_shape g q) (subst (IsAsked e) o asked) (subst IsPlainClauseGoal o says) known_there (subst IsProperContent there proper) in
+            let x = begins_binding (binding_shape g q) (subst (IsAsked e) o asked) (subst (λ z. IsHandlers (statement_of z)) o says) known_there (subst IsProperContent there proper) in
             record {
               candidate = x.0;
               offered = subst (λ z. Among (h.offers coherence e z) x.0) (sym o) x.1;
@@ -170,9 +169,15 @@ clause_of_trait (node (label.Clause (clause.Trait i)) ts) h = tt
 clause_of_trait (node (label.Clause (clause.HostEffect i)) ts) h = tt
 clause_of_trait s h = absurd h
 
-pub says_trait : (e g : Tree) → IsTraitGoal e g → IsPlainClauseGoal g
-says_trait e g t =
-    record {
-      statement = clause_of_trait (statement_of g) t.statement;
-      no_alias = (let both = either_false (any_label is_alias e) (any_label is_alias g || false) t.no_alias in (either_false (any_label is_alias g) false both.1).0);
-    }
+pub says_trait : (e g : Tree) → IsTraitGoal e g → IsHandlers (statement_of g)
+says_trait e g t = clause_of_trait (statement_of g) t.statement
+
+-- .. and so is one about an alias
+clause_of_alias : (s : Tree) → IsAliasStatement s → IsHandlers s
+clause_of_alias (node (label.Clause (clause.Projection i)) ts) h = tt
+clause_of_alias (node (label.Predicate (predicate.NormalizesTo i)) ts) h = tt
+clause_of_alias s h = absurd h
+
+pub says_alias : (e g : Tree) → IsAliasGoal e g → IsHandlers (statement_of g)
+says_alias e g (inl a) = clause_of_alias (statement_of g) a
+says_alias e g (inr t) = clause_of_trait (statement_of g) t.0

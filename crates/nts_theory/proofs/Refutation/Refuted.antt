@@ -14,7 +14,7 @@ use Rattle.nts_model.specs.Derivations.Handlers.{Handler, meaning, IsLawfulHandl
 use Rattle.nts_model.specs.Refutation.Containing.{Truth, IsTrueBy, IsSolution, AnswerContains, HasNoSolution}
 use Rattle.nts_model.specs.Refutation.Coherence.{RulesAreOffered}
 use Rattle.nts_model.specs.Canonical.Inputs.{CanonicalInput}
-use Rattle.nts_theory.specs.Refutation.Refutation.{IsPlainFor, IsGranted, IsFair, RespectsLeaks, IsTheory, TurnsEqualities, HasMetProof, HasNoSolutionIn, KeepsSolutionsOf}
+use Rattle.nts_theory.specs.Refutation.Refutation.{IsPlainFor, IsGrantedAsAsked, IsFair, RespectsLeaks, IsTheory, TurnsEqualities, HasMetProof, HasNoSolutionIn, KeepsSolutionsOf}
 use Rattle.nts_theory.proofs.Refutation.Entering.{entered as enters}
 use Rattle.nts_theory.proofs.Refutation.Theories.{Carried, carried_itself, carried_theory}
 use Rattle.nts_theory.proofs.Refutation.Turned.{Turned, turned_theory, turned_equalities}
@@ -48,7 +48,7 @@ module _ (Q : Queries) (begins : BeginsEach Q) (h : Handler) (V : ℕ → List V
       let q = carried_itself h truth (InPlainProof (meaning h V) Holds) lawful.rules lawful.judges fair (plain_used h V truth) _ _ (root_reached h V truth w) in
       inl (subst (λ z. Reached z g) x.environment (subst (Reached _) x.predicate q))
 
-  granted : (e g : Tree) → HasMetProof (meaning h V) truth e g → IsGranted Proves e g
+  granted : (e g : Tree) → HasMetProof (meaning h V) truth e g → IsGrantedAsAsked Proves e g
   granted e g x = (let p = proved e g x in let f = theory.ground in record { ground = f.ground e g p; proved = λ s. p })
 
   -- the root: no solution of the caller's table gives the goal a plain proof
@@ -56,14 +56,14 @@ module _ (Q : Queries) (begins : BeginsEach Q) (h : Handler) (V : ℕ → List V
   refused_has_no_proof c e g r k current w s f p = refused_none Q begins h truth Proves theory turns fair respects lawful law r k current c.universe w s f (granted (inst w e) (inst w g) p)
 
   -- each answer of a query contains each solution of its input, and what a query refutes has none
-  pub answer_contains_all : (f : CanonicalInput) (v : Verdict) → IsFirst f (Q.table f.kinds) (Q.values f.kinds) → QueryTells Q h coherence f v → AnswerContains truth (IsGranted Proves) f v.response
+  pub answer_contains_all : (f : CanonicalInput) (v : Verdict) → IsFirst f (Q.table f.kinds) (Q.values f.kinds) → QueryTells Q h coherence f v → AnswerContains truth (IsGrantedAsAsked Proves) f v.response
   answer_contains_all f v first t ts s =
-      let e = enters truth (IsGranted Proves) f (Q.table f.kinds) (Q.values f.kinds) ts first.begins s in
+      let e = enters truth (IsGrantedAsAsked Proves) f (Q.table f.kinds) (Q.values f.kinds) ts first.begins s in
       tells_contain Q begins h truth Proves theory turns fair respects lawful law t (first_query f (Q.table f.kinds) (Q.values f.kinds) first) ts e.world (record { values = s.values; plain = s.plain; solution = e.solution; free = e.plain; images = e.images; proved = e.proved })
 
-  pub refuted_has_none : (f : CanonicalInput) → IsFirst f (Q.table f.kinds) (Q.values f.kinds) → QueryRefutes Q h coherence f → HasNoSolution (IsGranted Proves) f
+  pub refuted_has_none : (f : CanonicalInput) → IsFirst f (Q.table f.kinds) (Q.values f.kinds) → QueryRefutes Q h coherence f → HasNoSolution (IsGrantedAsAsked Proves) f
   refuted_has_none f first t ts s =
-      let e = enters truth (IsGranted Proves) f (Q.table f.kinds) (Q.values f.kinds) ts first.begins s in
+      let e = enters truth (IsGrantedAsAsked Proves) f (Q.table f.kinds) (Q.values f.kinds) ts first.begins s in
       refutes_none Q begins h truth Proves theory turns fair respects lawful law t (first_query f (Q.table f.kinds) (Q.values f.kinds) first) ts e.world (record { values = s.values; plain = s.plain; solution = e.solution; free = e.plain; images = e.images; proved = e.proved })
 
   -- .. so each solution in which the goal has a plain proof

@@ -35,7 +35,7 @@ use Rattle.nts_theory.proofs.Refutation.Affirming.{denied_replaced}
 use Rattle.nts_theory.proofs.Refutation.Outliving.{true_again}
 use Rattle.nts_theory.proofs.Refutation.Saying.{was_formed, said_renamed, both_formed, said_before, said_opened, both_moved}
 use Rattle.nts_theory.specs.RelatingCandidates.{may_be_argument, AreTypesApart}
-use Rattle.nts_theory.specs.Refutation.Refutation.{HasNoAlias, HasPlainSides, IsGranted, IsCarrying, IsFair, IsEqualAlias, EqualsBy, same_tree, by_alias, by_row, by_node, AreEqualSides, UsesClause, UsesNamed, binding, GrantsFormed, AreUsed, IsTheory}
+use Rattle.nts_theory.specs.Refutation.Refutation.{HasNoAlias, HasPlainSides, IsGranted, IsGrantedAsAsked, IsCarrying, IsFair, IsEqualAlias, EqualsBy, same_tree, by_alias, by_row, by_node, AreEqualSides, UsesClause, UsesNamed, binding, GrantsFormed, AreUsed, IsTheory}
 use Rattle.nts_model.proofs.Terms.Substituting.{replace-equal, replace-leaf, kind_of-replace}
 use Rattle.nts_model.proofs.Terms.Composing.{IsFormed-instance, IsClosed-instance, instance_kinds}
 use Rattle.nts_model.proofs.Tables.Solving.{NamesAll-more}
@@ -48,7 +48,7 @@ use Rattle.nts_model.proofs.Terms.Renamings.{forward, extension, map-forward}
 use Rattle.nts_theory.proofs.Refutation.OpenedGoals.{rename_opened, kept_tree}
 use Rattle.nts_theory.proofs.Refutation.Carrying.{names_replaced}
 use Rattle.nts_theory.proofs.Refutation.Carriers.{forward_others, forward_property, none_renamed, none_carrying, then_by, then_carrying, rename_then, back_to, back_carrying, region_carried, instance_by, AreMovable, extension_carrying, shifted, shifted_carrying, shifted_low}
-use Rattle.nts_theory.proofs.Refutation.PlainTerms.{no_alias_renamed, no_alias_before, free_renamed, statement_before, kept_before}
+use Rattle.nts_theory.proofs.Refutation.PlainTerms.{no_alias_renamed, no_alias_before, free_renamed, statement_before, kept_before, rules_before}
 use Rattle.nts_theory.proofs.Refutation.UsedRules.{handlers_replaced, handlers_before}
 use Rattle.nts_model.specs.declared.labels.AliasHead.{AliasHead}
 use Rattle.nts_model.specs.declared.labels.AliasHead.TheVariants as alias_of
@@ -146,6 +146,14 @@ granted_renamed Proves Later ρ k later e g x =
     record {
       ground = (let f = x.ground in (ground_renamed ρ k e f.0, (ground_renamed ρ k g f.1.0, tt)));
       proved = λ s. later e g (x.proved (elim s [ inl n ↦ inl (statement_before ρ g n) | inr n ↦ inr (kept_before ρ g n) ]));
+    }
+
+-- .. and so it is of one that is asked
+pub asked_renamed : (Proves Later : Tree → Tree → Type 0) (ρ : Renaming) → IsCarrying ρ → ((e g : Tree) → Proves e g → Later (rename ρ e) (rename ρ g)) → (e g : Tree) → IsGrantedAsAsked Proves e g → IsGrantedAsAsked Later (rename ρ e) (rename ρ g)
+asked_renamed Proves Later ρ k later e g x =
+    record {
+      ground = (let f = x.ground in (ground_renamed ρ k e f.0, (ground_renamed ρ k g f.1.0, tt)));
+      proved = λ s. later e g (x.proved (elim s [ inl n ↦ inl (elim n [ inl y ↦ inl (statement_before ρ g y) | inr y ↦ inr (kept_before ρ g y) ]) | inr y ↦ inr (rules_before ρ g y) ]));
     }
 
 true_renamed : (truth : Truth) → IsFair truth → (ρ : Renaming) → IsCarrying ρ → (r : Relation) (a b : Tree) → IsTrueBy truth r a b → IsTrueBy truth r (rename ρ a) (rename ρ b)

@@ -17,7 +17,8 @@ use Rattle.nts_model.specs.Answers.Responses.{IsQueryTable}
 use Rattle.nts_model.specs.Refutation.Containing.{IsAliasFree, IsPlainWorld, Truth, IsSolution, AreInputValues, ContainsSolution, AnswerContains, HasNoSolution, SolvesGoals, ExtendsTo}
 use Rattle.nts_model.specs.Refutation.Coherence.{RulesAreOffered}
 use Rattle.nts_model.specs.Derivations.Rules.{statement_of}
-use Rattle.nts_theory.specs.Refutation.Refutation.{IsPlainFor, IsGranted, IsFair, RespectsLeaks, IsTheory, TurnsEqualities}
+use Rattle.nts_theory.specs.AskedGoals.{asked_in}
+use Rattle.nts_theory.specs.Refutation.Refutation.{IsPlainFor, IsGranted, IsGrantedAsAsked, IsFair, RespectsLeaks, IsTheory, TurnsEqualities}
 use Rattle.nts_model.proofs.Tables.Instances.{Agrees-trans}
 use Rattle.nts_model.proofs.Tables.Slots.{KeepsKinds-refl, KeepsKinds-trans}
 use Rattle.nts_theory.proofs.Refutation.AskingWorlds.{image, contained_granted}
@@ -28,7 +29,8 @@ use Rattle.nts_theory.proofs.Refutation.Trying.{same_positions}
 use Rattle.nts_theory.proofs.Refutation.Agreeing.{AreNumberedKinds, identity_contains, nothing_contains, kinds_agree, terms_long}
 use Rattle.nts_theory.proofs.Refutation.Opening.{CanBegin, added}
 use Rattle.nts_theory.proofs.Refutation.Recording.{recorded_true}
-use Rattle.nts_theory.proofs.Refutation.Readying.{some_begins, says_trait}
+use Rattle.nts_theory.proofs.Refutation.Readying.{some_begins, says_trait, says_alias}
+use Rattle.nts_theory.proofs.Refutation.AskedGoals.{granted_weakly, begun_asked}
 use Rattle.nts_theory.proofs.Refutation.Affirming.{denied_inst, denied_before, denied_plain}
 use Rattle.nts_theory.proofs.Refutation.Stating.{own_begins}
 use Rattle.nts_theory.proofs.Refutation.Equating.{equality_begins, equality_no_lesser}
@@ -62,7 +64,11 @@ pub record OneContains (truth : Truth) (vs : List Verdict) (ts : List Tree) : Ty
 -- the theorem: in coherence each answer contains each solution, and what is refused has none
 module _ (Q : Queries) (begins : BeginsEach Q) (h : Handler) (truth : Truth) (Proves : Tree → Tree → Type 0) (theory : IsTheory h truth Proves) (turns : TurnsEqualities Proves) (fair : IsFair truth) (respects : RespectsLeaks h truth) (lawful : IsLawfulHandler h) (law : RulesAreOffered h) where
   abbrev Granted : Tree → Tree → Type 0
-  Granted = IsGranted Proves
+  Granted = IsGrantedAsAsked Proves
+
+  -- what a candidate that is begun is granted of its goals
+  abbrev Weakly : Tree → Tree → Type 0
+  Weakly = IsGranted Proves
 
   some_says : (ks : List PositionKind) (c met found : Content) (w : World) (e g : Tree) (qs : List Tree) (v : Verdict) (gs : List Premise) → IsTried ks c e g qs → IsFound c e g found → IsSolution truth 0 c w → IsPlainWorld c w
       → BegunAt truth Granted c met w gs → Reached truth Granted met found gs → SaysOf c found qs v → ContainsSolution truth v.response (map (inst w) qs)
@@ -106,7 +112,7 @@ module _ (Q : Queries) (begins : BeginsEach Q) (h : Handler) (truth : Truth) (Pr
         stands_contains ks qs vs v ts q.numbered q.kinds s.values s.plain (outcome_long all) stands (subst (OneContains truth vs) s.images one)
     tells_contain {ks} {c} {e} {g} {qs} {v} (tells_outlives x is none r) q ts w s =
         let here = entered_table c g in
-        let true_there = recorded_true h truth Proves theory lawful law c e g w s.solution q.current q.knows s.free s.proved x is none in
+        let true_there = recorded_true h truth Proves theory lawful law c e g w s.solution q.current q.knows s.free (granted_weakly Proves (inst w e) (inst w g) s.proved) x is none in
         let there = added truth 0 x here r.found w r.adds (entered_solution truth c g w s.solution) true_there in
         let t = tried ks c e g qs q in
         subst (ContainsSolution truth v.response) (same_positions here w there.world qs there.agrees (tried_knows ks here e (opened_in c g) qs t) ∙ s.images)
@@ -115,12 +121,11 @@ module _ (Q : Queries) (begins : BeginsEach Q) (h : Handler) (truth : Truth) (Pr
         subst (ContainsSolution truth v.response) s.images
         (says_contains truth ks (entered_table c g) qs v.response q.placed (entered_query ks c g qs q.table) says w (entered_solution truth c g w s.solution) (entered_plain c g w s.free))
     tells_contain {ks} {c} {e} {g} {qs} {v} (tells_own x own plain reply) q ts w s =
-        let begins = own_begins h truth Proves theory lawful law c e g w s.solution q.current q.knows s.free s.proved x own.way plain own.environment own.knows in
+        let begins = own_begins h truth Proves theory lawful law c e g w s.solution q.current q.knows s.free (granted_weakly Proves (inst w e) (inst w g) s.proved) x own.way plain own.environment own.knows in
         subst (ContainsSolution truth v.response) s.images (replies_contain reply (tried ks c e g qs q) w (entered_solution truth c g w s.solution) (entered_plain c g w s.free) begins)
     tells_contain (tells_subtype ps met found outside related reach is says) q ts w s = absurd (outside refl)
-    tells_contain (tells_alias vs (inl outside) ready all stands) q ts w s = absurd (outside refl)
-    tells_contain {ks} {c} {e} {g} {qs} {v} (tells_alias vs (inr plain) ready all stands) q ts w s =
-        let x = some_begins h truth Proves theory lawful law c e g w s.solution q.current q.knows s.free s.proved ready.asked plain ready.knows ready.proper in
+    tells_contain {ks} {c} {e} {g} {qs} {v} (tells_alias vs ready all stands) q ts w s =
+        let x = some_begins h truth Proves theory lawful law c e g w s.solution q.current q.knows s.free s.proved ready.asked (says_alias e (opened_in c g) ready.alias_goal) ready.knows ready.proper in
         let one = outcomes_contain all (tried ks c e g qs q) w x.solution (entered_plain c g w s.free) x.candidate x.offered x.begins in
         stands_contains ks qs vs v ts q.numbered q.kinds s.values s.plain (outcome_long all) stands (subst (OneContains truth vs) s.images one)
     tells_contain (tells_normal ps met found (inl outside) left reach is says) q ts w s = absurd (outside refl)
@@ -137,14 +142,13 @@ module _ (Q : Queries) (begins : BeginsEach Q) (h : Handler) (truth : Truth) (Pr
         one.among
     refutes_none {ks} {c} {e} {g} {qs} (is_denied d) q ts w s =
         let there = denied_inst h.judges w g (denied_before h.judges c g d) in
-        theory.denies (inst w e) (inst w g) (s.proved.proved (inl (denied_plain h.judges (statement_of (inst w g)) there))) there
+        theory.denies (inst w e) (inst w g) (s.proved.proved (inl (inl (denied_plain h.judges (statement_of (inst w g)) there)))) there
     refutes_none {ks} {c} {e} {g} {qs} (own_fails x own plain fails) q ts w s =
-        fails_never fails w (entered_solution truth c g w s.solution) (entered_plain c g w s.free) (own_begins h truth Proves theory lawful law c e g w s.solution q.current q.knows s.free s.proved x own.way plain own.environment own.knows)
+        fails_never fails w (entered_solution truth c g w s.solution) (entered_plain c g w s.free) (own_begins h truth Proves theory lawful law c e g w s.solution q.current q.knows s.free (granted_weakly Proves (inst w e) (inst w g) s.proved) x own.way plain own.environment own.knows)
     refutes_none (is_no_subtype outside none) q ts w s = outside refl
     refutes_none (subtype_refused ps met outside related refused) q ts w s = outside refl
-    refutes_none (aliases_fail (inl outside) ready all) q ts w s = outside refl
-    refutes_none {ks} {c} {e} {g} {qs} (aliases_fail (inr plain) ready all) q ts w s =
-        let x = some_begins h truth Proves theory lawful law c e g w s.solution q.current q.knows s.free s.proved ready.asked plain ready.knows ready.proper in
+    refutes_none {ks} {c} {e} {g} {qs} (aliases_fail ready all) q ts w s =
+        let x = some_begins h truth Proves theory lawful law c e g w s.solution q.current q.knows s.free s.proved ready.asked (says_alias e (opened_in c g) ready.alias_goal) ready.knows ready.proper in
         let one = outcomes_contain all (tried ks c e g qs q) w x.solution (entered_plain c g w s.free) x.candidate x.offered x.begins in
         one.among
     refutes_none (normal_refused ps met (inl outside) left refused other) q ts w s = outside refl
@@ -153,39 +157,39 @@ module _ (Q : Queries) (begins : BeginsEach Q) (h : Handler) (truth : Truth) (Pr
         refuses_goals refused b.terms b.reaches.world b.goals
 
     outcomes_contain : {ks : List PositionKind} {c : Content} {e g : Tree} {qs : List Tree} {xs : List Candidate} {vs : List Verdict} → Outcomes Q h coherence c e g qs xs vs → IsTried ks c e g qs
-        → (w : World) → IsSolution truth 0 c w → IsPlainWorld c w → (x : Candidate) → Among xs x → CanBegin truth Granted c w e x → OneContains truth vs (map (inst w) qs)
+        → (w : World) → IsSolution truth 0 c w → IsPlainWorld c w → (x : Candidate) → Among xs x → CanBegin truth Weakly c w e x → OneContains truth vs (map (inst w) qs)
     outcomes_contain no_outcome t w s f y a k = absurd a
     outcomes_contain {ks} {c} {e} {g} {qs} (then_fails {xs = xs} {vs = vs} {x = x} before fails) t w s f y a k =
         let rest = λ (i : Among xs y). outcomes_contain before t w s f y i k in
         elim (among_split xs (x ∷ []) y a) [
           | inl i ↦ rest i
-          | inr i ↦ (elim i [ inl q ↦ absurd (fails_never fails w s f (subst (CanBegin truth Granted c w e) q k)) | inr j ↦ absurd j ])
+          | inr i ↦ (elim i [ inl q ↦ absurd (fails_never fails w s f (subst (CanBegin truth Weakly c w e) q k)) | inr j ↦ absurd j ])
         ]
     outcomes_contain {ks} {c} {e} {g} {qs} (then_replies {xs = xs} {vs = vs} {x = x} {v = v} before reply) t w s f y a k =
         let rest = λ (i : Among xs y). outcomes_contain before t w s f y i k in
         elim (among_split xs (x ∷ []) y a) [
           | inl i ↦ (let o = rest i in record { verdict = o.verdict; among = among_left vs (v ∷ []) o.verdict o.among; contains = o.contains })
           | inr i ↦ (elim i [
-            | inl q ↦ record { verdict = v; among = among_right vs (v ∷ []) v (inl refl); contains = replies_contain reply t w s f (subst (CanBegin truth Granted c w e) q k) }
+            | inl q ↦ record { verdict = v; among = among_right vs (v ∷ []) v (inl refl); contains = replies_contain reply t w s f (subst (CanBegin truth Weakly c w e) q k) }
             | inr j ↦ absurd j
           ])
         ]
 
     replies_contain : {ks : List PositionKind} {c : Content} {e g : Tree} {qs : List Tree} {x : Candidate} {v : Verdict} → Replies Q h coherence c e g qs x v → IsTried ks c e g qs
-        → (w : World) → IsSolution truth 0 c w → IsPlainWorld c w → CanBegin truth Granted c w e x → ContainsSolution truth v.response (map (inst w) qs)
+        → (w : World) → IsSolution truth 0 c w → IsPlainWorld c w → CanBegin truth Weakly c w e x → ContainsSolution truth v.response (map (inst w) qs)
     replies_contain {ks} {c} {e} {g} {qs} {x} {v} (replies ps met found begun reach is says) t w s f k =
-        let b = begun_with h truth Proves theory fair turns Q.variances c w e x f k met ps begun in
-        some_says ks c met found w e g qs v ps t is s f b (reaches_keep reach b.terms) says
+        let b = begun_asked truth Proves c met w ps (begun_with h truth Proves theory fair turns Q.variances c w e x f k met ps begun) in
+        some_says ks c met found w e g qs v (asked_in coherence ps) t is s f b (reaches_keep reach b.terms) says
 
-    fails_never : {k : GoalKind} {c : Content} {e : Tree} {x : Candidate} → Fails Q h coherence k c e x → (w : World) → IsSolution truth 0 c w → IsPlainWorld c w → CanBegin truth Granted c w e x → ⊥
+    fails_never : {k : GoalKind} {c : Content} {e : Tree} {x : Candidate} → Fails Q h coherence k c e x → (w : World) → IsSolution truth 0 c w → IsPlainWorld c w → CanBegin truth Weakly c w e x → ⊥
     fails_never {c = c} {x = x} (is_unmet n) w s f k = n k.is_met
     fails_never {c = c} {x = x} (has_types_apart y) w s f k = k.apart y
     fails_never (is_unrelated (inl outside) n) w s f k = outside refl
     fails_never {c = c} {e = e} {x = x} (is_unrelated (inr sides) n) w s f k = never_unrelated h truth Proves theory fair turns Q.variances c w e x f k sides n
     fails_never {c = c} {e = e} {x = x} (is_refused ps met begun refused) w s f k =
-        let b = begun_with h truth Proves theory fair turns Q.variances c w e x f k met ps begun in refuses_goals refused b.terms b.reaches.world b.goals
+        let b = begun_asked truth Proves c met w ps (begun_with h truth Proves theory fair turns Q.variances c w e x f k met ps begun) in refuses_goals refused b.terms b.reaches.world b.goals
     fails_never {c = c} {e = e} {x = x} (is_leaky ps met found begun reach leaks) w s f k =
-        let b = begun_with h truth Proves theory fair turns Q.variances c w e x f k met ps begun in
+        let b = begun_asked truth Proves c met w ps (begun_with h truth Proves theory fair turns Q.variances c w e x f k met ps begun) in
         let r = reaches_keep reach b.terms in
         let there = r.solutions.each b.reaches.world b.goals in
         respects.none found 0 there.world leaks there.solves.solution

@@ -50,6 +50,6 @@ doubt_leaves_none (tells_outlives x is none r) n = (let z : true ≡ false = sym
 doubt_leaves_none (tells_affirmed is sure says) n = (let z : true ≡ false = sym sure ∙ n in cc z)
 doubt_leaves_none {c = c} {g = g} {qs = qs} {v = v} (tells_own x own plain (replies ps met found begun reach is says)) n = says_none (entered_table c g) found qs v n says
 doubt_leaves_none {c = c} {g = g} {qs = qs} {v = v} (tells_subtype ps met found outside related reach is says) n = says_none (entered_table c g) found qs v n says
-doubt_leaves_none {v = v} (tells_alias vs outside ready all (i, inl same)) n = (let z : true ≡ false = sym same.certain ∙ n in cc z)
-doubt_leaves_none {v = v} (tells_alias vs outside ready all (i, inr same)) n = outcome_leaves_none all v i n
+doubt_leaves_none {v = v} (tells_alias vs ready all (i, inl same)) n = (let z : true ≡ false = sym same.certain ∙ n in cc z)
+doubt_leaves_none {v = v} (tells_alias vs ready all (i, inr same)) n = outcome_leaves_none all v i n
 doubt_leaves_none {c = c} {g = g} {qs = qs} {v = v} (tells_normal ps met found outside left reach is says) n = says_none (entered_table c g) found qs v n says

@@ -61,6 +61,15 @@ pub record IsGranted (Proves : Tree → Tree → Type 0) (e g : Tree) : Type 0 w
   pub ground : AllLabels IsGroundLabel (pair e g)
   pub proved : StandsAsIs g → Proves e g
 
+-- a goal that is taken as it stands: one that is asked so, or that a handler's rules say
+abbrev pub IsTakenAsIs : Tree → Type 0
+IsTakenAsIs g = StandsAsIs g ⊎ IsHandlers (statement_of g)
+
+-- what is granted of a goal that is asked: it is proved too if a handler's rules say it, with the aliases that stand in it
+pub record IsGrantedAsAsked (Proves : Tree → Tree → Type 0) (e g : Tree) : Type 0 where
+  pub ground : AllLabels IsGroundLabel (pair e g)
+  pub proved : IsTakenAsIs g → Proves e g
+
 -- a renaming that keeps variables, and the regions that stay
 pub record IsCarrying (ρ : Renaming) : Type 0 where
   pub plain : IsPlain ρ

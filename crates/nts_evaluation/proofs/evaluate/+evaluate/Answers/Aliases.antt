@@ -17,7 +17,6 @@ use Rattle.nts_meaning.proofs.AskedGoals.{trees_kept}
 use Rattle.nts_meaning.proofs.Evaluating.{Goes-trans, Goes-extends, IsPosed-later, Since-later, offers-kept}
 use Rattle.nts_meaning.proofs.Rounds.{search_then}
 use Rattle.nts_meaning.proofs.Searching.{Searches-refl, search_grows, tell_grown}
-use Rattle.nts_theory.specs.Telling.{IsOpenToOffers}
 use Rattle.nts_trying.specs.Aliasing.{IsAliasTold, IsAliasRefuted}
 use Rattle.nts_trying.proofs.AliasGoals.{alias_asked}
 use Rattle.nts_trying.proofs.Labels.{only_back}
@@ -154,54 +153,33 @@ evaluate_alias-returns g t c =
             sure = λ y s.
                 let h = g.H.GoalHandler.handler s.base c.args.handler.now in
                 let same = g.met.H.GoalHandler.handler_kept s.base c.relevant_candidates.new.cx.nodes c.args.handler.now s.is_ready (Extends-trans s.extends e.grows.extends) in
-                let offered = subst (λ os. LeavesOut os (candidates_of c.relevant_candidates.new.cx.nodes c.in_ok-candidates.candidates.items)) (ap (λ m. (g.H.GoalHandler.handler c.relevant_candidates.new.cx.nodes c.args.handler.now).offers (mode_of m) (tree_at c.relevant_candidates.new.cx.nodes c.args.goal.param_env.node) (tree_at c.relevant_candidates.new.cx.nodes c.args.goal.predicate.node)) c.typing_mode-2.ensures ∙ same.offers _ _ _) e.offered in
+                let offered = subst (λ os. LeavesOut os (candidates_of c.relevant_candidates.new.cx.nodes c.in_ok-candidates.candidates.items)) (ap (λ m. (g.H.GoalHandler.handler c.relevant_candidates.new.cx.nodes c.args.handler.now).offers (mode_of m) (tree_at c.relevant_candidates.new.cx.nodes c.args.goal.param_env.node) (tree_at c.relevant_candidates.new.cx.nodes c.args.goal.predicate.node)) c.typing_mode.ensures ∙ same.offers _ _ _) e.offered in
                 f.sure y (Since-later e.grows s) (kept_offered _ c.args.goal _ h mode offered);
           })
           (rw c.deref.ensures.value at r.found);
       told = λ s tells.
           let h = ruling_since (λ ts. g.H.GoalHandler.handler ts c.args.handler.now) s in
           let same = g.met.H.GoalHandler.handler_kept s.base c.relevant_candidates.new.cx.nodes c.args.handler.now s.is_ready (Extends-trans s.extends e.grows.extends) in
-          let offered = subst (λ os. LeavesOut os (candidates_of c.relevant_candidates.new.cx.nodes c.in_ok-candidates.candidates.items)) (ap (λ m. (g.H.GoalHandler.handler c.relevant_candidates.new.cx.nodes c.args.handler.now).offers (mode_of m) (tree_at c.relevant_candidates.new.cx.nodes c.args.goal.param_env.node) (tree_at c.relevant_candidates.new.cx.nodes c.args.goal.predicate.node)) c.typing_mode-2.ensures ∙ same.offers _ _ _) e.offered in
+          let offered = subst (λ os. LeavesOut os (candidates_of c.relevant_candidates.new.cx.nodes c.in_ok-candidates.candidates.items)) (ap (λ m. (g.H.GoalHandler.handler c.relevant_candidates.new.cx.nodes c.args.handler.now).offers (mode_of m) (tree_at c.relevant_candidates.new.cx.nodes c.args.goal.param_env.node) (tree_at c.relevant_candidates.new.cx.nodes c.args.goal.predicate.node)) c.typing_mode.ensures ∙ same.offers _ _ _) e.offered in
           let run = rw c.deref.ensures.value at (r.told (Since-later e.grows s) (tell_grown h c.args.depth c.requires.search e.grows tells)) in
           IfOk-map c.evaluate_candidates.result
           (λ x f. ⊎_elim
-          (λ v. inl (record { offers = subst (λ m. IsOpenToOffers (mode_of m) (tree_at c.args.cx.now.nodes c.args.goal.predicate.node)) c.typing_mode.ensures (c.is_open_to_offers.ensures c.if-not-is_open_to_offers.false); verdicts = v.0; outcomes = v.1; stands = v.2 }))
+          (λ v. inl (record { verdicts = v.0; outcomes = v.1; stands = v.2 }))
           (λ v. inr v)
           (told_offered h mode c.args.table.now c.args.goal c.args.values.now c.in_ok-candidates.candidates.items c.evaluate_candidates.new.cx.nodes x.value e.grows.extends table posed.holds trees offered f)) run;
       refuted = λ s tells n.
           let h = ruling_since (λ ts. g.H.GoalHandler.handler ts c.args.handler.now) s in
           let same = g.met.H.GoalHandler.handler_kept s.base c.relevant_candidates.new.cx.nodes c.args.handler.now s.is_ready (Extends-trans s.extends e.grows.extends) in
-          let offered = subst (λ os. LeavesOut os (candidates_of c.relevant_candidates.new.cx.nodes c.in_ok-candidates.candidates.items)) (ap (λ m. (g.H.GoalHandler.handler c.relevant_candidates.new.cx.nodes c.args.handler.now).offers (mode_of m) (tree_at c.relevant_candidates.new.cx.nodes c.args.goal.param_env.node) (tree_at c.relevant_candidates.new.cx.nodes c.args.goal.predicate.node)) c.typing_mode-2.ensures ∙ same.offers _ _ _) e.offered in
+          let offered = subst (λ os. LeavesOut os (candidates_of c.relevant_candidates.new.cx.nodes c.in_ok-candidates.candidates.items)) (ap (λ m. (g.H.GoalHandler.handler c.relevant_candidates.new.cx.nodes c.args.handler.now).offers (mode_of m) (tree_at c.relevant_candidates.new.cx.nodes c.args.goal.param_env.node) (tree_at c.relevant_candidates.new.cx.nodes c.args.goal.predicate.node)) c.typing_mode.ensures ∙ same.offers _ _ _) e.offered in
           let run = rw c.deref.ensures.value at (r.refuted (Since-later e.grows s) (tell_grown h c.args.depth c.requires.search e.grows tells) n) in
           let environment = e.grows.extends.kept c.args.goal.param_env.node posed.holds.env.within in
           let predicate = e.grows.extends.kept c.args.goal.predicate.node posed.holds.predicate.within in
           let kept = offers-kept (g.H.GoalHandler.handler s.base c.args.handler.now) (mode_of mode) e.grows.extends posed.holds in
           record {
-            offers = subst (λ m. IsOpenToOffers (mode_of m) (tree_at c.args.cx.now.nodes c.args.goal.predicate.node)) c.typing_mode.ensures (c.is_open_to_offers.ensures c.if-not-is_open_to_offers.false);
             outcomes = rw (here, trees, kept, environment, predicate) at (all_outcomes offered _ _ refl run);
           };
     }
 
-pub evaluate_alias-returns-in_err-doubt : goal.evaluate_alias-returns-in_err-doubt
-evaluate_alias-returns-in_err-doubt g t c =
-    alias_failed c.from_residual.result (search rules) (search rules) (search rules) (Searches-refl c.args.depth c.requires.search c.boxed_response.ensures.grows)
-
-pub evaluate_alias-returns-then-not-is_open_to_offers : goal.evaluate_alias-returns-then-not-is_open_to_offers
-evaluate_alias-returns-then-not-is_open_to_offers g t c =
-    let p = c.requires.posed in
-    let m = c.in_ok-doubt.ensures in
-    let a = c.args.cx.now in
-    let doubt = c.in_ok-doubt.doubt.value in
-    let reply = response_at c.boxed_response.new.cx.nodes doubt in
-    let k = content_of a.nodes c.args.table.now.entries in
-    record {
-      grows = m.grows;
-      searches = Searches-refl c.args.depth c.requires.search m.grows;
-      found = found_still doubt ambiguous p.table (Extends-refl _) c.terms_are_formed.ensures m.grows.extends c.requires.values m.certainty (doubtful _) m.says m.holds (record { no_hidden = m.nothing.0; no_goals = m.nothing.1 });
-      told = λ s tells. inr (ap is_yes m.certainty, plain_of ambiguous k (trees_of a.nodes c.args.values.now) reply m.says (doubtful _));
-      refuted = search rules;
-    }
-
 pub evaluate_alias-returns-in_err-candidates : goal.evaluate_alias-returns-in_err-candidates
 evaluate_alias-returns-in_err-candidates g t c =
-    alias_failed c.from_residual-in_err-candidates.result (search rules) (search rules) (search rules) (Searches-refl c.args.depth c.requires.search c.relevant_candidates.ensures.grows)
+    alias_failed c.from_residual.result (search rules) (search rules) (search rules) (Searches-refl c.args.depth c.requires.search c.relevant_candidates.ensures.grows)

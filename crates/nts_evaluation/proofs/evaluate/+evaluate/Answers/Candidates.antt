@@ -361,15 +361,15 @@ try_candidate-returns g t c =
     let within : AllIn c.equate.new.cx.nodes c.deref-2.result.now = rw c.deref-2.ensures.value v.values.within in
     let constraints = constraints-kept c.args.cx.now.nodes c.equate.new.cx.nodes x.fresh.items c.args.goal x.region_constraints.items v.runs.goes.extends c.requires.candidate.constraints in
     let mode = c.args.table.now.mode in
-    let z = c.try_evaluate_goals.new.cx.nodes in
-    let here = content_of z c.try_evaluate_goals.new.table.entries in
+    let z = c.evaluate_asked.new.cx.nodes in
+    let here = content_of z c.evaluate_asked.new.table.entries in
     let seen = candidate_of c.args.cx.now.nodes x in
     let steps = Runs-trans (Runs-extends k.runs.goes.table n.grows.extends n.grows.rest) e.runs in
     let all = Runs-trans there steps in
     let later = AreValues-later (Runs-trans k.runs steps).goes v.values in
     let same = map-kept c.record_constraints.new.cx.nodes z vs (AllIn-kept c.equate.new.cx.nodes c.record_constraints.new.cx.nodes vs within k.runs.goes.extends) steps.goes.extends in
     let goals = (rw c.deref-4.ensures.value at n.added.goals) ∙ added_is z c.args.goal x.fresh.items vs x.goals.items there.goes.extends c.requires.candidate.goals (sym same) in
-    let A = assumed_in c.try_evaluate_goals.new.cx.nodes c.try_evaluate_goals.new.graph in
+    let A = assumed_in c.evaluate_asked.new.cx.nodes c.evaluate_asked.new.graph in
     record {
       runs = Runs-trans upto c.in_ok-certainty.ensures.runs;
       searches = search_then c.args.depth c.requires.search (grown (ran c.in_ok-values.ensures.runs) (grown (ran c.in_ok-record_constraints.ensures.runs) c.in_ok-goals.ensures.grows)) c.in_ok-certainty.ensures.searches;
@@ -379,21 +379,20 @@ try_candidate-returns g t c =
           let since = Since-later (grown (ran there) n.grows) s in
           let sure = both_sure _ _ (sym c.and.ensures ∙ ok_inside y) in
           let kind = goal_kind (meaning (g.H.GoalHandler.handler s.base c.args.handler.now) s.variances) (tree_at c.args.cx.now.nodes c.args.goal.predicate.node) in
-          let settled = rw (upto.goes.mode, c.goal_kind-kind.ensures.kind s.base s.variances) at (e.proved since) in
-          let none = e.sure (ap Ok sure.1) in
-          let run : HasRun (meaning (g.H.GoalHandler.handler s.base c.args.handler.now) s.variances) (mode_of c.args.table.now.mode) (goal_kind (meaning (g.H.GoalHandler.handler s.base c.args.handler.now) s.variances) (tree_at c.args.cx.now.nodes c.args.goal.predicate.node)) (assumed_in c.try_evaluate_goals.new.cx.nodes c.try_evaluate_goals.new.graph) (content_of c.try_evaluate_goals.new.cx.nodes c.try_evaluate_goals.new.table.entries) (candidate_of c.args.cx.now.nodes c.args.candidate.now) (map (tree_at c.try_evaluate_goals.new.cx.nodes) c.deref-2.result.now) = record {
+          let settled = rw (upto.goes.mode, c.goal_kind-kind.ensures.kind s.base s.variances) at (e.proved since (ap Ok sure.1)) in
+          let run : HasRun (meaning (g.H.GoalHandler.handler s.base c.args.handler.now) s.variances) (mode_of c.args.table.now.mode) (goal_kind (meaning (g.H.GoalHandler.handler s.base c.args.handler.now) s.variances) (tree_at c.args.cx.now.nodes c.args.goal.predicate.node)) (assumed_in c.evaluate_asked.new.cx.nodes c.evaluate_asked.new.graph) (content_of c.evaluate_asked.new.cx.nodes c.evaluate_asked.new.table.entries) (candidate_of c.args.cx.now.nodes c.args.candidate.now) (map (tree_at c.evaluate_asked.new.cx.nodes) c.deref-2.result.now) = record {
             sure = ap certainty_of sure.0;
             values = rw c.deref-2.ensures.value later.values;
             known = rw c.deref-2.ensures.value later.known;
             equations = rw c.deref-2.ensures.value (Equates-later c.args.cx.now.nodes c.in_ok-values.values.items x.equations.items (Runs-trans k.runs steps).goes v.values.within v.equal);
             constraints = Constrains-later c.args.cx.now.nodes vs x.region_constraints.items steps.goes (AllIn-kept c.equate.new.cx.nodes c.record_constraints.new.cx.nodes vs within k.runs.goes.extends) (rw (c.deref-3.ensures.value, constraints) at k.held);
-            goals = all_proved (meaning (g.H.GoalHandler.handler s.base c.args.handler.now) s.variances) (mode_of mode) kind A (map (tree_at z) vs) (map (premise_of c.args.cx.now.nodes) x.goals.items) gs goals (all_posed gs n.added.posed) e.runs.goes c.terms_are_formed-2.ensures (proved_all _ gs none settled);
+            goals = all_proved (meaning (g.H.GoalHandler.handler s.base c.args.handler.now) s.variances) (mode_of mode) kind A (map (tree_at z) vs) (map (premise_of c.args.cx.now.nodes) x.goals.items) gs goals (all_posed gs n.added.posed) e.runs.goes c.terms_are_formed-2.ensures settled;
           } in
           has_run (meaning h s.variances) (mode_of mode) A here seen (map (tree_at z) vs) (tree_at c.args.cx.now.nodes c.args.goal.param_env.node) (tree_at c.args.cx.now.nodes c.args.goal.predicate.node) (term_table c.terms_are_formed-2.ensures e.runs.goes.table) run;
       told = λ s tells.
           let h = ruling_since (λ ts. g.H.GoalHandler.handler ts c.args.handler.now) s in
           let since = Since-later (grown (ran there) n.grows) s in
-          ran_to {t = c.args.table.now} {u = c.equate.new.table} {v = c.record_constraints.new.table} h mode c.args.goal x vs gs (rw c.deref-2.ensures.value v.equated) (rw (c.deref-3.ensures.value) at k.added) constraints c.requires.candidate.goals v.runs.goes.extends k.runs.goes.extends there.goes.extends n.grows.extends k.runs.goes.table within (rw c.deref-4.ensures.value at n.added.goals) (c.needs_relating.ensures.no c.if-needs_relating.false) c.try_evaluate_goals.new.cx.nodes c.try_evaluate_goals.new.table (rw upto.goes.mode at (c.in_ok-certainty.ensures.told since (tell_grown h c.args.depth c.requires.search (grown (ran c.in_ok-values.ensures.runs) (grown (ran c.in_ok-record_constraints.ensures.runs) c.in_ok-goals.ensures.grows)) tells)));
+          ran_to {t = c.args.table.now} {u = c.equate.new.table} {v = c.record_constraints.new.table} h mode c.args.goal x vs gs (rw c.deref-2.ensures.value v.equated) (rw (c.deref-3.ensures.value) at k.added) constraints c.requires.candidate.goals v.runs.goes.extends k.runs.goes.extends there.goes.extends n.grows.extends k.runs.goes.table within (rw c.deref-4.ensures.value at n.added.goals) (c.needs_relating.ensures.no c.if-needs_relating.false) c.evaluate_asked.new.cx.nodes c.evaluate_asked.new.table (rw upto.goes.mode at (c.in_ok-certainty.ensures.told since (tell_grown h c.args.depth c.requires.search (grown (ran c.in_ok-values.ensures.runs) (grown (ran c.in_ok-record_constraints.ensures.runs) c.in_ok-goals.ensures.grows)) tells)));
       refuted = search rules;
       decided = λ s i b d can.
           let h = g.H.GoalHandler.handler s.base c.args.handler.now in
@@ -418,27 +417,27 @@ try_candidate-returns-in_err-certainty g t c =
     let constraints = constraints-kept c.args.cx.now.nodes c.equate.new.cx.nodes x.fresh.items c.args.goal x.region_constraints.items v.runs.goes.extends c.requires.candidate.constraints in
     let mode = c.args.table.now.mode in
     record {
-      runs = Runs-trans upto c.try_evaluate_goals.ensures.runs;
-      searches = search_then c.args.depth c.requires.search (grown (ran c.in_ok-values.ensures.runs) (grown (ran c.in_ok-record_constraints.ensures.runs) c.in_ok-goals.ensures.grows)) c.try_evaluate_goals.ensures.searches;
+      runs = Runs-trans upto c.evaluate_asked.ensures.runs;
+      searches = search_then c.args.depth c.requires.search (grown (ran c.in_ok-values.ensures.runs) (grown (ran c.in_ok-record_constraints.ensures.runs) c.in_ok-goals.ensures.grows)) c.evaluate_asked.ensures.searches;
       labels = search rules;
       proved = search rules;
       told = search rules;
       refuted = λ s tells no.
           let h = ruling_since (λ ts. g.H.GoalHandler.handler ts c.args.handler.now) s in
           let since = Since-later (grown (ran there) n.grows) s in
-          let refused : c.try_evaluate_goals.result ≡ Err EvalError.NoSolution = search rules in
-          ran_refused {t = c.args.table.now} {u = c.equate.new.table} {v = c.record_constraints.new.table} h mode c.args.goal x vs gs (rw c.deref-2.ensures.value v.equated) (rw (c.deref-3.ensures.value) at k.added) constraints c.requires.candidate.goals v.runs.goes.extends k.runs.goes.extends there.goes.extends n.grows.extends k.runs.goes.table within (rw c.deref-4.ensures.value at n.added.goals) (c.needs_relating.ensures.no c.if-needs_relating.false) (rw (upto.goes.mode, c.goal_kind-kind.ensures.kind s.base s.variances) at (stopped_refused c.record_constraints.new.table _ c.goal_kind-kind.result (c.try_evaluate_goals.ensures.refuted since (tell_grown h c.args.depth c.requires.search (grown (ran c.in_ok-values.ensures.runs) (grown (ran c.in_ok-record_constraints.ensures.runs) c.in_ok-goals.ensures.grows)) tells) refused)));
+          let refused : c.evaluate_asked.result ≡ Err EvalError.NoSolution = search rules in
+          ran_refused {t = c.args.table.now} {u = c.equate.new.table} {v = c.record_constraints.new.table} h mode c.args.goal x vs gs (rw c.deref-2.ensures.value v.equated) (rw (c.deref-3.ensures.value) at k.added) constraints c.requires.candidate.goals v.runs.goes.extends k.runs.goes.extends there.goes.extends n.grows.extends k.runs.goes.table within (rw c.deref-4.ensures.value at n.added.goals) (c.needs_relating.ensures.no c.if-needs_relating.false) (rw (upto.goes.mode, c.goal_kind-kind.ensures.kind s.base s.variances) at (c.evaluate_asked.ensures.refuted since (tell_grown h c.args.depth c.requires.search (grown (ran c.in_ok-values.ensures.runs) (grown (ran c.in_ok-record_constraints.ensures.runs) c.in_ok-goals.ensures.grows)) tells) refused));
       decided = λ s i b d can.
           let h = g.H.GoalHandler.handler s.base c.args.handler.now in
           let since = Since-later (grown (ran there) n.grows) s in
           let up = grown (ran c.in_ok-values.ensures.runs) (grown (ran c.in_ok-record_constraints.ensures.runs) c.in_ok-goals.ensures.grows) in
           let settled = its_decided {t = c.args.table.now} {u = c.equate.new.table} {v = c.record_constraints.new.table} h mode i b c.args.goal x vs gs (rw c.deref-2.ensures.value v.equated) (rw (c.deref-3.ensures.value) at k.added) constraints c.requires.candidate.goals v.runs.goes.extends k.runs.goes.extends there.goes.extends n.grows.extends k.runs.goes.table within (rw c.deref-4.ensures.value at n.added.goals) c.terms_are_formed.ensures v.runs.goes.table n.added.posed c.requires.posed c.requires.candidate (c.needs_relating.ensures.no c.if-needs_relating.false) d c.record_constraints.new.table refl in
           let fails : is_err c.from_residual-in_err-certainty.result ≡ true = search rules in
-          decides_error c.try_evaluate_goals.result c.from_residual-in_err-certainty.result fails (λ no. (search rules)) (λ no. no) (c.try_evaluate_goals.ensures.decided since i b (rw upto.goes.mode settled) (decides_grown c.requires.search up can));
+          decides_error c.evaluate_asked.result c.from_residual-in_err-certainty.result fails (λ no. (search rules)) (λ no. no) (c.evaluate_asked.ensures.decided since i b (rw upto.goes.mode settled) (decides_grown c.requires.search up can));
     }
 
-pub try_candidate-try_evaluate_goals-requires : goal.try_candidate-try_evaluate_goals-requires
-try_candidate-try_evaluate_goals-requires g t c = λ κs k-1.
+pub try_candidate-evaluate_asked-requires : goal.try_candidate-evaluate_asked-requires
+try_candidate-evaluate_asked-requires g t c = λ κs k-1.
     let v = c.in_ok-values.ensures in
     let k = c.in_ok-record_constraints.ensures in
     let there = Runs-trans v.runs k.runs in
