@@ -218,38 +218,38 @@ class Program:
             yield f"goal {goal_text(goal)}"
 
     def steps(self):
-        """Each goal of the universe with a list of goals from which it follows."""
+        """Each goal of the universe with the goals from which it follows: what the aliases of the rule's head are, and its conditions."""
         rules = [*self.impls, *self.norms]
         for goal in self.env:
-            *conditions, goal = without_aliases(goal)
-            if conditions:
-                rules.append((goal, conditions))
+            if without_aliases(goal) != [goal]:
+                rules.append((goal, []))
                 continue
             for value in UNIVERSE:
-                yield (goal[0], *(in_place(term, value) for term in goal[1:])), ()
+                yield (goal[0], *(in_place(term, value) for term in goal[1:])), (), ()
         for head, body in rules:
-            *conditions, head = without_aliases(head)
-            body = [*conditions, *(part for goal in body for part in without_aliases(goal))]
+            *related, head = without_aliases(head)
+            body = [*related, *(part for goal in body for part in without_aliases(goal))]
             told_of = variables_in([*head[1:], *(term for goal in body for term in goal[1:])])
             for values in itertools.product(UNIVERSE, repeat=len(told_of)):
                 told = dict(zip(told_of, values))
                 goals = [(goal[0], *(filled(term, told) for term in goal[1:])) for goal in [head, *body]]
                 goals = [opened(goal, values) for goal in goals]
                 if all(goal and all(term in KNOWN for term in goal[1:]) for goal in goals):
-                    yield goals[0], tuple(goals[1:])
+                    at = 1 + len(related)
+                    yield goals[0], tuple(goals[1:at]), tuple(goals[at:])
 
     def proved(self):
-        """The goals that have a proof: a step from a goal of a coinductive trait may lead back, and any other leads on."""
+        """The goals that have a proof: a step from a goal of a coinductive trait to a condition may lead back, and any other leads on."""
         steps = list(self.steps())
-        held = {goal for goal, _ in steps}
+        held = {goal for goal, _, _ in steps}
         while True:
             reached, more = set(), True
             while more:
                 more = False
-                for goal, body in steps:
+                for goal, related, body in steps:
                     if goal not in reached:
                         base = held if goal[0] in self.coinductive else reached
-                        if all(part in base for part in body):
+                        if all(part in reached for part in related) and all(part in base for part in body):
                             reached.add(goal)
                             more = True
             if reached == held:

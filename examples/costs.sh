@@ -34,8 +34,8 @@ count() {
 }
 for workload in nested goals facts wide chain aliased beside; do
     n=2000
-    # Goals that are nested stand on the machine's stack, which is not to run out; and each alias nests two.
-    case $workload in nested | chain) n=1500 ;; aliased) n=500 ;; esac
+    # Each alias nests two goals, and the machine's stack is not to run out.
+    [ $workload = aliased ] && n=500
     once=$(count $workload $n) && twice=$(count $workload $((2 * n))) || exit 1
     part=$(((twice - once) / n))
     printf '%-7s %6d instructions a part, and twice the parts cost %d.%02d times as much\n' "$workload" "$part" $((twice / once)) $((twice * 100 / once % 100))

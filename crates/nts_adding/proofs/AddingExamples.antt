@@ -1,5 +1,5 @@
 -- What stands for goals that are added, by example.
-use Rattle.std.proofs.Common.{◌≡◌, ℕ, suc, List, [], ◌∷◌, length, inl, refl, sym, ◌∙◌, arith}
+use Rattle.std.proofs.Common.{◌≡◌, ℕ, suc, List, [], ◌∷◌, length, refl, sym, ◌∙◌, arith}
 use Rattle.nts_model.specs.declared.labels.Sort.{Sort}
 use Rattle.nts_model.specs.declared.labels.Sort.TheVariants as sort
 use Rattle.nts_model.specs.declared.labels.AliasHead.TheVariants as alias_of
@@ -8,7 +8,6 @@ use Rattle.nts_model.specs.declared.labels.VariableKind.TheVariants as variable
 use Rattle.nts_model.specs.Terms.Trees.{Tree, empty, more, IsClosed, variable_tree}
 use Rattle.nts_model.specs.Tables.Resolving.{Knows}
 use Rattle.nts_model.specs.Derivations.Related.{alias, IsAlias}
-use Rattle.nts_model.specs.Derivations.Rules.{chosen, kept_empty, kept_more, kept_node}
 use Rattle.nts_store.specs.declared.nodes.NodeId.{NodeId}
 use Rattle.nts_terms.specs.declared.handles.Goal.{Goal}
 use Rattle.nts_terms.specs.declared.handles.ParamEnv.{ParamEnv}
@@ -17,21 +16,38 @@ use Rattle.nts_unify.specs.Reading.{content_of}
 use Rattle.nts_table.specs.Fresh.{variable_kind, fresh_row}
 use Rattle.nts_table.specs.Making.{new_variable}
 use Rattle.nts_variance.specs.Goals.{goal_of}
+use Rattle.nts_variance_model.specs.Variances.Relations.{Relating as Pair}
 use Rattle.nts_adding.specs.Equal.{IsEqualToNew}
-use Rattle.nts_adding.specs.Putting.{HasPut, equal_pair, AreVariables}
+use Rattle.nts_adding.specs.Putting.{HasPut, put_alias, put_empty, put_more, put_node, equal_pair, AreVariables}
 
--- an alias has its variable in its place
+-- an alias has its variable in its place, by the one pair of the two
 pub put_there : (a v : Tree) → IsAlias a → IsClosed v → HasPut (equal_pair a v ∷ []) a v
-put_there a v x closed = chosen x closed (inl refl)
+put_there a v x closed = put_alias x closed
+
+pub put_once : {ps : List Pair} {a u : Tree} → IsAlias a → HasPut ps a u → ps ≡ equal_pair a u ∷ []
+put_once x (put_alias y closed) = refl
+put_once x put_empty = absurd (let e = x.is in cc e)
+put_once x (put_more p q) = absurd (let e = x.is in cc e)
+put_once x (put_node none p) = absurd (none x)
 
 -- .. and can't stay, if there is no variable
 pub stays_no : (a u : Tree) → IsAlias a → HasPut [] a u → ⊥
-stays_no a u x (chosen y closed h) = h
-stays_no a u x kept_empty = (let e = x.is in cc e)
-stays_no a u x (kept_more p q) = (let e = x.is in cc e)
-stays_no a u x (kept_node none p) = none x
+stays_no a u x h = (let none = put_once x h in cc none)
 
--- two occurrences can't share a variable
+-- two places of one alias have two variables by two pairs, and not one for both
+pub two_places : (a v w : Tree) → IsAlias a → IsClosed v → IsClosed w → HasPut (equal_pair a v ∷ equal_pair a w ∷ []) (more a (more a empty)) (more v (more w empty))
+two_places a v w x cv cw = put_more (put_alias x cv) (put_more (put_alias x cw) put_empty)
+
+pub each_place_has_one : {ps : List Pair} {a u : Tree} → IsAlias a → HasPut ps (more a (more a empty)) u → length ps ≡ 2
+each_place_has_one x (put_more {ps = ps} h (put_more {ps = qs} k put_empty)) =
+    let first = put_once x h in
+    let second = put_once x k in
+    rw (first, second) refl
+each_place_has_one x (put_more h (put_alias y closed)) = absurd (let e = y.is in cc e)
+each_place_has_one x (put_more h (put_more k (put_alias y closed))) = absurd (let e = y.is in cc e)
+each_place_has_one x (put_alias y closed) = absurd (let e = y.is in cc e)
+
+-- variables of two pairs are two
 numbers : (s r : Sort) (n : ℕ) → variable_tree (variable_kind s) n ≡ variable_tree (variable_kind r) (suc n) → ⊥
 numbers s r n e = (let same : n ≡ suc n = cc e in omega (arith, same))
 

@@ -38,9 +38,9 @@ use Rattle.nts_folding.specs.Folding.{Stops, anywhere, early, late, at_term, at_
 use Rattle.nts_meaning.specs.Evaluation.{AllKnown, Goes, Runs, IsPosed}
 use Rattle.nts_meaning.proofs.Evaluating.{gave_fresh, Knows-goes}
 use Rattle.nts_adding.specs.declared.putting.AliasFolder.{AliasFolder}
-use Rattle.nts_adding.specs.Putting.{Standing, Puts, put, equal_pair, right_sides, AllPut, PutsVariables}
+use Rattle.nts_adding.specs.Putting.{Standing, Puts, put, HasPut, equal_pair, right_sides, AllPut, PutsVariables}
 use Rattle.nts_adding.specs.Walking.{IsFolderReady, standing_of, FailsForWant, pairs_later, pushed_pairs}
-use Rattle.nts_adding.proofs.Walked.{LeftsKnown, IsWalked}
+use Rattle.nts_adding.proofs.Walked.{LeftsKnown, IsWalked, put_replaces}
 
 no_list : (h : AliasHead) → IsNoList (alias_label h)
 no_list (alias_of.Ty i) = tt
@@ -126,11 +126,12 @@ puts_variables ts us t u p q xs h e k s m knows within w =
     let later : (x : Tree) → Knows (content_of ts t.entries) x → Knows (content_of us u.entries) x = λ x n. Knows-goes x fresh.goes n in
     let lefts = lefts_later (content_of ts t.entries) (content_of us u.entries) (pairs_at us xs) later (w.known (content_of ts t.entries) knows tt) in
     let pairs = pairs_known us (content_of us u.entries) xs within lefts fresh.values.known in
+    let put : HasPut (pairs_at us xs) (tree_at ts p) (tree_at us q) = subst (λ z. HasPut z (tree_at ts p) (tree_at us q)) (sym w.grows) w.replaced in
     record {
       variables = vars;
       pairs = pairs;
-      put = w.replaced;
-      knows = known_put (content_of us u.entries) (put_known us (content_of us u.entries) xs pairs) (tree_at ts p) (tree_at us q) (later (tree_at ts p) knows) w.replaced;
+      put = put;
+      knows = known_put (content_of us u.entries) (put_known us (content_of us u.entries) xs pairs) (tree_at ts p) (tree_at us q) (later (tree_at ts p) knows) (put_replaces put);
     }
 
 -- new variables are put, and nothing else

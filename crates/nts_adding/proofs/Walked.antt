@@ -1,5 +1,6 @@
 -- A walk that puts variables gives each outermost alias without escaping bound variables one of its own.
-use Rattle.std.proofs.Common.{◌≡◌, inl, inr, ⊎_elim, ℕ, zero, suc, ◌+◌, false, List, [], ◌∷◌, ◌++◌, length, Some, None, refl, sym, ap, ◌∙◌, subst}
+use Rattle.std.proofs.Common.{◌≡◌, inl, ℕ, zero, suc, ◌+◌, false, List, [], ◌∷◌, ◌++◌, length, Some, None, refl, sym, ap, ◌∙◌, subst}
+use Rattle.std.proofs.lemmas.List.{append-nil, append_assoc}
 use Rattle.nts_model.specs.declared.labels.Sort.{Sort}
 use Rattle.nts_model.specs.declared.labels.Sort.TheVariants as sort
 use Rattle.nts_model.specs.declared.labels.AliasHead.{AliasHead}
@@ -11,6 +12,7 @@ use Rattle.nts_model.specs.Tables.Resolving.{Knows}
 use Rattle.nts_model.specs.Derivations.Related.{IsAlias, alias_label}
 use Rattle.nts_model.specs.Derivations.Rules.{Replaced, chosen, kept_empty, kept_more, kept_node}
 use Rattle.nts_model.specs.Lists.{Among}
+use Rattle.nts_model.proofs.Lists.{among_left, among_right}
 use Rattle.nts_model.proofs.Tables.AliasLabels.{not_alias}
 use Rattle.nts_model.proofs.Terms.Unpositioned.{or_false}
 use Rattle.nts_folding.specs.Folding.{MayAnswer, asked_as, AtBinder, GoesInto, ComesBack, HandsOver, Walk, done, next, answer, down, StaysHere, StaysMade}
@@ -19,28 +21,27 @@ use Rattle.nts_table.specs.Making.{new_variable}
 use Rattle.nts_table.specs.Fresh.{variable_kind, fresh_row, IsFreshLike}
 use Rattle.nts_table.proofs.FreshLemmas.{with_fresh-push, length-with_fresh, fresh_row-push}
 use Rattle.nts_variance_model.specs.Variances.Relations.{Relating as Pair}
-use Rattle.nts_adding.specs.Putting.{Standing, Puts, plain, put, goes_on, HasPut, equal_pair, right_sides, IsPutFor, AllPut, AreVariables}
+use Rattle.nts_adding.specs.Putting.{Standing, Puts, plain, put, goes_on, HasPut, put_alias, put_empty, put_more, put_node, equal_pair, right_sides, IsPutFor, AllPut, AreVariables}
 
 -- a tree without aliases stays
-pub unreplaced : (C : Tree → Tree → Type 0) (t : Tree) → any_label is_alias t ≡ false → Replaced C t t
-unreplaced C empty e = kept_empty
-unreplaced C (more a b) e = let h = or_false (any_label is_alias a) (any_label is_alias b) e in kept_more (unreplaced C a h.0) (unreplaced C b h.1)
-unreplaced C (node l c) e = let h = or_false (is_alias l) (any_label is_alias c) e in kept_node (not_alias l c h.0) (unreplaced C c h.1)
+pub nothing_put : (t : Tree) → any_label is_alias t ≡ false → HasPut [] t t
+nothing_put empty e = put_empty
+nothing_put (more a b) e = let h = or_false (any_label is_alias a) (any_label is_alias b) e in put_more (nothing_put a h.0) (nothing_put b h.1)
+nothing_put (node l c) e = let h = or_false (is_alias l) (any_label is_alias c) e in put_node (not_alias l c h.0) (nothing_put c h.1)
 
--- more may be chosen
+-- what was put is chosen for the aliases
 replaced_more : {C D : Tree → Tree → Type 0} → ((a v : Tree) → C a v → D a v) → {x u : Tree} → Replaced C x u → Replaced D x u
 replaced_more f (chosen found ends h) = chosen found ends (f _ _ h)
 replaced_more f kept_empty = kept_empty
 replaced_more f (kept_more p q) = kept_more (replaced_more f p) (replaced_more f q)
 replaced_more f (kept_node n p) = kept_node n (replaced_more f p)
 
-among_end : {X : Type 0} (xs : List X) (x : X) → Among (xs ++ x ∷ []) x
-among_end [] x = inl refl
-among_end (y ∷ xs) x = inr (among_end xs x)
-
-among_old : {X : Type 0} (xs ys : List X) (x : X) → Among xs x → Among (xs ++ ys) x
-among_old [] ys x i = absurd i
-among_old (y ∷ xs) ys x i = ⊎_elim (λ e. inl e) (λ j. inr (among_old xs ys x j)) i
+pub put_replaces : {ps : List Pair} {x u : Tree} → HasPut ps x u → Replaced (λ a v. Among ps (equal_pair a v)) x u
+put_replaces (put_alias found ends) = chosen found ends (inl refl)
+put_replaces put_empty = kept_empty
+put_replaces (put_more {ps = ps} {qs = qs} h k) =
+    kept_more (replaced_more (λ a v i. among_left ps qs (equal_pair a v) i) (put_replaces h)) (replaced_more (λ a v i. among_right ps qs (equal_pair a v) i) (put_replaces k))
+put_replaces (put_node n h) = kept_node n (put_replaces h)
 
 -- the lefts are known to a table
 abbrev pub LeftsKnown : Content → List Pair → Type 0
@@ -84,13 +85,14 @@ put_one e f g ps t v h found new =
 
 -- what a walk makes of a tree: each outermost closed alias has a variable in its place, and what was put before stays
 pub record IsWalked (s t : Standing) (x u : Tree) : Type 0 where
-  pub replaced : HasPut t.puts x u
-  pub grows : (p : Pair) → Among s.puts p → Among t.puts p
+  pub put : List Pair
+  pub replaced : HasPut put x u
+  pub grows : t.puts ≡ s.puts ++ put
   pub variables : (e : Entries) → AreVariables e s.entries s.puts → AreVariables e t.entries t.puts
   pub known : (c : Content) → Knows c x → LeftsKnown c s.puts → LeftsKnown c t.puts
 
-stays_walked : (s : Standing) (x u : Tree) → HasPut s.puts x u → IsWalked s s x u
-stays_walked s x u h = record { replaced = h; grows = λ p i. i; variables = λ e v. v; known = λ c k l. l }
+stays_walked : (s : Standing) (x u : Tree) → HasPut [] x u → IsWalked s s x u
+stays_walked s x u h = record { put = []; replaced = h; grows = sym (append-nil s.puts); variables = λ e v. v; known = λ c k l. l }
 
 may_some : (k : NodeKind) (s t : Standing) (x u : Tree) → MayAnswer Puts k s x (Some u) t → Puts s x (Some u) t
 may_some (of_sort k) s t x u h = h
@@ -140,12 +142,13 @@ handed sort_list s t x y h = h
 handed one_sort s t x y h = h
 
 answered : (s t : Standing) (x u : Tree) → Puts s x (Some u) t → IsWalked s t x u
-answered s t x u (plain e) = stays_walked s x x (unreplaced (λ a v. Among s.puts (equal_pair a v)) x e)
+answered s t x u (plain e) = stays_walked s x x (nothing_put x e)
 answered s t x u (put v f found new) =
     let closed : IsPutFor (equal_pair x u) = put_for u f x s.entries found new in
     record {
-      replaced = chosen found closed.closed (among_end s.puts (equal_pair x u));
-      grows = λ p i. among_old s.puts (equal_pair x u ∷ []) p i;
+      put = equal_pair x u ∷ [];
+      replaced = put_alias found closed.closed;
+      grows = refl;
       variables = λ e h. put_one e s.entries f s.puts x u h found new;
       known = λ c k l. lefts_push c s.puts (equal_pair x u) l k;
     }
@@ -157,17 +160,18 @@ came_back r q t u l c d e g b h =
     let first : q ≡ r = at_binder (binders l) g.asked q g.enters_binder ∙ stays_asked (asked_as (node l c)) r g.asked (node l c) g.asks in
     let over = handed (kind_of_label l) b.left u (node l d) e b.hands in
     let last : u ≡ t = over.1 ∙ at_binder (binders l) t b.left b.leaves_binder in
-    let made : IsWalked r t (node l c) (node l d) = subst (λ z. IsWalked z t (node l c) (node l d)) first (record { replaced = kept_node none h.replaced; grows = h.grows; variables = h.variables; known = λ c k m. h.known c k.1 m }) in
+    let made : IsWalked r t (node l c) (node l d) = subst (λ z. IsWalked z t (node l c) (node l d)) first (record { put = h.put; replaced = put_node none h.replaced; grows = h.grows; variables = h.variables; known = λ c k m. h.known c k.1 m }) in
     subst (λ z. IsWalked r z (node l c) e) (sym last) (subst (λ y. IsWalked r t (node l c) y) (sym over.0) made)
 
 pub walked : {s t : Standing} {x u : Tree} → Walk Puts StaysHere StaysHere StaysMade s x u t → IsWalked s t x u
-walked (done {s = s}) = stays_walked s empty empty kept_empty
+walked (done {s = s}) = stays_walked s empty empty put_empty
 walked (next {r = r} {s = s} {t = t} {a = a} {b = b} {c = c} {d = d} w v) =
     let x = walked w in
     let y = walked v in
     record {
-      replaced = kept_more (replaced_more (λ p q i. y.grows (equal_pair p q) i) x.replaced) y.replaced;
-      grows = λ p i. y.grows p (x.grows p i);
+      put = x.put ++ y.put;
+      replaced = put_more x.replaced y.replaced;
+      grows = y.grows ∙ ap (λ z. z ++ y.put) x.grows ∙ append_assoc r.puts x.put y.put;
       variables = λ e h. y.variables e (x.variables e h);
       known = λ c k l. y.known c k.1 (x.known c k.0 l);
     }

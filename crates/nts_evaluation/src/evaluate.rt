@@ -17,7 +17,7 @@ ghost use Rattle.nts_terms.specs.Modes.{mode_of};
 ghost use Rattle.nts_theory.specs.RelatingCandidates.{IsCutIn, HasPlainEquations, MayRelate};
 ghost use Rattle.nts_theory.specs.Telling.{IsOpenToNormalizing};
 ghost use Rattle.nts_store.specs.Growth.{tree_at};
-ghost use Rattle.nts_evaluation.specs.Promises.{AnswersQuery, AsksGoal, AsksAdded, EndsRound, AnswersGoal, AnswersOwn, AnswersSubtype, AnswersAlias, AnswersEquated, AnswersWay, TriesWay, TriesEach, TriesOne, RunsOne, StepsAsked, StepsGoals, StepsOnce};
+ghost use Rattle.nts_evaluation.specs.Promises.{AnswersQuery, AsksGoal, AsksAdded, EndsRound, AnswersGoal, AnswersOwn, AnswersSubtype, AnswersAlias, AnswersEquated, AnswersWay, TriesWay, TriesEach, TriesOne, RunsOne, StepsGoals, StepsOnce};
 
 use nts_asking::{
     answer_cycle, apply_answer, boxed_query, end_round, first_round, keeps_constraints,
@@ -34,10 +34,10 @@ use nts_table::InferCtxt;
 use nts_terms::{Cx, GenericArg, Goal};
 use nts_trying::{
     AvailableDepth, EquatedAlias, GoalRow, Judged, OwnGoal, Step, Trial, TypePair, answer_outlives,
-    asked_of, asks_all, begin_in_part, begin_relating, check_leaks, enter_forall, equate,
-    fast_answer, goal_kind, goal_row, is_open_to_normalizing, judge, keep_response, may_ask,
-    may_relate, merge_responses, needs_relating, record_constraints, relate_types,
-    relevant_candidates, way_goals,
+    begin_in_part, begin_relating, check_leaks, enter_forall, equate, fast_answer, goal_kind,
+    goal_row, is_open_to_normalizing, judge, keep_asked, keep_response, may_ask, may_relate,
+    merge_responses, needs_relating, record_constraints, relate_types, relevant_candidates,
+    way_goals,
 };
 
 /// Evaluates a goal in a query of its own: its leaves give place to positions, the search answers the query, and the response is
@@ -593,9 +593,21 @@ fn try_candidate<H: GoalHandler>(
     // They are not kept while the goals below are asked.
     drop(values);
     cx.terms_are_formed();
-    let certainty = evaluate_asked(table, cx, handler, graph, goals, kind, depth)?;
+    let mut asked = goals;
+    let kept = keep_asked(cx, table.typing_mode(), &mut asked)?;
+    let mut last_steps = 0;
+    let certainty = try_evaluate_goals(
+        table,
+        cx,
+        handler,
+        graph,
+        &mut asked,
+        kind,
+        AvailableDepth::Below(depth),
+        &mut last_steps,
+    )?;
     cx.terms_are_formed();
-    Ok(candidate.certainty.and(certainty))
+    Ok(candidate.certainty.and(certainty.and(kept)))
 }
 
 /// Tries a candidate of whose equations some relate aliases: relating these leaves goals, which are asked with its own in steps. In
@@ -625,46 +637,9 @@ fn try_relating<H: GoalHandler>(
     if !may_ask(table.typing_mode(), begun.equalities) {
         return Ok(Certainty::AMBIGUOUS);
     }
-    let goals = begun.goals;
-    let certainty = evaluate_asked(table, cx, handler, graph, goals, kind, depth)?;
-    cx.terms_are_formed();
-    Ok(candidate.certainty.and(certainty))
-}
-
-/// Asks the goals of a candidate in steps: in coherence those that are asked as they stand. Where others are left out, nothing is certain.
-#[cycle(evaluate)]
-fn evaluate_asked<H: GoalHandler>(
-    table: &mut InferCtxt,
-    cx: &mut Cx,
-    handler: &H,
-    graph: &mut SearchGraph,
-    goals: Vec<(GoalSource, Goal)>,
-    kind: CurrentGoalKind,
-    depth: usize,
-) -> Result<Certainty, EvalError>
-    requires table { IsTable cx.old.nodes table.old }
-    requires posed { ArePosed cx.old.nodes table.old goals.items }
-    requires ready { H.ready cx.old.nodes handler.now }
-    requires search { IsSearch cx.old graph.old (depth) }
-    ensures { StepsAsked (rules_of H.ready H.handler handler.now) cx.old cx.new graph.old graph.new
-        table.old table.new goals.items kind depth result }
-{
-    cx.terms_are_formed();
+    let mut asked = begun.goals;
+    let kept = keep_asked(cx, table.typing_mode(), &mut asked)?;
     let mut last_steps = 0;
-    if asks_all(cx, table.typing_mode(), &goals) {
-        let mut whole = goals;
-        return try_evaluate_goals(
-            table,
-            cx,
-            handler,
-            graph,
-            &mut whole,
-            kind,
-            AvailableDepth::Below(depth),
-            &mut last_steps,
-        );
-    }
-    let mut asked = asked_of(cx, &goals)?;
     let certainty = try_evaluate_goals(
         table,
         cx,
@@ -675,7 +650,8 @@ fn evaluate_asked<H: GoalHandler>(
         AvailableDepth::Below(depth),
         &mut last_steps,
     )?;
-    Ok(certainty.and(Certainty::AMBIGUOUS))
+    cx.terms_are_formed();
+    Ok(candidate.certainty.and(certainty.and(kept)))
 }
 
 /// Evaluates the goals of a goal of that kind in steps, until a step finds nothing out, or as often as the store's limit says:

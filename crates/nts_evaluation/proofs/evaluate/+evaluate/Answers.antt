@@ -56,10 +56,8 @@ use Rattle.nts_evaluation.proofs.evaluate.+evaluate.Answers.Subtypes as subtypes
 use Rattle.nts_evaluation.proofs.evaluate.+evaluate.Answers.Aliases as aliases
 use Rattle.nts_evaluation.proofs.evaluate.+evaluate.Answers.Equated as equated
 use Rattle.nts_evaluation.proofs.evaluate.+evaluate.Answers.Relating as relating
-use Rattle.nts_evaluation.proofs.evaluate.+evaluate.Answers.Asked as asked
 mod Queries
 mod Candidates
-mod Asked
 mod Steps
 mod Own
 mod Subtypes
@@ -748,9 +746,6 @@ try_candidate-returns-in_err-values g t c =
           refused_no d (c.equate.ensures.unmet refused)) (same_search _);
     }
 
-pub try_candidate-evaluate_asked-requires : goal.try_candidate-evaluate_asked-requires
-try_candidate-evaluate_asked-requires = candidates.try_candidate-evaluate_asked-requires
-
 pub search-evaluate_rounds-answer-requires : goal.search-evaluate_rounds-answer-requires
 search-evaluate_rounds-answer-requires = queries.search-evaluate_rounds-answer-requires
 
@@ -817,9 +812,6 @@ try_evaluate_goals-returns-then-not-stepped = steps.try_evaluate_goals-returns-t
 pub try_relating-returns-in_err-begun : goal.try_relating-returns-in_err-begun
 try_relating-returns-in_err-begun = relating.try_relating-returns-in_err-begun
 
-pub try_relating-evaluate_asked-requires : goal.try_relating-evaluate_asked-requires
-try_relating-evaluate_asked-requires = relating.try_relating-evaluate_asked-requires
-
 pub try_relating-returns-in_err-certainty : goal.try_relating-returns-in_err-certainty
 try_relating-returns-in_err-certainty = relating.try_relating-returns-in_err-certainty
 
@@ -835,26 +827,17 @@ try_candidate-returns-then-not-may_relate = relating.try_candidate-returns-then-
 pub try_candidate-try_relating-requires : goal.try_candidate-try_relating-requires
 try_candidate-try_relating-requires g t c = λ κs k. (omega (arith, c.decreases), (k, (c.requires.posed, (c.requires.ready, (c.requires.candidate, (rw c.typing_mode.ensures at (c.may_relate.ensures.yes c.if-not-may_relate.false), (c.needs_relating.ensures.yes c.if-needs_relating.true, c.requires.search)))))))
 
-pub evaluate_asked-returns-then-asks_all : goal.evaluate_asked-returns-then-asks_all
-evaluate_asked-returns-then-asks_all = asked.evaluate_asked-returns-then-asks_all
+pub try_candidate-keep_asked-requires : goal.try_candidate-keep_asked-requires
+try_candidate-keep_asked-requires = candidates.try_candidate-keep_asked-requires
 
-pub evaluate_asked-returns : goal.evaluate_asked-returns
-evaluate_asked-returns = asked.evaluate_asked-returns
+pub try_candidate-try_evaluate_goals-requires : goal.try_candidate-try_evaluate_goals-requires
+try_candidate-try_evaluate_goals-requires = candidates.try_candidate-try_evaluate_goals-requires
 
-pub evaluate_asked-returns-in_err-asked : goal.evaluate_asked-returns-in_err-asked
-evaluate_asked-returns-in_err-asked = asked.evaluate_asked-returns-in_err-asked
+pub try_candidate-returns-in_err-kept : goal.try_candidate-returns-in_err-kept
+try_candidate-returns-in_err-kept = candidates.try_candidate-returns-in_err-kept
 
-pub evaluate_asked-returns-in_err-certainty : goal.evaluate_asked-returns-in_err-certainty
-evaluate_asked-returns-in_err-certainty = asked.evaluate_asked-returns-in_err-certainty
+pub try_relating-try_evaluate_goals-requires : goal.try_relating-try_evaluate_goals-requires
+try_relating-try_evaluate_goals-requires = relating.try_relating-try_evaluate_goals-requires
 
-pub evaluate_asked-asks_all-requires : goal.evaluate_asked-asks_all-requires
-evaluate_asked-asks_all-requires = asked.evaluate_asked-asks_all-requires
-
-pub evaluate_asked-asked_of-requires : goal.evaluate_asked-asked_of-requires
-evaluate_asked-asked_of-requires = asked.evaluate_asked-asked_of-requires
-
-pub evaluate_asked-try_evaluate_goals-requires : goal.evaluate_asked-try_evaluate_goals-requires
-evaluate_asked-try_evaluate_goals-requires = asked.evaluate_asked-try_evaluate_goals-requires
-
-pub evaluate_asked-try_evaluate_goals-requires-2 : goal.evaluate_asked-try_evaluate_goals-requires-2
-evaluate_asked-try_evaluate_goals-requires-2 = asked.evaluate_asked-try_evaluate_goals-requires-2
+pub try_relating-returns-in_err-kept : goal.try_relating-returns-in_err-kept
+try_relating-returns-in_err-kept = relating.try_relating-returns-in_err-kept

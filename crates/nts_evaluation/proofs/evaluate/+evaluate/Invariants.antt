@@ -69,9 +69,6 @@ decreases-try_candidate g l = 20 * l.depth + 10
 abbrev pub decreases-try_relating : goal.decreases-try_relating
 decreases-try_relating g l = 20 * l.depth + 9
 
-abbrev pub decreases-evaluate_asked : goal.decreases-evaluate_asked
-decreases-evaluate_asked g l = 20 * l.depth + 3
-
 abbrev pub decreases-try_evaluate_goals : goal.decreases-try_evaluate_goals
 decreases-try_evaluate_goals g l = 20 * bound_of l.depth + 2
 

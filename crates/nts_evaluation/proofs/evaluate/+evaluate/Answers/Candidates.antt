@@ -14,6 +14,7 @@ use Rattle.nts_candidates.specs.Offered.{certainty_of, candidate_of, premise_of,
 use Rattle.nts_candidates.proofs.Results.{IfOk-map}
 use Rattle.nts_canonical.specs.Forms.{trees_of}
 use Rattle.nts_meaning.specs.Meant.{ruling_since, Since, rules_of}
+use Rattle.nts_evaluation.proofs.AskedSteps.{joined, joined_fails, steps_asked, posed_kept}
 use Rattle.nts_evaluation.proofs.Leaking.{checked}
 use Rattle.nts_meaning.proofs.AskedGoals.{trees_kept}
 use Rattle.nts_meaning.proofs.AnsweredQueries.{args_later}
@@ -40,12 +41,13 @@ use Rattle.nts_store.specs.declared.fault.EvalError.TheVariants as EvalError
 use Rattle.std.proofs.Common.{drop}
 use Rattle.std.proofs.lemmas.List.{drop_more}
 use Rattle.std.specs.Result.{is_err}
+use Rattle.std.proofs.lemmas.Result.{IfOk-from_err}
 use Rattle.nts_meaning.specs.Answering.{is_kept}
 use Rattle.nts_meaning.proofs.Running.{candidate-kept}
 use Rattle.nts_trying.proofs.Stepping.{among_get}
 use Rattle.nts_decisions.proofs.Faring.{among_by}
 use Rattle.nts_evaluation.specs.Deciding.{AreRootValues}
-use Rattle.nts_evaluation.proofs.Deciding.{decides_error, decides_grown, decides_later, same_search, then_same}
+use Rattle.nts_evaluation.proofs.Deciding.{decides_error, decides_fault, decides_grown, decides_later, same_search, then_same}
 use Rattle.nts_evaluation.proofs.DecidedCandidates.{AreSoFar, none_held, so_far_with, Anything, anything, next_so_far, sure_yes}
 use Rattle.nts_evaluation.proofs.FactTrials.{query_later, plain_later, over_after, facts_kept, fact_opened, held_met}
 use Rattle.nts_evaluation.specs.Deciding.{CandidatesSettled, IsOverIfSilent}
@@ -351,7 +353,7 @@ try_candidate-returns g t c =
     let v = c.in_ok-values.ensures in
     let k = c.in_ok-record_constraints.ensures in
     let n = c.in_ok-goals.ensures in
-    let e = c.in_ok-certainty.ensures in
+    let e = steps_asked _ _ _ _ _ _ _ _ _ _ _ _ _ _ c.terms_are_formed.ensures n.added.posed _ (rw c.typing_mode-2.ensures at c.in_ok-kept.ensures) c.in_ok-certainty.ensures in
     let brought = added_only c.in_ok-goals.goals.items n.added e.labels (content_of-extended n.grows.extends k.runs.goes.table.now) in
     let there = Runs-trans v.runs k.runs in
     let upto = Runs-trans there (Runs-extends k.runs.goes.table n.grows.extends n.grows.rest) in
@@ -361,26 +363,26 @@ try_candidate-returns g t c =
     let within : AllIn c.equate.new.cx.nodes c.deref-2.result.now = rw c.deref-2.ensures.value v.values.within in
     let constraints = constraints-kept c.args.cx.now.nodes c.equate.new.cx.nodes x.fresh.items c.args.goal x.region_constraints.items v.runs.goes.extends c.requires.candidate.constraints in
     let mode = c.args.table.now.mode in
-    let z = c.evaluate_asked.new.cx.nodes in
-    let here = content_of z c.evaluate_asked.new.table.entries in
+    let z = c.try_evaluate_goals.new.cx.nodes in
+    let here = content_of z c.try_evaluate_goals.new.table.entries in
     let seen = candidate_of c.args.cx.now.nodes x in
     let steps = Runs-trans (Runs-extends k.runs.goes.table n.grows.extends n.grows.rest) e.runs in
     let all = Runs-trans there steps in
     let later = AreValues-later (Runs-trans k.runs steps).goes v.values in
     let same = map-kept c.record_constraints.new.cx.nodes z vs (AllIn-kept c.equate.new.cx.nodes c.record_constraints.new.cx.nodes vs within k.runs.goes.extends) steps.goes.extends in
     let goals = (rw c.deref-4.ensures.value at n.added.goals) ∙ added_is z c.args.goal x.fresh.items vs x.goals.items there.goes.extends c.requires.candidate.goals (sym same) in
-    let A = assumed_in c.evaluate_asked.new.cx.nodes c.evaluate_asked.new.graph in
+    let A = assumed_in c.try_evaluate_goals.new.cx.nodes c.try_evaluate_goals.new.graph in
     record {
-      runs = Runs-trans upto c.in_ok-certainty.ensures.runs;
-      searches = search_then c.args.depth c.requires.search (grown (ran c.in_ok-values.ensures.runs) (grown (ran c.in_ok-record_constraints.ensures.runs) c.in_ok-goals.ensures.grows)) c.in_ok-certainty.ensures.searches;
+      runs = Runs-trans upto e.runs;
+      searches = search_then c.args.depth c.requires.search (grown (ran c.in_ok-values.ensures.runs) (grown (ran c.in_ok-record_constraints.ensures.runs) c.in_ok-goals.ensures.grows)) e.searches;
       labels = only-trans v.labels (only_earlier v.runs.goes.extends c.requires.posed.holds (only-trans k.labels (only_earlier k.runs.goes.extends (HoldsGoal-extended v.runs.goes.extends c.requires.posed.holds) brought)));
       proved = λ s y.
           let h = g.H.GoalHandler.handler s.base c.args.handler.now in
           let since = Since-later (grown (ran there) n.grows) s in
-          let sure = both_sure _ _ (sym c.and.ensures ∙ ok_inside y) in
+          let sure = both_sure _ _ (sym c.and-2.ensures ∙ ok_inside y) in
           let kind = goal_kind (meaning (g.H.GoalHandler.handler s.base c.args.handler.now) s.variances) (tree_at c.args.cx.now.nodes c.args.goal.predicate.node) in
-          let settled = rw (upto.goes.mode, c.goal_kind-kind.ensures.kind s.base s.variances) at (e.proved since (ap Ok sure.1)) in
-          let run : HasRun (meaning (g.H.GoalHandler.handler s.base c.args.handler.now) s.variances) (mode_of c.args.table.now.mode) (goal_kind (meaning (g.H.GoalHandler.handler s.base c.args.handler.now) s.variances) (tree_at c.args.cx.now.nodes c.args.goal.predicate.node)) (assumed_in c.evaluate_asked.new.cx.nodes c.evaluate_asked.new.graph) (content_of c.evaluate_asked.new.cx.nodes c.evaluate_asked.new.table.entries) (candidate_of c.args.cx.now.nodes c.args.candidate.now) (map (tree_at c.evaluate_asked.new.cx.nodes) c.deref-2.result.now) = record {
+          let settled = rw (upto.goes.mode, c.goal_kind-kind.ensures.kind s.base s.variances) at (e.proved since (ap Ok (sym c.and.ensures ∙ sure.1))) in
+          let run : HasRun (meaning (g.H.GoalHandler.handler s.base c.args.handler.now) s.variances) (mode_of c.args.table.now.mode) (goal_kind (meaning (g.H.GoalHandler.handler s.base c.args.handler.now) s.variances) (tree_at c.args.cx.now.nodes c.args.goal.predicate.node)) (assumed_in c.try_evaluate_goals.new.cx.nodes c.try_evaluate_goals.new.graph) (content_of c.try_evaluate_goals.new.cx.nodes c.try_evaluate_goals.new.table.entries) (candidate_of c.args.cx.now.nodes c.args.candidate.now) (map (tree_at c.try_evaluate_goals.new.cx.nodes) c.deref-2.result.now) = record {
             sure = ap certainty_of sure.0;
             values = rw c.deref-2.ensures.value later.values;
             known = rw c.deref-2.ensures.value later.known;
@@ -392,7 +394,7 @@ try_candidate-returns g t c =
       told = λ s tells.
           let h = ruling_since (λ ts. g.H.GoalHandler.handler ts c.args.handler.now) s in
           let since = Since-later (grown (ran there) n.grows) s in
-          ran_to {t = c.args.table.now} {u = c.equate.new.table} {v = c.record_constraints.new.table} h mode c.args.goal x vs gs (rw c.deref-2.ensures.value v.equated) (rw (c.deref-3.ensures.value) at k.added) constraints c.requires.candidate.goals v.runs.goes.extends k.runs.goes.extends there.goes.extends n.grows.extends k.runs.goes.table within (rw c.deref-4.ensures.value at n.added.goals) (c.needs_relating.ensures.no c.if-needs_relating.false) c.evaluate_asked.new.cx.nodes c.evaluate_asked.new.table (rw upto.goes.mode at (c.in_ok-certainty.ensures.told since (tell_grown h c.args.depth c.requires.search (grown (ran c.in_ok-values.ensures.runs) (grown (ran c.in_ok-record_constraints.ensures.runs) c.in_ok-goals.ensures.grows)) tells)));
+          ran_to {t = c.args.table.now} {u = c.equate.new.table} {v = c.record_constraints.new.table} h mode c.args.goal x vs gs (rw c.deref-2.ensures.value v.equated) (rw (c.deref-3.ensures.value) at k.added) constraints c.requires.candidate.goals v.runs.goes.extends k.runs.goes.extends there.goes.extends n.grows.extends k.runs.goes.table within (rw c.deref-4.ensures.value at n.added.goals) (c.needs_relating.ensures.no c.if-needs_relating.false) c.try_evaluate_goals.new.cx.nodes c.try_evaluate_goals.new.table (rw upto.goes.mode at (e.told since (tell_grown h c.args.depth c.requires.search (grown (ran c.in_ok-values.ensures.runs) (grown (ran c.in_ok-record_constraints.ensures.runs) c.in_ok-goals.ensures.grows)) tells)));
       refuted = search rules;
       decided = λ s i b d can.
           let h = g.H.GoalHandler.handler s.base c.args.handler.now in
@@ -400,7 +402,7 @@ try_candidate-returns g t c =
           let up = grown (ran c.in_ok-values.ensures.runs) (grown (ran c.in_ok-record_constraints.ensures.runs) c.in_ok-goals.ensures.grows) in
           let settled = its_decided {t = c.args.table.now} {u = c.equate.new.table} {v = c.record_constraints.new.table} h mode i b c.args.goal x vs gs (rw c.deref-2.ensures.value v.equated) (rw (c.deref-3.ensures.value) at k.added) constraints c.requires.candidate.goals v.runs.goes.extends k.runs.goes.extends there.goes.extends n.grows.extends k.runs.goes.table within (rw c.deref-4.ensures.value at n.added.goals) c.terms_are_formed.ensures v.runs.goes.table n.added.posed c.requires.posed c.requires.candidate (c.needs_relating.ensures.no c.if-needs_relating.false) d c.record_constraints.new.table refl in
           let y = e.decided since i b (rw upto.goes.mode settled) (decides_grown c.requires.search up can) in
-          record { answer = (y.answer.0, c.and.ensures ∙ rw (sure_yes x.certainty d.sure, y.answer.1) refl); search = y.search };
+          record { answer = (y.answer.0, c.and-2.ensures ∙ rw (sure_yes x.certainty d.sure, c.and.ensures ∙ y.answer.1) refl); search = y.search };
     }
 
 pub try_candidate-returns-in_err-certainty : goal.try_candidate-returns-in_err-certainty
@@ -412,32 +414,33 @@ try_candidate-returns-in_err-certainty g t c =
     let upto = Runs-trans there (Runs-extends k.runs.goes.table n.grows.extends n.grows.rest) in
     let x = c.args.candidate.now in
     let gs = c.in_ok-goals.goals.items in
+    let e = steps_asked _ _ _ _ _ _ _ _ _ _ _ _ _ _ c.terms_are_formed.ensures n.added.posed _ (rw c.typing_mode-2.ensures at c.in_ok-kept.ensures) c.try_evaluate_goals.ensures in
     let vs = c.deref-2.result.now in
     let within : AllIn c.equate.new.cx.nodes c.deref-2.result.now = rw c.deref-2.ensures.value v.values.within in
     let constraints = constraints-kept c.args.cx.now.nodes c.equate.new.cx.nodes x.fresh.items c.args.goal x.region_constraints.items v.runs.goes.extends c.requires.candidate.constraints in
     let mode = c.args.table.now.mode in
     record {
-      runs = Runs-trans upto c.evaluate_asked.ensures.runs;
-      searches = search_then c.args.depth c.requires.search (grown (ran c.in_ok-values.ensures.runs) (grown (ran c.in_ok-record_constraints.ensures.runs) c.in_ok-goals.ensures.grows)) c.evaluate_asked.ensures.searches;
+      runs = Runs-trans upto e.runs;
+      searches = search_then c.args.depth c.requires.search (grown (ran c.in_ok-values.ensures.runs) (grown (ran c.in_ok-record_constraints.ensures.runs) c.in_ok-goals.ensures.grows)) e.searches;
       labels = search rules;
       proved = search rules;
       told = search rules;
       refuted = λ s tells no.
           let h = ruling_since (λ ts. g.H.GoalHandler.handler ts c.args.handler.now) s in
           let since = Since-later (grown (ran there) n.grows) s in
-          let refused : c.evaluate_asked.result ≡ Err EvalError.NoSolution = search rules in
-          ran_refused {t = c.args.table.now} {u = c.equate.new.table} {v = c.record_constraints.new.table} h mode c.args.goal x vs gs (rw c.deref-2.ensures.value v.equated) (rw (c.deref-3.ensures.value) at k.added) constraints c.requires.candidate.goals v.runs.goes.extends k.runs.goes.extends there.goes.extends n.grows.extends k.runs.goes.table within (rw c.deref-4.ensures.value at n.added.goals) (c.needs_relating.ensures.no c.if-needs_relating.false) (rw (upto.goes.mode, c.goal_kind-kind.ensures.kind s.base s.variances) at (c.evaluate_asked.ensures.refuted since (tell_grown h c.args.depth c.requires.search (grown (ran c.in_ok-values.ensures.runs) (grown (ran c.in_ok-record_constraints.ensures.runs) c.in_ok-goals.ensures.grows)) tells) refused));
+          let refused : c.try_evaluate_goals.result ≡ Err EvalError.NoSolution = search rules in
+          ran_refused {t = c.args.table.now} {u = c.equate.new.table} {v = c.record_constraints.new.table} h mode c.args.goal x vs gs (rw c.deref-2.ensures.value v.equated) (rw (c.deref-3.ensures.value) at k.added) constraints c.requires.candidate.goals v.runs.goes.extends k.runs.goes.extends there.goes.extends n.grows.extends k.runs.goes.table within (rw c.deref-4.ensures.value at n.added.goals) (c.needs_relating.ensures.no c.if-needs_relating.false) (rw (upto.goes.mode, c.goal_kind-kind.ensures.kind s.base s.variances) at (e.refuted since (tell_grown h c.args.depth c.requires.search (grown (ran c.in_ok-values.ensures.runs) (grown (ran c.in_ok-record_constraints.ensures.runs) c.in_ok-goals.ensures.grows)) tells) (joined_fails _ c.in_ok-kept.kept refused)));
       decided = λ s i b d can.
           let h = g.H.GoalHandler.handler s.base c.args.handler.now in
           let since = Since-later (grown (ran there) n.grows) s in
           let up = grown (ran c.in_ok-values.ensures.runs) (grown (ran c.in_ok-record_constraints.ensures.runs) c.in_ok-goals.ensures.grows) in
           let settled = its_decided {t = c.args.table.now} {u = c.equate.new.table} {v = c.record_constraints.new.table} h mode i b c.args.goal x vs gs (rw c.deref-2.ensures.value v.equated) (rw (c.deref-3.ensures.value) at k.added) constraints c.requires.candidate.goals v.runs.goes.extends k.runs.goes.extends there.goes.extends n.grows.extends k.runs.goes.table within (rw c.deref-4.ensures.value at n.added.goals) c.terms_are_formed.ensures v.runs.goes.table n.added.posed c.requires.posed c.requires.candidate (c.needs_relating.ensures.no c.if-needs_relating.false) d c.record_constraints.new.table refl in
           let fails : is_err c.from_residual-in_err-certainty.result ≡ true = search rules in
-          decides_error c.evaluate_asked.result c.from_residual-in_err-certainty.result fails (λ no. (search rules)) (λ no. no) (c.evaluate_asked.ensures.decided since i b (rw upto.goes.mode settled) (decides_grown c.requires.search up can));
+          decides_error (joined c.try_evaluate_goals.result c.in_ok-kept.kept) c.from_residual-in_err-certainty.result fails (λ no. (let refused : c.try_evaluate_goals.result ≡ Err EvalError.NoSolution = search rules in joined_fails _ c.in_ok-kept.kept refused)) (λ no. no) (e.decided since i b (rw upto.goes.mode settled) (decides_grown c.requires.search up can));
     }
 
-pub try_candidate-evaluate_asked-requires : goal.try_candidate-evaluate_asked-requires
-try_candidate-evaluate_asked-requires g t c = λ κs k-1.
+pub try_candidate-try_evaluate_goals-requires : goal.try_candidate-try_evaluate_goals-requires
+try_candidate-try_evaluate_goals-requires g t c = λ κs k-1.
     let v = c.in_ok-values.ensures in
     let k = c.in_ok-record_constraints.ensures in
     let there = Runs-trans v.runs k.runs in
@@ -448,7 +451,7 @@ try_candidate-evaluate_asked-requires g t c = λ κs k-1.
         (
           IsTable-extended n.grows.extends k.runs.goes.table,
           (
-            n.added.posed,
+            posed_kept _ _ _ _ _ _ c.in_ok-kept.ensures n.added.posed,
             (
               g.met.H.GoalHandler.ready_kept _ _ _ c.requires.ready (Extends-trans there.goes.extends n.grows.extends),
               search_grows c.args.depth c.args.depth (omega arith) c.requires.search (grown (ran c.in_ok-values.ensures.runs) (grown (ran c.in_ok-record_constraints.ensures.runs) c.in_ok-goals.ensures.grows)),
@@ -457,3 +460,25 @@ try_candidate-evaluate_asked-requires g t c = λ κs k-1.
         ),
       ),
     )
+
+pub try_candidate-keep_asked-requires : goal.try_candidate-keep_asked-requires
+try_candidate-keep_asked-requires g t c =
+    let n = c.in_ok-goals.ensures in
+    λ k d l. (let p = n.added.posed k d l in p.holds)
+
+pub try_candidate-returns-in_err-kept : goal.try_candidate-returns-in_err-kept
+try_candidate-returns-in_err-kept g t c =
+    let v = c.in_ok-values.ensures in
+    let k = c.in_ok-record_constraints.ensures in
+    let there = Runs-trans v.runs k.runs in
+    let n = c.in_ok-goals.ensures in
+    let fails : is_err c.from_residual-in_err-kept.result ≡ true = search rules in
+    record {
+      runs = Runs-trans there (Runs-extends k.runs.goes.table n.grows.extends n.grows.rest);
+      searches = Searches-refl c.args.depth c.requires.search (grown (ran c.in_ok-values.ensures.runs) (grown (ran c.in_ok-record_constraints.ensures.runs) c.in_ok-goals.ensures.grows));
+      labels = IfOk-from_err c.from_residual-in_err-kept.result _ fails;
+      proved = search rules;
+      told = λ s tells. IfOk-from_err c.from_residual-in_err-kept.result _ fails;
+      refuted = search rules;
+      decided = λ s i b d can. decides_fault c.from_residual-in_err-kept.result fails (search rules);
+    }

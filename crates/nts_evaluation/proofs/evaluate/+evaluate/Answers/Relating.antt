@@ -16,6 +16,7 @@ use Rattle.nts_meaning.proofs.Evaluating.{Runs-trans, Since-later}
 use Rattle.nts_meaning.proofs.Rounds.{ran, search_then}
 use Rattle.nts_meaning.proofs.Running.{both_sure}
 use Rattle.nts_meaning.proofs.Searching.{Searches-refl, search_grows, tell_grown}
+use Rattle.nts_evaluation.proofs.AskedSteps.{joined_fails, steps_asked, posed_kept}
 use Rattle.nts_trying.proofs.HeldRelating.{relating_holds}
 use Rattle.nts_trying.proofs.Ran.{ok_inside}
 use Rattle.std.specs.Prelude.{Result, IfOk}
@@ -65,8 +66,8 @@ try_relating-returns-in_err-begun g t c =
       decided = λ s n b d can. absurd (c.requires.some d.plain);
     }
 
-pub try_relating-evaluate_asked-requires : goal.try_relating-evaluate_asked-requires
-try_relating-evaluate_asked-requires g t c = λ κs k-1.
+pub try_relating-try_evaluate_goals-requires : goal.try_relating-try_evaluate_goals-requires
+try_relating-try_evaluate_goals-requires g t c = λ κs k-1.
     let b = c.in_ok-begun.ensures in
     let begins = b.begins in (
       omega (arith, c.decreases),
@@ -75,7 +76,7 @@ try_relating-evaluate_asked-requires g t c = λ κs k-1.
         (
           b.runs.goes.table,
           (
-            begins.posed,
+            posed_kept _ _ _ _ _ _ c.in_ok-kept.ensures begins.posed,
             (
               g.met.H.GoalHandler.ready_kept _ _ _ c.requires.ready b.runs.goes.extends,
               search_grows c.args.depth c.args.depth (omega arith) c.requires.search (ran b.runs),
@@ -115,7 +116,7 @@ pub try_relating-returns-in_err-certainty : goal.try_relating-returns-in_err-cer
 try_relating-returns-in_err-certainty g t c =
     let b = c.in_ok-begun.ensures in
     let begins = b.begins in
-    let e = c.evaluate_asked.ensures in
+    let e = steps_asked _ _ _ _ _ _ _ _ _ _ _ _ _ _ c.terms_are_formed.ensures begins.posed _ (rw c.typing_mode-2.ensures at c.in_ok-kept.ensures) c.try_evaluate_goals.ensures in
     let m = c.begin_relating.new.cx in
     let u = c.begin_relating.new.table in
     let fails : is_err c.from_residual-in_err-certainty.result ≡ true = search rules in
@@ -127,8 +128,8 @@ try_relating-returns-in_err-certainty g t c =
       told = λ s tells. IfOk-from_err c.from_residual-in_err-certainty.result _ fails;
       refuted = λ s tells n.
           let h = ruling_since (λ ts. g.H.GoalHandler.handler ts c.args.handler.now) s in
-          let refused : c.evaluate_asked.result ≡ Err EvalError.NoSolution = search rules in
-          let no = e.refuted (Since-later (ran b.runs) s) (tell_grown h c.args.depth c.requires.search (ran b.runs) tells) refused in
+          let refused : c.try_evaluate_goals.result ≡ Err EvalError.NoSolution = search rules in
+          let no = e.refuted (Since-later (ran b.runs) s) (tell_grown h c.args.depth c.requires.search (ran b.runs) tells) (joined_fails _ c.in_ok-kept.kept refused) in
           is_refused (goals_at m.nodes c.in_ok-begun.begun.goals.items) (content_of m.nodes u.entries) (rw s.declared (begins_in _ _ _ _ _ _ _ begins.begun begins.continues c.requires.may (may_be_asked begins.equalities (ap mode_of (c.typing_mode.ensures ∙ b.runs.goes.mode)) (c.may_ask.ensures.yes c.if-not-may_ask.false)))) (rw (b.runs.goes.mode, c.goal_kind-kind.ensures.kind s.base s.variances) at no);
       decided = λ s n k d can. absurd (c.requires.some d.plain);
     }
@@ -137,11 +138,11 @@ pub try_relating-returns : goal.try_relating-returns
 try_relating-returns g t c =
     let b = c.in_ok-begun.ensures in
     let begins = b.begins in
-    let e = c.in_ok-certainty.ensures in
+    let e = steps_asked _ _ _ _ _ _ _ _ _ _ _ _ _ _ c.terms_are_formed.ensures begins.posed _ (rw c.typing_mode-2.ensures at c.in_ok-kept.ensures) c.in_ok-certainty.ensures in
     let m = c.begin_relating.new.cx in
     let u = c.begin_relating.new.table in
-    let z = c.evaluate_asked.new.cx in
-    let w = c.evaluate_asked.new.table in
+    let z = c.try_evaluate_goals.new.cx in
+    let w = c.try_evaluate_goals.new.table in
     let gs = c.in_ok-begun.begun.goals.items in
     let mode = c.args.table.now.mode in
     record {
@@ -150,9 +151,9 @@ try_relating-returns g t c =
       labels = begins.labels e.labels;
       proved = λ s y.
           let h = g.H.GoalHandler.handler s.base c.args.handler.now in
-          let sure = both_sure _ _ (sym c.and.ensures ∙ ok_inside y) in
-          let settled = rw (b.runs.goes.mode, c.goal_kind-kind.ensures.kind s.base s.variances) at (e.proved (Since-later (ran b.runs) s) (ap Ok sure.1)) in
-          relating_holds (meaning h s.variances) (mode_of mode) (assumed_in z.nodes c.evaluate_asked.new.graph) c.args.goal c.args.candidate.now gs c.in_ok-begun.begun.equalities z.nodes w c.requires.posed c.requires.candidate c.requires.some begins s.declared e.runs.goes c.terms_are_formed-2.ensures settled (ap certainty_of sure.0);
+          let sure = both_sure _ _ (sym c.and-2.ensures ∙ ok_inside y) in
+          let settled = rw (b.runs.goes.mode, c.goal_kind-kind.ensures.kind s.base s.variances) at (e.proved (Since-later (ran b.runs) s) (ap Ok (sym c.and.ensures ∙ sure.1))) in
+          relating_holds (meaning h s.variances) (mode_of mode) (assumed_in z.nodes c.try_evaluate_goals.new.graph) c.args.goal c.args.candidate.now gs c.in_ok-begun.begun.equalities z.nodes w c.requires.posed c.requires.candidate c.requires.some begins s.declared e.runs.goes c.terms_are_formed-2.ensures settled (ap certainty_of sure.0);
       told = λ s tells.
           let h = ruling_since (λ ts. g.H.GoalHandler.handler ts c.args.handler.now) s in
           record {
@@ -161,6 +162,20 @@ try_relating-returns g t c =
             begun = rw s.declared (begins_in _ _ _ _ _ _ _ begins.begun begins.continues c.requires.may (may_be_asked begins.equalities (ap mode_of (c.typing_mode.ensures ∙ b.runs.goes.mode)) (c.may_ask.ensures.yes c.if-not-may_ask.false)));
             reaches = rw b.runs.goes.mode at (e.told (Since-later (ran b.runs) s) (tell_grown h c.args.depth c.requires.search (ran b.runs) tells));
           };
+      refuted = search rules;
+      decided = λ s n k d can. absurd (c.requires.some d.plain);
+    }
+
+pub try_relating-returns-in_err-kept : goal.try_relating-returns-in_err-kept
+try_relating-returns-in_err-kept g t c =
+    let b = c.in_ok-begun.ensures in
+    let fails : is_err c.from_residual-in_err-kept.result ≡ true = search rules in
+    record {
+      runs = b.runs;
+      searches = Searches-refl c.args.depth c.requires.search (ran b.runs);
+      labels = IfOk-from_err c.from_residual-in_err-kept.result _ fails;
+      proved = search rules;
+      told = λ s tells. IfOk-from_err c.from_residual-in_err-kept.result _ fails;
       refuted = search rules;
       decided = λ s n k d can. absurd (c.requires.some d.plain);
     }
