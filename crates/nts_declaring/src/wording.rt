@@ -14,7 +14,10 @@ use indexmap::IndexSet;
 use itoa::Buffer;
 use nts_certainty::{Certainty, MaybeCause};
 use nts_delegate::Reason;
-use nts_model::{BoundVarIndexKind, Constant, FreeRegion, Label, Leaf, Sort, TyHead, VariableKind};
+use nts_model::{
+    AliasRelationDirection, BoundVarIndexKind, Constant, FreeRegion, Label, Leaf, Sort, TyHead,
+    VariableKind,
+};
 use nts_store::NodeId;
 use nts_terms::{BoundVars, ClauseKind, Cx, Goal, PredicateKind, TraitRef};
 use nts_text::{NameTable, Scope};
@@ -31,6 +34,7 @@ enum Piece {
     Term(NodeId),
     Comma,
     Colon,
+    Equal,
     Close,
 }
 
@@ -175,11 +179,15 @@ impl Wording<'_> {
             }
             PredicateKind::Clause(ClauseKind::TypeOutlives(ty, region)) => {
                 self.binder(said.vars)?;
-                self.outlives(output, ty.node, region.node)
+                self.related(output, ty.node, Piece::Colon, region.node)
             }
             PredicateKind::Clause(ClauseKind::RegionOutlives(longer, shorter)) => {
                 self.binder(said.vars)?;
-                self.outlives(output, longer.node, shorter.node)
+                self.related(output, longer.node, Piece::Colon, shorter.node)
+            }
+            PredicateKind::AliasRelate(left, right, AliasRelationDirection::Equate) => {
+                self.binder(said.vars)?;
+                self.related(output, left.node, Piece::Equal, right.node)
             }
             // A line says no other goals.
             _ => Ok(self.write(b"_")?),
@@ -223,13 +231,14 @@ impl Wording<'_> {
         self.all_pieces(output, &mut pieces)
     }
 
-    /// A type or a region, and the region that it outlives.
+    /// Two terms, and what is said of them between the two.
     #[tactic(auto, using(nts_wording::proofs::Growths::writes))]
-    fn outlives<W: Write>(
+    fn related<W: Write>(
         &mut self,
         output: &mut W,
         left: NodeId,
-        region: NodeId,
+        between: Piece,
+        right: NodeId,
     ) -> Result<(), Stop>
         ensures says { OnOk result (Says IsAny (W.contents output.old)
             (W.contents output.new) self.old.text.items self.new.text.items) }
@@ -238,8 +247,8 @@ impl Wording<'_> {
         ensures begins { Begins (W.contents output.old) (W.contents output.new) }
     {
         let mut pieces = Vec::new(self.cx.alloc);
-        pieces.push(Piece::Term(region))?;
-        pieces.push(Piece::Colon)?;
+        pieces.push(Piece::Term(right))?;
+        pieces.push(between)?;
         pieces.push(Piece::Term(left))?;
         self.all_pieces(output, &mut pieces)
     }
@@ -272,6 +281,7 @@ impl Wording<'_> {
         match piece {
             Piece::Comma => self.write(b", "),
             Piece::Colon => self.write(b": "),
+            Piece::Equal => self.write(b" = "),
             Piece::Close => self.write(b")"),
             Piece::Term(term) => self.head(term, pieces),
         }

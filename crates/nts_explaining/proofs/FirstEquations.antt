@@ -20,7 +20,7 @@ use Rattle.nts_evaluation.specs.nts_meaning.proofs.Running.{candidate-kept}
 use Rattle.nts_explaining.specs.Explaining.{MeetsFirst, StopsAtEquation}
 
 -- the first equations are equations
-are_first : (ts : List Tree) (fresh : List Sort) (g : Goal) (n : ℕ) (qs : List Equation) → AreEquations ts fresh g qs → AreEquations ts fresh g (take n qs)
+pub are_first : (ts : List Tree) (fresh : List Sort) (g : Goal) (n : ℕ) (qs : List Equation) → AreEquations ts fresh g qs → AreEquations ts fresh g (take n qs)
 are_first ts fresh g zero qs h = tt
 are_first ts fresh g (suc n) [] h = tt
 are_first ts fresh g (suc n) (q ∷ qs) h = (h.0, are_first ts fresh g n qs h.1)

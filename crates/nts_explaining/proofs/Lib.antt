@@ -1,5 +1,6 @@
 mod FirstEquations
 mod Numbered
+mod RelatedParts
 mod ReasonExamples
 mod ToldGoals
 mod Tried

@@ -10,8 +10,6 @@ use Rattle.nts_store.specs.Formed.{AreFormed}
 use Rattle.nts_store.specs.Growth.{tree_at}
 use Rattle.nts_terms.specs.declared.handles.Goal.{Goal}
 use Rattle.nts_table.specs.Tables.{Table}
-use Rattle.nts_delegate.specs.AliasRows.{either_false}
-use Rattle.nts_delegate.specs.OwnTerms.{both_false}
 use Rattle.nts_evaluation.specs.nts_meaning.specs.Evaluation.{IsPosed, IsAskedGoal}
 use Rattle.nts_evaluation.specs.nts_trying.specs.Aliasing.{AliasGoalIn, IsEquatedGoal}
 use Rattle.nts_evaluation.specs.nts_trying.specs.Outliving.{IsOutlivesGoal}
@@ -30,16 +28,11 @@ one_goal e = cc e
 
 -- those that the handler's candidates answer
 pub asked_explained : (ts : List Tree) (g h : Goal) → Some g ≡ Some h → IsAskedGoal ts h → IsExplained ts g
-asked_explained ts g h same x =
-    let e = any_label is_alias (tree_at ts h.param_env.node) in
-    let p = any_label is_alias (tree_at ts h.predicate.node) in
-    let t = x.trait_goal in
-    subst (IsExplained ts) (one_goal same) (record { asked = x.asked; statement = t.statement; no_alias = (both_false p false (both_false e (p || false) t.no_alias).1).0 })
+asked_explained ts g h same x = (let t = x.trait_goal in subst (IsExplained ts) (one_goal same) (record { asked = x.asked; statement = t.statement }))
 
--- .. and those in whose environment an alias stands
-pub alias_explained : (ts : List Tree) (t : Table) (g h : Goal) → AreFormed ts → IsPosed ts t g → Some g ≡ Some h → AliasGoalIn ts h → IsTraitStatement (statement_of (tree_at ts g.predicate.node)) → any_label is_alias (tree_at ts g.predicate.node) ≡ false → IsExplained ts g
-alias_explained ts t g h formed posed same x is plain =
-    record { asked = alias_asked formed posed (subst (AliasGoalIn ts) (one_goal same) x); statement = is; no_alias = plain }
+-- .. and those in which, or in whose environment, an alias stands
+pub alias_explained : (ts : List Tree) (t : Table) (g h : Goal) → AreFormed ts → IsPosed ts t g → Some g ≡ Some h → AliasGoalIn ts h → IsTraitStatement (statement_of (tree_at ts g.predicate.node)) → IsExplained ts g
+alias_explained ts t g h formed posed same x is = record { asked = alias_asked formed posed (subst (AliasGoalIn ts) (one_goal same) x); statement = is }
 
 -- no others
 pub outlives_unexplained : (ts : List Tree) (g h : Goal) (o : Outlives) → Some g ≡ Some h → IsOutlivesGoal ts h o → IsExplained ts g → ⊥
@@ -58,7 +51,7 @@ subtype_unexplained ts g h p same x k =
     let i = x.is in
     trait_says_no_subtype (tree_at ts h.predicate.node) _ _ there.statement i.says
 
-relates_no_trait : (d : AliasRelationDirection) (p a b : Tree) → p ≡ alias_relation d a b → IsTraitStatement (statement_of p) → ⊥
+pub relates_no_trait : (d : AliasRelationDirection) (p a b : Tree) → p ≡ alias_relation d a b → IsTraitStatement (statement_of p) → ⊥
 relates_no_trait d p a b e t = subst (λ z. IsTraitStatement (statement_of z)) e t
 
 pub equated_unexplained : (ts : List Tree) (g h : Goal) (r : EquatedAlias) → Some g ≡ Some h → IsEquatedGoal ts h r → IsExplained ts g → ⊥
@@ -69,20 +62,20 @@ equated_unexplained ts g h r same x k =
     ⊎_elim (λ w. ⊎_elim (λ e. relates_no_trait w.by p _ _ e there.statement) (λ e. relates_no_trait w.by p _ _ e there.statement) w.says) (λ w. relates_no_trait w.by p _ _ w.says there.statement) i.says
 
 pub unanswered_unexplained : (ts : List Tree) (g h : Goal) → Some g ≡ Some h → (IsAskedGoal ts h → ⊥) → (AliasGoalIn ts h → ⊥) → IsExplained ts g → ⊥
-unanswered_unexplained ts g h same not_asked not_alias k = by_case (any_label is_alias (tree_at ts h.param_env.node)) refl
+unanswered_unexplained ts g h same not_asked not_alias k = by_case (any_label is_alias (tree_at ts h.param_env.node) || (any_label is_alias (tree_at ts h.predicate.node) || false)) refl
   where
     there : IsExplained ts h
     there = subst (IsExplained ts) (sym (one_goal same)) k
 
-    by_case : (b : Bool) → any_label is_alias (tree_at ts h.param_env.node) ≡ b → ⊥
-    by_case false q = not_asked (record { asked = there.asked; trait_goal = record { statement = there.statement; no_alias = either_false q (either_false there.no_alias refl) } })
+    by_case : (b : Bool) → (any_label is_alias (tree_at ts h.param_env.node) || (any_label is_alias (tree_at ts h.predicate.node) || false)) ≡ b → ⊥
+    by_case false q = not_asked (record { asked = there.asked; trait_goal = record { statement = there.statement; no_alias = q } })
     by_case true q =
         let asked = there.asked in
         let x = asked.asked in
         not_alias (record {
           statement = x.statement;
           binds_nothing = x.binds_nothing;
-          says = inr (subst IsTraitStatement (ap statement_of x.binds_nothing) there.statement, ap (λ z. z || (any_label is_alias (tree_at ts h.predicate.node) || false)) q);
+          says = inr (subst IsTraitStatement (ap statement_of x.binds_nothing) there.statement, q);
           closed = x.closed.1.0;
           environment = record { closed = x.closed.0; statements = x.statements };
         })

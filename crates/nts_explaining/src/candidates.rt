@@ -1,6 +1,9 @@
 //! Why a goal is not answered yes.
 ghost use Rattle.std.specs.Prelude.{◌≡◌, ◌<◌, true, length, All, Ok, IfOk, IfSome, IsNone};
 ghost use Rattle.nts_model.specs.Refutation.Choosing.{IsCandidateMet};
+ghost use Rattle.nts_store.specs.Growth.{tree_at};
+ghost use Rattle.nts_terms.specs.Modes.{mode_of};
+ghost use Rattle.nts_terms.specs.Signatures.{variances_in};
 ghost use Rattle.nts_unify.specs.Reading.{content_of};
 ghost use Rattle.nts_table.specs.Tables.{IsTable};
 ghost use Rattle.nts_delegate.specs.Candidates.{IsAskedIn, IsCandidate, AreCandidates};
@@ -8,7 +11,7 @@ ghost use Rattle.nts_candidates.specs.Offered.{candidate_of, candidates_of};
 ghost use Rattle.nts_evaluation.specs.nts_meaning.specs.Evaluation.{IsAdmitted, IsPosed, Goes, Runs};
 ghost use Rattle.nts_evaluation.specs.nts_trying.specs.Stepping.{ArePosed};
 ghost use Rattle.nts_terms.specs.Rest.{Grows};
-ghost use Rattle.nts_explaining.specs.Explaining.{Explains, ExplainsEach, GivesReasons};
+ghost use Rattle.nts_explaining.specs.Explaining.{Explains, ExplainsPlainly, ExplainsEach, GivesReasons};
 ghost use Rattle.nts_candidates.specs.HeldReasons.{HoldsReason};
 ghost use Rattle.nts_explaining.specs.Asking.{IsWithin, IsReasonOf};
 ghost use Rattle.nts_candidates.specs.declared.reasons.Reason.TheVariants.{Condition};
@@ -16,18 +19,20 @@ ghost use Rattle.nts_candidates.specs.declared.reasons.Reason.TheVariants.{Condi
 use crate::conditions::{Outcome, ask_conditions};
 use crate::equations::unmet_equation;
 use crate::explained::is_explained;
+use crate::related::related_reason;
 use nts_certainty::{Certainty, GoalSource};
 use nts_delegate::{CandidateData, GoalHandler, Reason};
 use nts_evaluation::nts_meaning::resolve_goal;
-use nts_evaluation::nts_trying::{Trial, enter_forall, equate, goal_kind, record_constraints};
+use nts_evaluation::nts_trying::{
+    Trial, enter_forall, equate, goal_kind, needs_relating, record_constraints,
+};
 use nts_store::EvalError;
 use nts_table::InferCtxt;
 use nts_terms::{Cx, Goal};
 
 /// What each candidate that the handler offers for a goal comes to, in their order: why the goal is not answered yes, one level
-/// deep. A goal that binds variables is opened first. There is no reason where no candidate answers such a goal, nor yet for a
-/// goal in which an alias stands. The table is as before, also after an error, which is want of memory, or `Full` where a universe above the
-/// greatest is asked for.
+/// deep. A goal that binds variables is opened first. There is no reason where the goal does not say that a trait holds. The table is as
+/// before, also after an error, which is want of memory, or `Full` where a universe above the greatest is asked for.
 pub fn explain<H: GoalHandler>(
     table: &mut InferCtxt,
     cx: &mut Cx,
@@ -40,7 +45,7 @@ pub fn explain<H: GoalHandler>(
     ensures same { table.new ≡ table.old }
     ensures grows { Grows cx.old cx.new }
     ensures reasons { IfOk result (λ rs. GivesReasons (H.handler cx.old.nodes handler.now)
-        table.old.mode cx.old.nodes table.old goal rs.items) }
+        (variances_in cx.old.declarations) table.old.mode cx.old.nodes table.old goal rs.items) }
     ensures holds { IfOk result (λ rs. All (HoldsReason cx.new.nodes) rs.items) }
 {
     cx.terms_are_formed();
@@ -62,7 +67,7 @@ fn explain_here<H: GoalHandler>(
     ensures goes { Goes cx.old.nodes cx.new.nodes table.old table.new }
     ensures grows { Grows cx.old cx.new }
     ensures reasons { IfOk result (λ rs. GivesReasons (H.handler cx.old.nodes handler.now)
-        table.old.mode cx.old.nodes table.old goal rs.items) }
+        (variances_in cx.old.declarations) table.old.mode cx.old.nodes table.old goal rs.items) }
     ensures holds { IfOk result (λ rs. All (HoldsReason cx.new.nodes) rs.items) }
 {
     let Some(opened) = enter_forall(table, cx, goal)? else {
@@ -89,7 +94,9 @@ fn reasons_of<H: GoalHandler>(
     requires candidates { AreCandidates cx.old.nodes goal candidates.now }
     ensures same { table.new ≡ table.old }
     ensures grows { Grows cx.old cx.new }
-    ensures each { IfOk result (λ rs. ExplainsEach (content_of cx.old.nodes table.old.entries)
+    ensures each { IfOk result (λ rs. ExplainsEach (variances_in cx.old.declarations)
+        (mode_of table.old.mode) (content_of cx.old.nodes table.old.entries)
+        (tree_at cx.old.nodes goal.param_env.node)
         (candidates_of cx.old.nodes candidates.now) rs.items) }
     ensures holds { IfOk result (λ rs. All (HoldsReason cx.new.nodes) rs.items) }
 {
@@ -115,7 +122,32 @@ fn reason_of<H: GoalHandler>(
     requires candidate { IsCandidate cx.old.nodes goal candidate.now }
     ensures same { table.new ≡ table.old }
     ensures grows { Grows cx.old cx.new }
-    ensures explains { IfOk result (Explains (content_of cx.old.nodes table.old.entries)
+    ensures explains { IfOk result (Explains (variances_in cx.old.declarations)
+        (mode_of table.old.mode) (content_of cx.old.nodes table.old.entries)
+        (tree_at cx.old.nodes goal.param_env.node) (candidate_of cx.old.nodes candidate.now)) }
+    ensures holds { IfOk result (HoldsReason cx.new.nodes) }
+{
+    if needs_relating(cx, goal, candidate) {
+        return related_reason(table, cx, handler, goal, candidate);
+    }
+    plain_reason(table, cx, handler, goal, candidate)
+}
+
+/// .. of one none of whose equations relates aliases.
+fn plain_reason<H: GoalHandler>(
+    table: &mut InferCtxt,
+    cx: &mut Cx,
+    handler: &H,
+    goal: Goal,
+    candidate: &CandidateData,
+) -> Result<Reason, EvalError>
+    requires posed { IsPosed cx.old.nodes table.old goal }
+    requires asked { IsAskedIn cx.old.nodes goal }
+    requires ready { H.ready cx.old.nodes handler.now }
+    requires candidate { IsCandidate cx.old.nodes goal candidate.now }
+    ensures same { table.new ≡ table.old }
+    ensures grows { Grows cx.old cx.new }
+    ensures explains { IfOk result (ExplainsPlainly (content_of cx.old.nodes table.old.entries)
         (candidate_of cx.old.nodes candidate.now)) }
     ensures holds { IfOk result (HoldsReason cx.new.nodes) }
 {
@@ -146,7 +178,7 @@ fn try_candidate<H: GoalHandler>(
     ensures unmet { IfOk result (λ o. IsNone o → IsCandidateMet
         (content_of cx.old.nodes table.old.entries) (candidate_of cx.old.nodes candidate.now) →
         ⊥) }
-    ensures explains { IfOk result (λ o. IfSome o (Explains
+    ensures explains { IfOk result (λ o. IfSome o (ExplainsPlainly
         (content_of cx.old.nodes table.old.entries) (candidate_of cx.old.nodes candidate.now))) }
     ensures holds { IfOk result (λ o. IfSome o (HoldsReason cx.new.nodes)) }
 {
@@ -170,7 +202,7 @@ fn try_candidate<H: GoalHandler>(
 }
 
 /// What asking the conditions came to, as a reason: the handler's leak check comes before a doubt.
-fn checked<H: GoalHandler>(
+pub(crate) fn checked<H: GoalHandler>(
     table: &InferCtxt,
     cx: &mut Cx,
     handler: &H,

@@ -8,7 +8,7 @@ ghost use Rattle.nts_explaining.specs.Asking.{IsWithin};
 use nts_certainty::{Certainty, GoalSource};
 use nts_delegate::GoalHandler;
 use nts_evaluation::nts_search::{CurrentGoalKind, SearchGraph};
-use nts_evaluation::nts_trying::AvailableDepth;
+use nts_evaluation::nts_trying::{AvailableDepth, asks};
 use nts_evaluation::try_evaluate_goals;
 use nts_store::EvalError;
 use nts_table::InferCtxt;
@@ -124,7 +124,7 @@ struct Asked {
     has_changed: bool,
 }
 
-/// Asks one condition, in a search of its own, as deep as the store's limit says.
+/// Asks one condition, in a search of its own, as deep as the store's limit says. In coherence one that is not asked is in doubt.
 fn ask<H: GoalHandler>(
     table: &mut InferCtxt,
     cx: &mut Cx,
@@ -136,6 +136,12 @@ fn ask<H: GoalHandler>(
     requires ready { H.ready cx.old.nodes handler.now }
     ensures runs { Runs cx.old cx.new table.old table.new }
 {
+    if !asks(cx, table.typing_mode(), goal.1) {
+        return Ok(Asked {
+            certainty: Some(Certainty::AMBIGUOUS),
+            has_changed: false,
+        });
+    }
     let depth = cx.recursion_limit();
     let mut graph = SearchGraph::new(cx.alloc, depth);
     let mut goals = Vec::new(cx.alloc);

@@ -1,6 +1,6 @@
 //! Of which goals reasons are told.
 ghost use Rattle.std.specs.Prelude.{◌≡◌, ◌↔◌, IsTrue, true, false, List};
-ghost use Rattle.nts_model.specs.Terms.Trees.{Tree, any_label, is_alias};
+ghost use Rattle.nts_model.specs.Terms.Trees.{Tree};
 ghost use Rattle.nts_theory.specs.Telling.{IsTraitStatement};
 ghost use Rattle.nts_store.specs.Growth.{tree_at};
 ghost use Rattle.nts_terms.specs.Kinds.{tree_of_statement};
@@ -13,7 +13,7 @@ use nts_evaluation::nts_trying::{GoalRow, goal_row};
 use nts_table::InferCtxt;
 use nts_terms::{ClauseKind, Cx, Goal, PredicateKind};
 
-/// Whether reasons are told of a goal of the table: it says of a trait that it holds, and no alias stands in it.
+/// Whether reasons are told of a goal of the table: it says of a trait that it holds.
 pub(crate) fn is_explained(table: &InferCtxt, cx: &Cx, goal: Goal) -> bool
     requires { IsPosed cx.now.nodes table.now goal }
     ensures { IsTrue result ↔ IsExplained cx.now.nodes goal }
@@ -32,16 +32,13 @@ pub(crate) fn is_explained(table: &InferCtxt, cx: &Cx, goal: Goal) -> bool
     }
 }
 
-/// Whether a goal says that a trait holds, of arguments without aliases.
+/// Whether a goal says that a trait holds.
 fn says_of_trait(cx: &Cx, goal: Goal) -> bool
     requires { HoldsGoal cx.now.nodes goal }
     ensures { IsTrue result ↔
-        (IsTraitStatement (statement_of (tree_at cx.now.nodes goal.predicate.node)) ×
-        (any_label is_alias (tree_at cx.now.nodes goal.predicate.node) ≡ false)) }
+        IsTraitStatement (statement_of (tree_at cx.now.nodes goal.predicate.node)) }
 {
-    let says = goal.predicate.kind(cx);
-    let flags = cx.nodes.flags(goal.predicate.node);
-    is_trait(says.value) && !flags.has_alias
+    is_trait(goal.predicate.kind(cx).value)
 }
 
 /// Whether a statement says that a trait holds, as such or as an effect of the host.

@@ -6,6 +6,7 @@ mod candidates;
 mod conditions;
 mod equations;
 mod explained;
+mod related;
 
 pub use candidates::explain;
 pub use nts_delegate::Reason;

@@ -11,8 +11,9 @@ use Rattle.nts_model.specs.declared.labels.Label.TheVariants as label
 use Rattle.nts_model.specs.declared.labels.Leaf.{Leaf}
 use Rattle.nts_model.specs.declared.labels.ListHead.TheVariants as list
 use Rattle.nts_model.specs.declared.labels.Sort.{Sort}
+use Rattle.nts_model.specs.declared.labels.Variance.{Variance}
 use Rattle.nts_model.specs.Derivations.Handlers.{Candidate}
-use Rattle.nts_model.specs.Derivations.Rules.{opened}
+use Rattle.nts_model.specs.Derivations.Rules.{Mode, opened}
 use Rattle.nts_model.specs.Refutation.Opening.{placeholder_in, opened_in}
 use Rattle.nts_model.specs.Tables.Contents.{Content}
 use Rattle.nts_model.specs.Terms.Substitutions.{leaf_tree}
@@ -119,12 +120,12 @@ goal_count : (d : Declared) (c : Content) (g : Tree) → IsDeclaredPredicate d g
 goal_count d c (node (label.List list.Binder) (more (node (label.List list.Sorts) (more s ss)) (more t empty))) h = opened_count d (placeholder_in (c.universe + 1)) t h
 goal_count d c g h = counted d (trait_of g) h
 
-explained_by : {c : Content} {xs ys : List Candidate} {rs : List Reason} → xs ≡ ys → ExplainsEach c xs rs → ExplainsEach c ys rs
-explained_by {c} {xs} {ys} {rs} e h = subst (λ zs. ExplainsEach c zs rs) e h
+explained_by : {declared : ℕ → List Variance} {mode : Mode} {c : Content} {env : Tree} {xs ys : List Candidate} {rs : List Reason} → xs ≡ ys → ExplainsEach declared mode c env xs rs → ExplainsEach declared mode c env ys rs
+explained_by {declared} {mode} {c} {env} {xs} {ys} {rs} e h = subst (λ zs. ExplainsEach declared mode c env zs rs) e h
 
 -- the reasons of a goal are those of each clause
-pub each_reason : (cx : Cx) (h : Clauses) (mode : TypingMode) (t : Table) (g : Goal) {rs : List Reason} → HeadsFit cx h → IsDeclaredPredicate cx.declarations (tree_at cx.nodes g.predicate.node)
-    → GivesReasons (rules_with cx.nodes h) mode cx.nodes t g rs → GivesReasons (rules_of_each cx.nodes h) mode cx.nodes t g rs
+pub each_reason : (cx : Cx) (h : Clauses) {variances : ℕ → List Variance} (mode : TypingMode) (t : Table) (g : Goal) {rs : List Reason} → HeadsFit cx h → IsDeclaredPredicate cx.declarations (tree_at cx.nodes g.predicate.node)
+    → GivesReasons (rules_with cx.nodes h) variances mode cx.nodes t g rs → GivesReasons (rules_of_each cx.nodes h) variances mode cx.nodes t g rs
 each_reason cx h mode t g fit declared (of_candidates b u o opens asked each) =
     let e = tree_at b o.param_env.node in
     let p = trait_of (tree_at b o.predicate.node) in
@@ -150,7 +151,7 @@ goal_about c (node (label.List list.Binder) (more (node (label.List list.Sorts) 
 goal_about c g n x e = (x, e)
 
 -- as many reasons as candidates
-explained_length : {c : Content} {xs : List Candidate} {rs : List Reason} → ExplainsEach c xs rs → length rs ≡ length xs
+explained_length : {declared : ℕ → List Variance} {mode : Mode} {c : Content} {env : Tree} {xs : List Candidate} {rs : List Reason} → ExplainsEach declared mode c env xs rs → length rs ≡ length xs
 explained_length none = refl
 explained_length (next x r each e) = length-append _ (r ∷ []) ∙ ap (λ n. n + 1) (explained_length each) ∙ sym (length-append _ (x ∷ []))
 
@@ -159,8 +160,8 @@ enough rs xs ws zs ys k e f =
     omega (arith, e, f, length-append xs (ws ++ (zs ++ ys)), length-append ws (zs ++ ys), length-append zs ys)
 
 -- a goal of a trait has no reason, or one for each clause of the trait at least
-pub clause_reasons : (ts : List Tree) (h : Clauses) (mode : TypingMode) (t : Table) (g : Goal) (n k : ℕ) (x : Tree) {rs : List Reason} → trait_of (tree_at ts g.predicate.node) ≡ Some (n, x) → length (clauses_of h n) ≡ k
-    → GivesReasons (rules_of_each ts h) mode ts t g rs → (rs ≡ []) ⊎ (k ≤ length rs)
+pub clause_reasons : (ts : List Tree) (h : Clauses) {variances : ℕ → List Variance} (mode : TypingMode) (t : Table) (g : Goal) (n k : ℕ) (x : Tree) {rs : List Reason} → trait_of (tree_at ts g.predicate.node) ≡ Some (n, x) → length (clauses_of h n) ≡ k
+    → GivesReasons (rules_of_each ts h) variances mode ts t g rs → (rs ≡ []) ⊎ (k ≤ length rs)
 clause_reasons ts h mode t g n k x about count (of_candidates b u o opens asked each) =
     let e = tree_at b o.param_env.node in
     let p = tree_at b o.predicate.node in

@@ -1,10 +1,12 @@
 -- What a run does.
 use Rattle.std.specs.Prelude.{◌≡◌, ◌⊎◌, ◌≤◌, ℕ, ◌+◌, Bool, true, false, List, [], ◌∷◌, ◌++◌, length, Option, None, Some, IfSome}
 use Rattle.std.specs.Io.KnownBytes.{Appends}
+use Rattle.nts_model.specs.declared.labels.Variance.{Variance}
 use Rattle.nts_model.specs.Terms.Trees.{Tree}
 use Rattle.nts_store.specs.Growth.{Extends}
 use Rattle.nts_table.specs.Tables.{Table}
 use Rattle.nts_terms.specs.Rest.{Grows}
+use Rattle.nts_terms.specs.Signatures.{variances_in}
 use Rattle.nts_terms.specs.declared.handles.Goal.{Goal}
 use Rattle.nts_delegate.specs.declared.clauses.Clauses.{Clauses}
 use Rattle.nts_text.specs.Input.{lines_of}
@@ -34,11 +36,11 @@ pub record HasMoreTerms (old new : Explainer) : Type 0 where
 
 -- these are the reasons of a goal, by its environment and these clauses, in a store that has all terms of this one; there is one of each
 -- clause of the goal's trait, so that none is left out
-pub record HasReasons (ts : List Tree) (clauses : Clauses) (table : Table) (g : Goal) (reasons : List Reason) : Type 0 where
+pub record HasReasons (ts : List Tree) (declared : ℕ → List Variance) (clauses : Clauses) (table : Table) (g : Goal) (reasons : List Reason) : Type 0 where
   pub store : List Tree
   pub extends : Extends ts store
-  pub gives : GivesReasons (rules_with store clauses) table.mode store table g reasons
-  pub each : GivesReasons (rules_of_each store clauses) table.mode store table g reasons
+  pub gives : GivesReasons (rules_with store clauses) declared table.mode store table g reasons
+  pub each : GivesReasons (rules_of_each store clauses) declared table.mode store table g reasons
 
 -- the goal that nodes say is posed again, in a table of its own, and these are its reasons by the rules of the program
 pub record AreReasonsOf (p : Program) (rs : List Resolved) (reasons : List Reason) : Type 0 where
@@ -46,7 +48,7 @@ pub record AreReasonsOf (p : Program) (rs : List Resolved) (reasons : List Reaso
   pub later : Extends p.cx.nodes posed_in
   pub posed : Posed
   pub poses : IsPosedLine p.mode p.env rs posed_in posed
-  pub has : HasReasons posed_in p.clauses posed.table posed.goal reasons
+  pub has : HasReasons posed_in (variances_in p.cx.declarations) p.clauses posed.table posed.goal reasons
 
 -- a line is written for each of the reasons of the goal that nodes say; where no candidate answers such a goal there is none, and else
 -- no line of an impl of its trait is without its reason

@@ -12,6 +12,7 @@ ghost use Rattle.nts_wording.specs.Growing.{Begins};
 ghost use Rattle.nts_wording.specs.Statuses.{is_refusal};
 ghost use Rattle.nts_program.specs.nts_declaring.specs.Heads.{HeadsFit};
 ghost use Rattle.nts_reasons.specs.Obeying.{trait_of, lines_for, IsNewExplainer, HasLines, DoesCommand, IsObeyed, Notes};
+ghost use Rattle.nts_terms.specs.Signatures.{variances_in};
 ghost use Rattle.nts_reasons.specs.Running.{is_yes, HasMoreTerms, HasReasons, AreReasonsOf, IsReasonedPut, IsTold};
 
 use nts_assembly::Assembly;
@@ -215,8 +216,8 @@ fn reasons_of(
     requires goal { HoldsGoal cx.old.nodes goal }
     requires declared { IsDeclaredPredicate cx.old.declarations
         (tree_at cx.old.nodes goal.predicate.node) }
-    ensures reasons { IfOk result (λ rs. HasReasons cx.old.nodes clauses.now table.old goal
-        rs.items) }
+    ensures reasons { IfOk result (λ rs. HasReasons cx.old.nodes
+        (variances_in cx.old.declarations) clauses.now table.old goal rs.items) }
     ensures holds { IfOk result (λ rs. All (HoldsReason cx.new.nodes) rs.items) }
     ensures grows { Grows cx.old cx.new }
 {

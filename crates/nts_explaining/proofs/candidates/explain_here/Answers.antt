@@ -52,4 +52,4 @@ returns-clause-reasons g c =
     let here = content_of-extended e.grows.extends o.goes.table.now in
     let offered : candidates_of d c.in_ok-candidates.candidates.items ≡ offers_of h (mode_of c.args.table.now.mode) b asked =
     e.offered ∙ ap (λ m. (g.H.GoalHandler.handler d c.args.handler.now).offers (mode_of m) (tree_at d asked.param_env.node) (tree_at d asked.predicate.node)) (c.typing_mode.ensures ∙ o.goes.mode) ∙ same.offers _ _ _ ∙ offers-kept h (mode_of c.args.table.now.mode) e.grows.extends posed.holds in
-    IfOk-map c.reasons_of.result (λ rs each. of_candidates b c.enter_forall.new.table asked opened (c.is_explained.ensures.0 c.if-not-is_explained.false) (rw (here, offered) at (rw c.deref.ensures.value at each))) c.reasons_of.ensures.each
+    IfOk-map c.reasons_of.result (λ rs each. of_candidates b c.enter_forall.new.table asked opened (c.is_explained.ensures.0 c.if-not-is_explained.false) (rw (here, offered, c.candidates.ensures.grows.extends.kept asked.param_env.node posed.holds.env.within, (let r = e.grows.rest in r.declarations) ∙ (let r = o.grows.rest in r.declarations), o.goes.mode) at (rw c.deref.ensures.value at each))) c.reasons_of.ensures.each

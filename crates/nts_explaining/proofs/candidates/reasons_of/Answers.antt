@@ -1,7 +1,11 @@
-use Rattle.std.proofs.Common.{[], refl, sym, ◌∙◌, subst, arith}
+use Rattle.std.proofs.Common.{[], refl, sym, ap, ◌∙◌, subst, arith}
 use Rattle.std.specs.Prelude.{All}
 use Rattle.std.proofs.lemmas.List.{take_all}
 use Rattle.std.proofs.lemmas.List.Elements.{All-nil, All-push}
+use Rattle.nts_store.specs.Growth.{tree_at}
+use Rattle.nts_terms.specs.Modes.{mode_of}
+use Rattle.nts_terms.specs.Signatures.{variances_in}
+use Rattle.nts_table.specs.Tables.{Table}
 use Rattle.nts_unify.specs.Reading.{content_of}
 use Rattle.nts_store.proofs.Growing.{Extends-refl}
 use Rattle.nts_terms.proofs.Moved.{KeepsRest-refl}
@@ -20,7 +24,7 @@ loop-candidate-init g c =
     record {
       same = refl;
       grows = record { extends = Extends-refl _; rest = KeepsRest-refl _ };
-      each = subst (ExplainsEach (content_of c.args.cx.now.nodes c.args.table.now.entries) []) (sym c.new-reasons.ensures.items) none;
+      each = subst (ExplainsEach (variances_in c.args.cx.now.declarations) (mode_of c.args.table.now.mode) (content_of c.args.cx.now.nodes c.args.table.now.entries) (tree_at c.args.cx.now.nodes c.args.goal.param_env.node) []) (sym c.new-reasons.ensures.items) none;
       holds = subst (All (HoldsReason c.args.cx.now.nodes)) (sym c.new-reasons.ensures.items) (All-nil _);
     }
 
@@ -47,11 +51,12 @@ loop-candidate-preserved g c =
     record {
       same = e.same ∙ i.same;
       grows = grown_more i.grows e.grows;
-      each = each_more c.args.goal c.args.candidates.now c.loop-candidate.candidate-index c.candidate-item.result c.loop-candidate.reasons.items c.push.new.self.items c.in_ok-reason.reason c.loop-candidate-test.true c.candidate-item.is i.grows.extends c.requires.posed.table i.same c.requires.candidates c.in_ok-push.ensures.items e.explains i.each;
+      each = each_more c.args.goal c.args.candidates.now c.loop-candidate.candidate-index c.candidate-item.result c.loop-candidate.reasons.items c.push.new.self.items c.in_ok-reason.reason c.loop-candidate-test.true c.candidate-item.is i.grows.extends c.requires.posed.table i.same c.requires.candidates c.in_ok-push.ensures.items (variances_in c.args.cx.now.declarations) (mode_of c.args.table.now.mode) (tree_at c.args.cx.now.nodes c.args.goal.param_env.node)
+          (rw (ap (λ (t : Table). t.mode) i.same, (let r = i.grows.rest in r.declarations), (let holds = c.requires.posed.holds in i.grows.extends.kept c.args.goal.param_env.node holds.env.within)) at e.explains) i.each;
       holds = subst (All (HoldsReason c.reason_of.new.cx.nodes)) (sym c.in_ok-push.ensures.items) (All-push (HoldsReason c.reason_of.new.cx.nodes) c.loop-candidate.reasons.items c.in_ok-reason.reason (all_later c.loop-candidate.reasons.items e.grows.extends i.holds) e.holds);
     }
 
 pub returns-clause-each : goal.returns-clause-each
 returns-clause-each g c =
     let i = c.loop-candidate.invariant in
-    subst (λ xs. ExplainsEach (content_of c.args.cx.now.nodes c.args.table.now.entries) (candidates_of c.args.cx.now.nodes xs) c.loop-candidate.reasons.items) (take_all c.loop-candidate.candidate-index c.args.candidates.now (omega (arith, c.loop-candidate-test.false))) i.each
+    subst (λ xs. ExplainsEach (variances_in c.args.cx.now.declarations) (mode_of c.args.table.now.mode) (content_of c.args.cx.now.nodes c.args.table.now.entries) (tree_at c.args.cx.now.nodes c.args.goal.param_env.node) (candidates_of c.args.cx.now.nodes xs) c.loop-candidate.reasons.items) (take_all c.loop-candidate.candidate-index c.args.candidates.now (omega (arith, c.loop-candidate-test.false))) i.each

@@ -9,6 +9,9 @@ use Rattle.nts_explaining.proofs.conditions.ask.Goals as goal
 pub returns-in_err-push : goal.returns-in_err-push
 returns-in_err-push g c = record { runs = Runs-refl {a = c.args.cx.now} c.requires.posed.table }
 
+pub returns-then-not-asks : goal.returns-then-not-asks
+returns-then-not-asks g c = record { runs = Runs-refl {a = c.args.cx.now} c.requires.posed.table }
+
 pub try_evaluate_goals-answer-requires-clause-posed : goal.try_evaluate_goals-answer-requires-clause-posed
 try_evaluate_goals-answer-requires-clause-posed g c =
     let one : c.push.new.self.items ≡ c.args.goal ∷ [] = first_of (cc, search rules) in

@@ -7,8 +7,8 @@ returns-in-Candidates c = (λ yes. asked_explained c.args.cx.now.nodes c.args.go
 
 pub returns-in-Alias : goal.returns-in-Alias
 returns-in-Alias c = (
-  λ yes. (let w = c.says_of_trait.ensures.0 yes in alias_explained c.args.cx.now.nodes c.args.table.now c.args.goal _ c.terms_are_formed.ensures c.requires c.in-Alias.ensures.0 c.in-Alias.ensures.1 w.0 w.1),
-  λ h. c.says_of_trait.ensures.1 (h.statement, h.no_alias),
+  λ yes. alias_explained c.args.cx.now.nodes c.args.table.now c.args.goal _ c.terms_are_formed.ensures c.requires c.in-Alias.ensures.0 c.in-Alias.ensures.1 (c.says_of_trait.ensures.0 yes),
+  λ h. c.says_of_trait.ensures.1 h.statement,
 )
 
 pub returns-in-Outlives : goal.returns-in-Outlives

@@ -16,7 +16,7 @@ pub returns-in-Ok-clause-reasons : goal.returns-in-Ok-clause-reasons
 returns-in-Ok-clause-reasons c =
     let now = c.goal_is_admitted.new.cx in
     let grows = c.in_ok-admitted.ensures.grows in
-    let gives = rw c.new-rules.ensures at c.in-Ok.ensures.reasons in
+    let gives = rw (c.new-rules.ensures, (let r = grows.rest in r.declarations)) at c.in-Ok.ensures.reasons in
     record {
       store = now.nodes;
       extends = grows.extends;

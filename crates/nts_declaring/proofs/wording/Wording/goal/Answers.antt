@@ -7,9 +7,14 @@ returns-in_ok-binder-in-Clause-Trait-clause-says g c =
 
 pub returns-in_ok-binder-in-Clause-TypeOutlives-clause-says : goal.returns-in_ok-binder-in-Clause-TypeOutlives-clause-says
 returns-in_ok-binder-in-Clause-TypeOutlives-clause-says g c =
-    on_ok c.outlives.result (λ h. Says-any (Says-more c.in_ok-binder-in-Clause-TypeOutlives.ensures.more) h) c.outlives.ensures.says
+    on_ok c.related.result (λ h. Says-any (Says-more c.in_ok-binder-in-Clause-TypeOutlives.ensures.more) h) c.related.ensures.says
 
 pub returns-in_ok-binder-in-Clause-RegionOutlives-clause-says : goal.returns-in_ok-binder-in-Clause-RegionOutlives-clause-says
 returns-in_ok-binder-in-Clause-RegionOutlives-clause-says g c =
-    let e = c.outlives-in-Clause-RegionOutlives in
+    let e = c.related-in-Clause-RegionOutlives in
     on_ok e.result (λ h. Says-any (Says-more c.in_ok-binder-in-Clause-RegionOutlives.ensures.more) h) e.ensures.says
+
+pub returns-in_ok-binder-in-AliasRelate-default-default-Equate-clause-says : goal.returns-in_ok-binder-in-AliasRelate-default-default-Equate-clause-says
+returns-in_ok-binder-in-AliasRelate-default-default-Equate-clause-says g c =
+    let e = c.related-in-AliasRelate-default-default-Equate in
+    on_ok e.result (λ h. Says-any (Says-more c.in_ok-binder-in-AliasRelate-default-default-Equate.ensures.more) h) e.ensures.says
