@@ -1,6 +1,6 @@
 #!/usr/bin/env bash
 # How deep goals may be nested on the machine's stack (`ulimit -s`). It proves and builds the program, and then looks for the
-# deepest goal of the form Clone(Vec(..Vec(u32)..)) that is answered, to 50 levels.
+# deepest goal of the form Clone(Vec(..Vec(u32)..)) that is answered.
 set -u
 here=$(cd "$(dirname "$0")" && pwd)
 cd "$here/../crates/nts" || exit 1
@@ -20,7 +20,7 @@ answers() {
 } 2> /dev/null
 low=0
 high=65000
-while [ $((high - low)) -gt 50 ]; do
+while [ $((high - low)) -gt 1 ]; do
     middle=$(((low + high) / 2))
     if answers "$middle"; then low=$middle; else high=$middle; fi
 done
