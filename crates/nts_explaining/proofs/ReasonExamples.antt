@@ -1,5 +1,5 @@
 -- What reasons say of candidates: what meets the definitions, and what does not.
-use Rattle.std.proofs.Common.{◌≡◌, inl, refl, sym, ap, arith, ℕ, List, [], ◌∷◌, length, length-append}
+use Rattle.std.proofs.Common.{◌≡◌, ◌+◌, inl, refl, sym, ap, arith, ℕ, List, [], ◌∷◌, length, length-append}
 use Rattle.std.proofs.Common.{inr, subst}
 use Rattle.nts_model.specs.declared.labels.Variance.{Variance}
 use Rattle.nts_model.specs.declared.labels.AliasRelationDirection.{AliasRelationDirection}
@@ -23,7 +23,7 @@ use Rattle.nts_candidates.specs.declared.reasons.Reason.{Reason}
 use Rattle.nts_candidates.specs.declared.reasons.Reason.TheVariants as reason
 use Rattle.nts_store.specs.Growth.{tree_at}
 use Rattle.nts_evaluation.specs.nts_meaning.specs.Evaluation.{IsAskedGoal}
-use Rattle.nts_explaining.specs.Explaining.{ExplainsPlainly, ExplainsRelated, ExplainsEach, CannotBegin, IsExplained}
+use Rattle.nts_explaining.specs.Explaining.{ExplainsPlainly, ExplainsRelated, ExplainsEach, CannotBegin, StopsAtRelating, IsExplained, first_part}
 use Rattle.nts_explaining.proofs.ToldGoals.{asked_explained, relates_no_trait}
 use Rattle.nts_explaining.specs.Explaining.ExplainsEach.{none, more}
 
@@ -71,3 +71,10 @@ no_other_doubt declared c env x sure mode outside (inr (inside, e)) = outside in
 nothing_stops : (declared : ℕ → List Variance) (c : Content) (x : Candidate) → HasPlainEquations x → IsCandidateMet c x → CannotBegin declared c x → ⊥
 nothing_stops declared c x plain met (inl unmet) = unmet (subst (IsCandidateMet c) (sym (plain_is x plain)) met)
 nothing_stops declared c x plain met (inr u) = u.some plain
+
+-- the first equation stops it if it can't be begun with it, and no equation with which it is begun does
+first_stops : (declared : ℕ → List Variance) (c : Content) (env : Tree) (x : Candidate) → CannotBegin declared c (first_part 1 x) → StopsAtRelating declared 0 c env x
+first_stops declared c env x h = record { within = λ some. some; before = inl refl; unbegun = h }
+
+begun_does_not_stop : (declared : ℕ → List Variance) (c : Content) (env : Tree) (x : Candidate) (n : ℕ) → HasPlainEquations (first_part (n + 1) x) → IsCandidateMet c (first_part (n + 1) x) → StopsAtRelating declared n c env x → ⊥
+begun_does_not_stop declared c env x n plain met s = nothing_stops declared c (first_part (n + 1) x) plain met s.unbegun

@@ -1,5 +1,5 @@
 -- The first equations of a candidate, begun alone, where some relate aliases.
-use Rattle.std.proofs.Common.{◌≡◌, inl, inr, ℕ, suc, ◌+◌, ◌-◌, ◌<◌, ◌≤◌, List, [], map, length, take, refl, sym, ap, ◌∙◌, subst, arith}
+use Rattle.std.proofs.Common.{◌≡◌, ◌⊎◌, inl, inr, ℕ, suc, ◌+◌, ◌-◌, ◌<◌, ◌≤◌, List, [], map, length, take, refl, sym, ap, ◌∙◌, subst, arith}
 use Rattle.std.proofs.lemmas.List.{take-map, take_all, length-map}
 use Rattle.nts_model.specs.declared.labels.Variance.{Variance}
 use Rattle.nts_model.specs.Terms.Trees.{Tree}
@@ -10,7 +10,7 @@ use Rattle.nts_model.specs.Derivations.Handlers.{Candidate}
 use Rattle.nts_model.specs.Refutation.Choosing.{IsCandidateMet}
 use Rattle.nts_theory.specs.RelatingCandidates.{HasPlainEquations, IsBegun, IsUnrelated, plain_part, plain_equations, aliased_equations}
 use Rattle.nts_theory.proofs.Refutation.PlainParts.{plain_is}
-use Rattle.nts_store.specs.Growth.{Extends}
+use Rattle.nts_store.specs.Growth.{Extends, tree_at}
 use Rattle.nts_unify.specs.Reading.{content_of}
 use Rattle.nts_unify.specs.Lawful.{content_of-extended}
 use Rattle.nts_table.specs.Tables.{Table, IsTable}
@@ -26,11 +26,12 @@ use Rattle.nts_candidates.specs.declared.reasons.Reason.{Reason}
 use Rattle.nts_candidates.specs.declared.reasons.Reason.TheVariants as reason
 use Rattle.nts_candidates.specs.Offered.{equation_of, candidate_of}
 use Rattle.nts_delegate.specs.Candidates.{IsCandidate}
+use Rattle.nts_evaluation.specs.nts_meaning.specs.Evaluation.{IsPosed}
 use Rattle.nts_evaluation.specs.nts_meaning.proofs.Running.{candidate-kept}
 use Rattle.nts_explaining.specs.declared.conditions.Outcome.{Outcome}
 use Rattle.nts_explaining.specs.declared.conditions.Outcome.TheVariants as outcome
 use Rattle.nts_explaining.specs.Asking.{IsWithin, IsReasonOf}
-use Rattle.nts_explaining.specs.Explaining.{CannotBegin, ExplainsRelated, StopsAtRelating, WasBegun, first_part}
+use Rattle.nts_explaining.specs.Explaining.{CannotBegin, IsBegunSo, ExplainsRelated, StopsAtRelating, WasBegun, first_part}
 use Rattle.nts_explaining.proofs.FirstEquations.{are_first}
 
 -- the first equations, with the constraints, are a candidate
@@ -91,22 +92,65 @@ whole_same {a} {b} {t} {u} {g} x e w h same =
     let declared : b.declarations ≡ a.declarations = (let r = e.rest in r.declarations) in
     λ i. CannotBegin (variances_in (declared i)) (here i) (kept i)
 
-pub relating_same : {a b : Cx} {t u : Table} {g : Goal} (x : CandidateData) (n : ℕ) → Grows a b → IsTable a.nodes t → IsCandidate a.nodes g x → u ≡ t
-    → StopsAtRelating (variances_in b.declarations) n (content_of b.nodes u.entries) (candidate_of b.nodes x) ≡ StopsAtRelating (variances_in a.declarations) n (content_of a.nodes t.entries) (candidate_of a.nodes x)
-relating_same {a} {b} {t} {u} {g} x n e w h same =
+pub relating_same : {a b : Cx} {t u : Table} {g : Goal} (x : CandidateData) (n : ℕ) → Grows a b → IsPosed a.nodes t g → IsCandidate a.nodes g x → u ≡ t
+    → StopsAtRelating (variances_in b.declarations) n (content_of b.nodes u.entries) (tree_at b.nodes g.param_env.node) (candidate_of b.nodes x) ≡ StopsAtRelating (variances_in a.declarations) n (content_of a.nodes t.entries) (tree_at a.nodes g.param_env.node) (candidate_of a.nodes x)
+relating_same {a} {b} {t} {u} {g} x n e posed h same =
+    let w = posed.table in
+    let holds = posed.holds in
+    let env : tree_at b.nodes g.param_env.node ≡ tree_at a.nodes g.param_env.node = (let up = e.extends in up.kept g.param_env.node holds.env.within) in
     let here : content_of b.nodes u.entries ≡ content_of a.nodes t.entries = ap (λ (z : Table). content_of b.nodes z.entries) same ∙ content_of-extended e.extends w.now in
     let kept : candidate_of b.nodes x ≡ candidate_of a.nodes x = candidate-kept {a = a.nodes} {b = b.nodes} {g = g} {d = x} e.extends h in
     let declared : b.declarations ≡ a.declarations = (let r = e.rest in r.declarations) in
-    λ i. StopsAtRelating (variances_in (declared i)) n (here i) (kept i)
+    λ i. StopsAtRelating (variances_in (declared i)) n (here i) (env i) (kept i)
+
+-- .. and that it is
+pub begun_same : {a b : Cx} {t u : Table} {g : Goal} (x : CandidateData) (n : ℕ) → Grows a b → IsPosed a.nodes t g → IsCandidate a.nodes g x → u ≡ t
+    → IsBegunSo (variances_in b.declarations) (content_of b.nodes u.entries) (tree_at b.nodes g.param_env.node) (first_part n (candidate_of b.nodes x)) ≡ IsBegunSo (variances_in a.declarations) (content_of a.nodes t.entries) (tree_at a.nodes g.param_env.node) (first_part n (candidate_of a.nodes x))
+begun_same {a} {b} {t} {u} {g} x n e posed h same =
+    let w = posed.table in
+    let holds = posed.holds in
+    let env : tree_at b.nodes g.param_env.node ≡ tree_at a.nodes g.param_env.node = (let up = e.extends in up.kept g.param_env.node holds.env.within) in
+    let here : content_of b.nodes u.entries ≡ content_of a.nodes t.entries = ap (λ (z : Table). content_of b.nodes z.entries) same ∙ content_of-extended e.extends w.now in
+    let kept : candidate_of b.nodes x ≡ candidate_of a.nodes x = candidate-kept {a = a.nodes} {b = b.nodes} {g = g} {d = x} e.extends h in
+    let declared : b.declarations ≡ a.declarations = (let r = e.rest in r.declarations) in
+    λ i. IsBegunSo (variances_in (declared i)) (here i) (env i) (first_part n (kept i))
 
 -- the equation at which it stops
-pub stops_relating : (declared : ℕ → List Variance) (c : Content) (x : Candidate) (count : ℕ) → 1 ≤ count → count < length x.equations → CannotBegin declared c (first_part count x) → StopsAtRelating declared (count - 1) c x
-stops_relating declared c x count some l h =
-    let next : count - 1 + 1 ≡ count = omega (arith, some) in
-    record { within = λ k. omega (arith, some, l); unbegun = subst (λ n. CannotBegin declared c (first_part n x)) (sym next) h }
+abbrev pub BegunBefore : (ℕ → List Variance) → Content → Tree → Candidate → ℕ → Type 0
+BegunBefore declared c e x count = (count ≡ 1) ⊎ IsBegunSo declared c e (first_part (count - 1) x)
 
-pub stops_at_last : (declared : ℕ → List Variance) (c : Content) (x : Candidate) (all n : ℕ) → all ≡ length x.equations → n ≡ all - 1 → CannotBegin declared c x → StopsAtRelating declared n c x
-stops_at_last declared c x all n e is h = record { within = λ k. omega (arith, e, is, k); unbegun = unbegun_whole declared c x (n + 1) (omega (arith, e, is)) h }
+pub stops_relating : (declared : ℕ → List Variance) (c : Content) (e : Tree) (x : Candidate) (count : ℕ) → 1 ≤ count → count < length x.equations → BegunBefore declared c e x count → CannotBegin declared c (first_part count x) → StopsAtRelating declared (count - 1) c e x
+stops_relating declared c e x count some l before h =
+    let next : count - 1 + 1 ≡ count = omega (arith, some) in
+    record {
+      within = λ k. omega (arith, some, l);
+      before = first_or before;
+      unbegun = subst (λ n. CannotBegin declared c (first_part n x)) (sym next) h;
+    }
+  where
+    first_or : BegunBefore declared c e x count → (count - 1 ≡ 0) ⊎ IsBegunSo declared c e (first_part (count - 1) x)
+    first_or (inl q) = inl (omega (arith, q))
+    first_or (inr m) = inr m
+
+-- all before the last one are begun, where the loop over them ends
+pub begun_last : (declared : ℕ → List Variance) (c : Content) (e : Tree) (x : Candidate) (count all : ℕ) → (count < all → ⊥) → (count ≤ 1) ⊎ (count ≤ all) → BegunBefore declared c e x count → (all ≤ 1) ⊎ IsBegunSo declared c e (first_part (all - 1) x)
+begun_last declared c e x count all end (inl l) before = inl (omega (arith, end, l))
+begun_last declared c e x count all end (inr l) (inl q) = inl (omega (arith, end, q))
+begun_last declared c e x count all end (inr l) (inr m) =
+    let same : count ≡ all = omega (arith, end, l) in
+    inr (subst (λ n. IsBegunSo declared c e (first_part (n - 1) x)) same m)
+
+pub stops_at_last : (declared : ℕ → List Variance) (c : Content) (e : Tree) (x : Candidate) (all n : ℕ) → all ≡ length x.equations → n ≡ all - 1 → (all ≤ 1) ⊎ IsBegunSo declared c e (first_part (all - 1) x) → CannotBegin declared c x → StopsAtRelating declared n c e x
+stops_at_last declared c e x all n many is before h =
+    record {
+      within = λ k. omega (arith, many, is, k);
+      before = first_or before;
+      unbegun = unbegun_whole declared c x (n + 1) (omega (arith, many, is)) h;
+    }
+  where
+    first_or : (all ≤ 1) ⊎ IsBegunSo declared c e (first_part (all - 1) x) → (n ≡ 0) ⊎ IsBegunSo declared c e (first_part n x)
+    first_or (inl l) = inl (omega (arith, is, l))
+    first_or (inr m) = inr (subst (λ k. IsBegunSo declared c e (first_part k x)) (sym is) m)
 
 -- what asking the goals that are left came to, as a reason
 pub related_explained : (declared : ℕ → List Variance) (mode : Mode) (a : List Tree) (c : Content) (e : Tree) (x : CandidateData) (w : WasBegun declared c e (candidate_of a x)) (n : ℕ) (o : Outcome) (r : Reason) → n ≡ length w.left → IsWithin n o → IsReasonOf x.certainty o r → ExplainsRelated declared mode c e (candidate_of a x) r

@@ -48,21 +48,26 @@ CannotBegin declared c x = (IsCandidateMet c (plain_part x) → ⊥) ⊎ IsUnrel
 abbrev pub first_part : ℕ → Candidate → Candidate
 first_part n x = record x { equations = take n x.equations; goals = []; certainty = certain }
 
--- with the equation of the number n and those before it the candidate can't be begun
-pub record StopsAtRelating (declared : ℕ → List Variance) (n : ℕ) (c : Content) (x : Candidate) : Type 0 where
-  pub within : 0 < length x.equations → n < length x.equations
-  pub unbegun : CannotBegin declared c (first_part (n + 1) x)
-
 -- a candidate was begun in the environment e, its equations with aliases by relating them, and these goals are left
 pub record WasBegun (declared : ℕ → List Variance) (c : Content) (e : Tree) (x : Candidate) : Type 0 where
   pub met : Content
   pub left : List Premise
   pub begun : IsBegunByRelating declared c e x met left
 
+-- .. or none of its equations relates aliases, and they are met
+abbrev pub IsBegunSo : (ℕ → List Variance) → Content → Tree → Candidate → Type 0
+IsBegunSo declared c e x = HasPlainEquations x × IsCandidateMet c x ⊎ WasBegun declared c e x
+
+-- with the equation of the number n and those before it the candidate can't be begun, and with those before it, if there are any, it is
+pub record StopsAtRelating (declared : ℕ → List Variance) (n : ℕ) (c : Content) (e : Tree) (x : Candidate) : Type 0 where
+  pub within : 0 < length x.equations → n < length x.equations
+  pub before : (n ≡ 0) ⊎ IsBegunSo declared c e (first_part n x)
+  pub unbegun : CannotBegin declared c (first_part (n + 1) x)
+
 -- what a reason says of a candidate of whose equations some relate aliases. A condition is one of the goals that are left; in coherence the
 -- candidate may be in doubt
 abbrev pub ExplainsRelated : (ℕ → List Variance) → Mode → Content → Tree → Candidate → Reason → Type 0
-ExplainsRelated declared mode c e x (reason.Equation n) = StopsAtRelating declared n c x
+ExplainsRelated declared mode c e x (reason.Equation n) = StopsAtRelating declared n c e x
 ExplainsRelated declared mode c e x (reason.Condition n g y) = (w : WasBegun declared c e x) × (n < length w.left)
 ExplainsRelated declared mode c e x reason.Leak = WasBegun declared c e x
 ExplainsRelated declared mode c e x (reason.Holds y) = WasBegun declared c e x × (certainty_of y ≡ x.certainty) ⊎ (mode ≡ coherence) × (y ≡ ambiguous)

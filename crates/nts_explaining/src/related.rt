@@ -1,5 +1,5 @@
 //! What candidates come to of whose equations some relate aliases.
-ghost use Rattle.std.specs.Prelude.{◌≡◌, ◌≤◌, length, take, Ok, IfOk, IfSome, IsNone, [], false};
+ghost use Rattle.std.specs.Prelude.{◌≡◌, ◌≤◌, length, take, Ok, IfOk, IfSome, IsNone, [], true, false};
 ghost use Rattle.nts_store.specs.Growth.{tree_at};
 ghost use Rattle.nts_terms.specs.Modes.{mode_of};
 ghost use Rattle.nts_terms.specs.Rest.{Grows};
@@ -14,7 +14,7 @@ ghost use Rattle.nts_delegate.specs.Candidates.{IsCandidate};
 ghost use Rattle.nts_candidates.specs.HeldReasons.{HoldsReason};
 ghost use Rattle.nts_candidates.specs.Offered.{candidate_of};
 ghost use Rattle.nts_evaluation.specs.nts_meaning.specs.Evaluation.{IsPosed, Runs};
-ghost use Rattle.nts_explaining.specs.Explaining.{CannotBegin, ExplainsRelated, StopsAtRelating, first_part};
+ghost use Rattle.nts_explaining.specs.Explaining.{CannotBegin, IsBegunSo, ExplainsRelated, StopsAtRelating, first_part};
 
 use crate::candidates::checked;
 use crate::conditions::ask_conditions;
@@ -133,7 +133,8 @@ fn unrelated_equation(
     ensures same { table.new ≡ table.old }
     ensures grows { Grows cx.old cx.new }
     ensures first { IfOk result (λ n. StopsAtRelating (variances_in cx.old.declarations) n
-        (content_of cx.old.nodes table.old.entries) (candidate_of cx.old.nodes candidate.now)) }
+        (content_of cx.old.nodes table.old.entries) (tree_at cx.old.nodes goal.param_env.node)
+        (candidate_of cx.old.nodes candidate.now)) }
 {
     let all = candidate.equations.len();
     for count in 1..all {
@@ -157,6 +158,9 @@ fn is_begun(
     requires within { count ≤ length candidate.now.equations.items }
     ensures same { table.new ≡ table.old }
     ensures grows { Grows cx.old cx.new }
+    ensures yes { result ≡ Ok true → IsBegunSo (variances_in cx.old.declarations)
+        (content_of cx.old.nodes table.old.entries) (tree_at cx.old.nodes goal.param_env.node)
+        (first_part count (candidate_of cx.old.nodes candidate.now)) }
     ensures no { result ≡ Ok false → CannotBegin (variances_in cx.old.declarations)
         (content_of cx.old.nodes table.old.entries)
         (first_part count (candidate_of cx.old.nodes candidate.now)) }
@@ -178,9 +182,13 @@ fn begins(
     requires posed { IsPosed cx.old.nodes table.old goal }
     requires candidate { IsCandidate cx.old.nodes goal candidate.now }
     ensures runs { Runs cx.old cx.new table.old table.new }
+    ensures yes { result ≡ Ok true → IsBegunSo (variances_in cx.old.declarations)
+        (content_of cx.old.nodes table.old.entries) (tree_at cx.old.nodes goal.param_env.node)
+        (candidate_of cx.old.nodes candidate.now) }
     ensures no { result ≡ Ok false → CannotBegin (variances_in cx.old.declarations)
         (content_of cx.old.nodes table.old.entries) (candidate_of cx.old.nodes candidate.now) }
 {
+    cx.terms_are_formed();
     if needs_relating(cx, goal, candidate) {
         return match begin_relating(table, cx, goal, candidate) {
             Ok(_) => Ok(true),

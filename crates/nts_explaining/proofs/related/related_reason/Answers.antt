@@ -33,4 +33,4 @@ pub returns-clause-explains : goal.returns-clause-explains
 returns-clause-explains g c =
     let e = c.try_relating-tried.ensures in
     let same = rolled_back c.in_ok-snapshot.ensures.saved e.runs.goes c.rollback_to.ensures.saved c.in_ok-snapshot.ensures.mode c.rollback_to.ensures.mode in
-    subst (λ M. M) (relating_same c.args.candidate.now _ (ran e.runs) c.requires.posed.table c.requires.candidate same) c.in_ok-number.ensures.first
+    subst (λ M. M) (relating_same c.args.candidate.now _ (ran e.runs) c.requires.posed c.requires.candidate same) c.in_ok-number.ensures.first
