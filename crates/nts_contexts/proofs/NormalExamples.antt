@@ -1,5 +1,5 @@
 -- What normalizing a term in a context comes to, by example.
-use Rattle.std.proofs.Common.{◌≡◌, refl, sym, subst, inl, ◌+◌, List, [], ◌∷◌, ◌++◌, map, length, ap, ◌∙◌, arith, ◌≤◌, ◌<◌, Option, None, Some, Ok}
+use Rattle.std.proofs.Common.{◌≡◌, refl, sym, subst, inl, ◌+◌, List, [], ◌∷◌, ◌++◌, map, length, ap, ◌∙◌, arith, ◌≤◌, ◌<◌, Option, None, Some, Ok, false}
 use Rattle.std.proofs.lemmas.List.{length-append}
 use Rattle.nts_model.specs.Terms.Trees.{Tree}
 use Rattle.nts_store.specs.declared.nodes.NodeId.{NodeId}
@@ -33,6 +33,10 @@ use Rattle.nts_terms.specs.Modes.{mode_of}
 use Rattle.nts_evaluation.specs.nts_meaning.specs.Telling.{Refused}
 use Rattle.nts_evaluation.specs.nts_trying.specs.Stepping.{AreLeft, none_left, is_left}
 use Rattle.nts_theory.specs.Telling.Reaches.{asks_nothing}
+use Rattle.nts_certainty.specs.Certainties.{ambiguous}
+use Rattle.nts_evaluation.specs.nts_trying.specs.declared.steps.AvailableDepth.TheVariants as available
+use Rattle.nts_evaluation.specs.Counting.{AsksOnce, AsksEach}
+use Rattle.nts_evaluation.specs.Counting.MakesSteps.{no_step, then_steps}
 use Rattle.nts_contexts.specs.Contexts.{content_in, tree_in}
 
 -- what is put behind a list and is not empty makes another list
@@ -84,8 +88,9 @@ no_fault o P e = subst (λ z. IfSome z P) (sym e) tt
 
 -- where the goals were asked in one step, which left them all in doubt and found nothing out, the answer is the variable itself
 pub normal_in_doubt : {H : Type 0} {ready : List Tree → H → Type 0} {R : Rules} {a m b : EvalCtxt H} {env : ParamEnv} {x v : NodeId} → HasBegun ready a m env x v → b.cx.now ≡ m.cx.now → b.table.now ≡ m.table.now → b.state.now.nested_goals.items ≡ m.state.now.nested_goals.items
+    → Always R m.cx.now (λ s. AsksEach (AsksOnce (ruling_since R.handler s) m.table.now.mode (available.Root m.state.now.root_depth)) (m.cx.now, m.table.now) m.state.now.nested_goals.items (m.cx.now, m.table.now) m.state.now.nested_goals.items false)
     → b.state.now.last_steps ≡ 1 → 0 < m.cx.now.step_limit → deeply_resolved (content_in m) (tree_in m v) ≡ tree_in m v → Normalizes ready R a b env x v
-normal_in_doubt {a = a} {m = m} {b = b} {x = x} {v = v} begun store table goals steps some itself =
+normal_in_doubt {R = R} {a = a} {m = m} {b = b} {x = x} {v = v} begun store table goals asked steps some itself =
     let here : content_in b ≡ content_in m = (λ i. content_of (let c : Cx = store i in c.nodes) (let t : Table = table i in t.entries)) in
     let tree : tree_in b v ≡ tree_in m v = (λ i. (let c : Cx = store i in tree_at c.nodes v)) in
     record {
@@ -100,7 +105,14 @@ normal_in_doubt {a = a} {m = m} {b = b} {x = x} {v = v} begun store table goals 
       is = tree ∙ sym itself ∙ ap (λ c. deeply_resolved c (tree_in m v)) (sym here) ∙ ap (deeply_resolved (content_in b)) (sym tree);
       told = λ s. rw here asks_nothing;
       steps = rw steps some;
-      counted = λ l. rw steps (omega arith);
+      counts = λ s. record {
+        between = b;
+        answer = Ok ambiguous;
+        counts = (false, rw (steps, store, table, goals) (then_steps no_step (asked s)), inl refl);
+        steps = refl;
+        left = refl;
+        table = refl;
+      };
     }
 
 -- .. and where one of the goals is refused at once, there is no answer

@@ -1,6 +1,6 @@
 -- What normalizing a term in a context comes to.
 use Rattle.std.proofs.Common.{◌≡◌, List, Option, None, sym, ap, subst, ◌∙◌}
-use Rattle.std.specs.Prelude.{◌<◌, ◌≤◌, IfOk, IfSome, IsErrAnd, Result, Ok, Err}
+use Rattle.std.specs.Prelude.{◌≤◌, IfOk, IfSome, IsErrAnd, Result, Ok, Err}
 use Rattle.nts_model.specs.Terms.Trees.{Tree, Place, NodeKind, kind_of, any_term}
 use Rattle.nts_model.specs.Tables.Resolving.{Knows, deeply_resolved}
 use Rattle.nts_store.specs.declared.fault.Fault.{Fault}
@@ -23,7 +23,7 @@ use Rattle.nts_contexts.specs.declared.context.EvalCtxt.{EvalCtxt}
 use Rattle.nts_nested_goals.specs.declared.state.EvalState.{EvalState}
 use Rattle.nts_contexts.specs.Contexts.{IsContextReady, KeepsContext, content_in, tree_in}
 use Rattle.nts_nested_goals.specs.Faults.{fault_after}
-use Rattle.nts_contexts.specs.Promises.{EvaluatesAdded, ReachesAdded, RefusesOneAdded}
+use Rattle.nts_contexts.specs.Promises.{EvaluatesAdded, ReachesAdded, RefusesOneAdded, CountsAdded}
 use Rattle.nts_terms.specs.Modes.{mode_of}
 use Rattle.nts_evaluation.specs.nts_meaning.specs.Evaluation.{goals_at}
 use Rattle.nts_evaluation.specs.nts_meaning.specs.Telling.{Reaches}
@@ -68,16 +68,16 @@ no_fault : (o : Option Fault) (P : Fault → Type 0) → o ≡ None → IfSome o
 no_fault o P e = subst (λ z. IfSome z P) (sym e) tt
 
 -- what an answer to the goals of a context rests on
-pub record WasAsked {H : Type 0} (R : Rules) (m n : EvalCtxt H) : Type 0 where
+pub record WasAsked {H : Type 0} (R : Rules) (m n : EvalCtxt H) (y : Certainty) : Type 0 where
   pub told : Always R m.cx.now (λ s. ReachesAdded (ruling_since R.handler s) m n)
   pub steps : m.state.now.fault ≡ None → n.state.now.last_steps ≤ m.cx.now.step_limit
-  pub counted : m.state.now.fault ≡ None → 0 < m.cx.now.step_limit → 0 < n.state.now.last_steps
+  pub counts : Always R m.cx.now (λ s. m.state.now.fault ≡ None → CountsAdded (ruling_since R.handler s) m n (let answered : Result Certainty EvalError = Ok y in answered))
 
 -- the goals were evaluated, and the variable was read in a store that has grown
 pub normalized : {H : Type 0} {ready : List Tree → H → Type 0} {a m n b : EvalCtxt H} (R : Rules) (env : ParamEnv) (x v : NodeId) (y : Certainty) (r : NodeId)
     → HasBegun ready a m env x v → IsContextReady ready m → KeepsContext ready m n → EvaluatesAdded R m n (let answered : Result Certainty EvalError = Ok y in answered)
     → Extends n.cx.now.nodes b.cx.now.nodes → b.table.now ≡ n.table.now → b.state.now.nested_goals.items ≡ n.state.now.nested_goals.items → IsSide any_term n.cx.now.nodes n.table.now v
-    → tree_in b r ≡ deeply_resolved (content_in n) (tree_in n v) → WasAsked R m n → b.state.now.last_steps ≡ n.state.now.last_steps → Normalizes ready R a b env x r
+    → tree_in b r ≡ deeply_resolved (content_in n) (tree_in n v) → WasAsked R m n y → b.state.now.last_steps ≡ n.state.now.last_steps → Normalizes ready R a b env x r
 normalized {H} {ready} {a} {m} {n} {b} R env x v y r h w k e up table goals side is asked last =
     let same : content_in b ≡ content_in n = ap (λ z. content_of b.cx.now.nodes z.entries) table ∙ content_of-extended up k.is_ready.table.now in
     let here : Goes n.cx.now.nodes b.cx.now.nodes n.table.now b.table.now = subst (Goes n.cx.now.nodes b.cx.now.nodes n.table.now) (sym table) (Goes-extends k.is_ready.table up) in
@@ -93,14 +93,14 @@ normalized {H} {ready} {a} {m} {n} {b} R env x v y r h w k e up table goals side
       is = is ∙ ap (λ c. deeply_resolved c (tree_in n v)) (sym same) ∙ ap (deeply_resolved (content_in b)) (sym (up.kept v side.holds.within));
       told = λ s. subst (Reaches (ruling_since R.handler s) (mode_of m.table.now.mode) (goals_at m.cx.now.nodes m.state.now.nested_goals.items) (content_in m)) (sym same) (asked.told s);
       steps = rw last (asked.steps h.sound);
-      counted = λ some. rw last (asked.counted h.sound some);
+      counts = λ s. record { between = n; answer = Ok y; counts = asked.counts s h.sound; steps = last; left = goals; table = table };
     }
 
 -- .. whatever that reading came to
 pub normal_of : {H : Type 0} {ready : List Tree → H → Type 0} {a m n : EvalCtxt H} (b : EvalCtxt H) (R : Rules) (env : ParamEnv) (x v : NodeId) (y : Certainty) (r asked : Result Term EvalError) → asked ≡ r
     → KeepsContext ready m n → HasBegun ready a m env x v → EvaluatesAdded R m n (let answered : Result Certainty EvalError = Ok y in answered)
     → Extends n.cx.now.nodes b.cx.now.nodes → b.table.now ≡ n.table.now → b.state.now.nested_goals.items ≡ n.state.now.nested_goals.items → IsSide any_term n.cx.now.nodes n.table.now v
-    → IfOk r (λ z. tree_in b z.node ≡ deeply_resolved (content_in n) (tree_in n v)) → WasAsked R m n → b.state.now.last_steps ≡ n.state.now.last_steps → IfOk asked (λ z. Normalizes ready R a b env x z.node)
+    → IfOk r (λ z. tree_in b z.node ≡ deeply_resolved (content_in n) (tree_in n v)) → WasAsked R m n y → b.state.now.last_steps ≡ n.state.now.last_steps → IfOk asked (λ z. Normalizes ready R a b env x z.node)
 normal_of {H} {ready} {a} {m} {n} b R env x v y (Ok r) asked same k h e up table goals side is was last =
     subst (λ z. IfOk z (λ w. Normalizes ready R a b env x w.node)) (sym same) (normalized R env x v y r.node h h.keeps.is_ready k e up table goals side is was last)
 normal_of {H} {ready} {a} {m} {n} b R env x v y (Err r) asked same k h e up table goals side is was last =

@@ -1,5 +1,5 @@
 -- Terms that are normalized in a context.
-use Rattle.std.specs.Prelude.{◌≡◌, ◌<◌, ◌≤◌, List, None, Result, Ok}
+use Rattle.std.specs.Prelude.{◌≡◌, ◌≤◌, List, None, Result, Ok}
 use Rattle.nts_model.specs.Terms.Trees.{Tree, kind_of}
 use Rattle.nts_model.specs.Derivations.Handlers.{Handler}
 use Rattle.nts_model.specs.Tables.Resolving.{deeply_resolved}
@@ -12,7 +12,7 @@ use Rattle.nts_evaluation.specs.nts_meaning.specs.Meant.{Rules, Always, rules_of
 use Rattle.nts_contexts.specs.declared.context.EvalCtxt.{EvalCtxt}
 use Rattle.nts_nested_goals.specs.Related.{AddsEqualToNew}
 use Rattle.nts_contexts.specs.Contexts.{KeepsContext, content_in, tree_in}
-use Rattle.nts_contexts.specs.Promises.{EvaluatesAdded, ReachesAdded, RefusesOneAdded}
+use Rattle.nts_contexts.specs.Promises.{EvaluatesAdded, ReachesAdded, RefusesOneAdded, CountsBefore}
 
 -- two trees are both types, both consts, or of another kind both
 abbrev pub AreOfOneKind : Tree → Tree → Type 0
@@ -36,10 +36,10 @@ pub record Normalizes {H : Type 0} (ready : List Tree → H → Type 0) (R : Rul
   pub begun : HasBegun ready a between env x variable
   pub evaluates : EvaluatesAdded R between b (let answered : Result NodeId EvalError = Ok r in answered)
   pub is : tree_in b r ≡ deeply_resolved (content_in b) (tree_in b variable)
-  -- it rests on what was asked, in one step at least and no more than the store allows
+  -- it rests on what was asked, in as many steps as are counted, and no more than the store allows
   pub told : Always R between.cx.now (λ s. ReachesAdded (ruling_since R.handler s) between b)
   pub steps : b.state.now.last_steps ≤ between.cx.now.step_limit
-  pub counted : 0 < between.cx.now.step_limit → 0 < b.state.now.last_steps
+  pub counts : Always R between.cx.now (λ s. CountsBefore (ruling_since R.handler s) between b)
 
 -- an alias is asked to be equal to a new variable, and a goal of the context is refused
 pub record RefusesNormal {H : Type 0} (ready : List Tree → H → Type 0) (R : Rules) (a : EvalCtxt H) (env : ParamEnv) (x : NodeId) : Type 0 where

@@ -9,6 +9,7 @@ use Rattle.nts_store.specs.declared.nodes.NodeId.{NodeId}
 use Rattle.nts_store.specs.declared.fault.EvalError.{EvalError}
 use Rattle.nts_store.specs.declared.fault.EvalError.TheVariants as error
 use Rattle.nts_store.specs.Errors.{error_of}
+use Rattle.nts_certainty.specs.declared.certainty.Certainty.{Certainty}
 use Rattle.nts_certainty.specs.declared.sources.GoalSource.{GoalSource}
 use Rattle.nts_terms.specs.declared.handles.Goal.{Goal}
 use Rattle.nts_terms.specs.declared.handles.ParamEnv.{ParamEnv}
@@ -17,6 +18,8 @@ use Rattle.nts_solver_relating.specs.Sides.{ArePlainIn, AreMadeEqualIn, AreUnrel
 use Rattle.nts_evaluation.specs.nts_meaning.specs.Meant.{Rules, Always, IsProvedSince, ReachesBy}
 use Rattle.nts_evaluation.specs.nts_trying.specs.Stopping.{RefusesAmong}
 use Rattle.nts_evaluation.specs.nts_trying.specs.Stepping.{AreLeft, AreSettled}
+use Rattle.nts_evaluation.specs.nts_trying.specs.declared.steps.AvailableDepth.TheVariants as available
+use Rattle.nts_evaluation.specs.Counting.{AsksOnce, CountsSteps}
 use Rattle.nts_contexts.specs.declared.context.EvalCtxt.{EvalCtxt}
 use Rattle.nts_contexts.specs.Contexts.{KeepsContext, EvaluatedNothing, IsGoalOfContext, content_in}
 use Rattle.nts_nested_goals.specs.Faults.{fault_after}
@@ -28,6 +31,21 @@ ReachesAdded h a b = ReachesBy h a.table.now.mode a.cx.now.nodes a.table.now b.c
 
 abbrev pub RefusesOneAdded : {H : Type 0} → Ruling → EvalCtxt H → Type 0
 RefusesOneAdded h a = RefusesAmong h a.table.now.mode a.cx.now.nodes (content_in a) a.state.now.nested_goals.items
+
+-- they were asked in as many steps as it counts, each of them once in each step as long as it is left; and each step but the last found
+-- something out
+abbrev pub CountsAdded : {H X : Type 0} → Ruling → EvalCtxt H → EvalCtxt H → Result X EvalError → Type 0
+CountsAdded h a b r =
+    CountsSteps (AsksOnce h a.table.now.mode (available.Root a.state.now.root_depth)) a.cx.now.step_limit (a.cx.now, a.table.now) a.state.now.nested_goals.items b.state.now.last_steps (b.cx.now, b.table.now) b.state.now.nested_goals.items r
+
+-- .. and then no goal was asked any more
+pub record CountsBefore {H : Type 0} (h : Ruling) (a b : EvalCtxt H) : Type 0 where
+  pub between : EvalCtxt H
+  pub answer : Result Certainty EvalError
+  pub counts : CountsAdded h a between answer
+  pub steps : b.state.now.last_steps ≡ between.state.now.last_steps
+  pub left : b.state.now.nested_goals.items ≡ between.state.now.nested_goals.items
+  pub table : b.table.now ≡ between.table.now
 
 -- the goals that were added to the context are evaluated in steps: some are left, and each other one is proved
 pub record EvaluatesAdded {H : Type 0} {X : Type 0} (R : Rules) (a b : EvalCtxt H) (r : Result X EvalError) : Type 0 where

@@ -1,5 +1,5 @@
 //! Goals of a context are evaluated.
-ghost use Rattle.std.specs.Prelude.{◌<◌, ◌≡◌, ◌≤◌, ◌⊎◌, true, false, [], None, Ok, Err, IfOk};
+ghost use Rattle.std.specs.Prelude.{◌≡◌, ◌≤◌, ◌⊎◌, true, false, [], None, Ok, Err, IfOk};
 ghost use Rattle.nts_table.specs.Tables.{IsTable};
 ghost use Rattle.nts_terms.specs.Rest.{Grows};
 ghost use Rattle.nts_unify.specs.Reading.{content_of};
@@ -10,7 +10,7 @@ ghost use Rattle.nts_evaluation.specs.nts_meaning.specs.Answering.{told_in};
 ghost use Rattle.nts_evaluation.specs.nts_meaning.specs.Meant.{rules_of, ruling_since, Always};
 ghost use Rattle.nts_nested_goals.specs.Faults.{fault_after, tainted_after};
 ghost use Rattle.nts_contexts.specs.Contexts.{IsContextReady, KeepsContext, content_in};
-ghost use Rattle.nts_contexts.specs.Promises.{EvaluatesAdded, ReachesAdded, RefusesOneAdded};
+ghost use Rattle.nts_contexts.specs.Promises.{EvaluatesAdded, ReachesAdded, RefusesOneAdded, CountsAdded, CountsBefore};
 
 use crate::context::EvalCtxt;
 use nts_certainty::Certainty;
@@ -34,8 +34,10 @@ impl<H: GoalHandler> EvalCtxt<'_, H> {
             self.old self.new result }
         ensures steps { self.old.state.now.fault ≡ None →
             self.new.state.now.last_steps ≤ self.old.cx.now.step_limit }
-        ensures counted { self.old.state.now.fault ≡ None → 0 < self.old.cx.now.step_limit →
-            0 < self.new.state.now.last_steps }
+        ensures counts { Always (rules_of H.ready H.handler self.old.handler.now) self.old.cx.now
+            (λ s. self.old.state.now.fault ≡ None →
+            CountsAdded (ruling_since (λ ts. H.handler ts self.old.handler.now) s) self.old self.new
+            result) }
         ensures sure { result ≡ Ok certainty.Yes → self.new.state.now.nested_goals.items ≡ [] }
         ensures told { Always (rules_of H.ready H.handler self.old.handler.now) self.old.cx.now
             (λ s. ReachesAdded (ruling_since (λ ts. H.handler ts self.old.handler.now) s) self.old
@@ -87,6 +89,10 @@ impl<H: GoalHandler> EvalCtxt<'_, H> {
             self.old.state.now.is_tainted ≡ true → result ≡ Err EvalError.NoSolution }
         ensures steps { self.old.state.now.fault ≡ None → self.old.state.now.is_tainted ≡ false →
             self.new.state.now.last_steps ≤ self.old.cx.now.step_limit }
+        ensures counts { Always (rules_of H.ready H.handler self.old.handler.now) self.old.cx.now
+            (λ s. self.old.state.now.fault ≡ None → self.old.state.now.is_tainted ≡ false →
+            CountsBefore (ruling_since (λ ts. H.handler ts self.old.handler.now) s) self.old
+            self.new) }
         ensures told { Always (rules_of H.ready H.handler self.old.handler.now) self.old.cx.now
             (λ s. ReachesAdded (ruling_since (λ ts. H.handler ts self.old.handler.now) s) self.old
             self.new) }

@@ -29,7 +29,7 @@ use Rattle.nts_meaning.specs.Evaluation.{IsPosed}
 use Rattle.nts_meaning.specs.Running.{StaysProved}
 use Rattle.nts_meaning.proofs.Running.{term_table}
 use Rattle.nts_trying.specs.Fast.{IsFastAnswer}
-use Rattle.nts_evaluation.specs.Promises.{AnsweredAtOnce}
+use Rattle.nts_evaluation.specs.Counting.{AnsweredAtOnce}
 
 -- the goal o of the later store b is the goal g of the store a, as the table knows it
 pub record IsReadAs (a b : Cx) (t : Table) (g o : Goal) : Type 0 where

@@ -11,6 +11,8 @@ mod AnswerExamples
 pub mod Deciding
 mod DecidedSteps
 mod AskedSteps
+mod Entered
+pub mod Counted
 mod DecidedCandidates
 mod DecidedTrials
 mod DecidedQueries

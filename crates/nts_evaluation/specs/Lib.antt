@@ -1,3 +1,4 @@
+pub mod Counting
 pub mod Deciding
 pub mod Promises
 pub mod Skipping

@@ -1,6 +1,6 @@
 -- What the calls of an evaluation promise: one record for each family of calls.
 use Rattle.std.specs.Global.{Box}
-use Rattle.std.specs.Prelude.{◌≡◌, ◌⊎◌, ℕ, ◌<◌, ◌≤◌, List, Option, Result, Err, ◌≢◌, [], ◌∷◌, ◌+◌, Bool, true, false, Ok, IfOk, IfSome, OnOk, OnErr, IsTrue}
+use Rattle.std.specs.Prelude.{◌≡◌, ◌⊎◌, ℕ, ◌<◌, ◌≤◌, List, length, Option, Result, Err, ◌≢◌, [], ◌∷◌, ◌+◌, Bool, true, false, Ok, IfOk, IfSome, OnOk, OnErr, IsTrue}
 use Rattle.nts_model.specs.Lists.{Among}
 use Rattle.nts_model.specs.Terms.Trees.{Tree}
 use Rattle.nts_model.specs.Tables.Contents.{Content}
@@ -26,9 +26,9 @@ use Rattle.nts_model.specs.Canonical.Inputs.{canonical_of, IsInput}
 use Rattle.nts_canonical.specs.Building.{kinds_of}
 use Rattle.nts_response.specs.declared.types.Response.{Response}
 use Rattle.nts_response.specs.Forms.{response_at}
-use Rattle.nts_candidates.specs.Offered.{path_kind_of, candidate_of, certainty_of}
+use Rattle.nts_candidates.specs.Offered.{path_kind_of, candidate_of}
 use Rattle.nts_search.specs.declared.stack.SearchGraph.{SearchGraph}
-use Rattle.nts_meaning.specs.Meant.{Since, Rules, Always, meaning_since, ruling_since, IsQueryTold, IsQueryRefuted, AreOffered, HoldsSince, IsServedSince, IsProvedNow, IsProvedFromSince, IsNestedSince, EvaluatesGoal, IsRefusedIn, EvaluatesUnder, IsRefusedUnder, IsTold, IsRefuted, HaveOutcomes, CandidatesTell, RepliesWith, FailsIn, HasRunTo, ReachesBy, ReachesAsked, RefusesOneAsked}
+use Rattle.nts_meaning.specs.Meant.{Since, Rules, Always, meaning_since, ruling_since, IsQueryTold, IsQueryRefuted, AreOffered, HoldsSince, IsServedSince, IsProvedNow, IsProvedFromSince, IsNestedSince, EvaluatesGoal, IsRefusedIn, IsRefusedUnder, IsTold, IsRefuted, HaveOutcomes, CandidatesTell, RepliesWith, FailsIn, HasRunTo, ReachesBy, ReachesAsked, RefusesOneAsked}
 use Rattle.nts_meaning.specs.Searching.{Searches, HeadsTell, IsCut, assumed_in, IsHeadAnswer, IsAnswerTold, IsGoalCut}
 use Rattle.nts_meaning.specs.Answering.{IsAnswerTo, IfAnswered, IfCertain, IfSure, is_yes, verdict_at}
 use Rattle.nts_model.specs.Tables.Passing.{BringsOnly}
@@ -47,6 +47,7 @@ use Rattle.nts_trying.specs.declared.steps.Step.{Step}
 use Rattle.nts_meaning.specs.declared.round.Round.{Round}
 use Rattle.nts_meaning.specs.declared.round.Ended.{Ended}
 use Rattle.nts_trying.specs.Found.{Found}
+use Rattle.nts_evaluation.specs.Counting.{AnsweredAtOnce, AsksOrSkips, AsksOnce, AsksEach, CountsSteps}
 use Rattle.nts_evaluation.specs.Deciding.{IsQueryDecided, IsOwnSettled, CanDecide, IsBelow, IsAsBefore, Decides, IsYes, IsYesUnchanged, IsOwnYes, IsRoundDecided, IsRootQuery, AreRootValues, CandidatesSettled, IsSettled, GoalsSettled, IsQueryAtFirst, IsFactHere, IsPlainCandidate, ArePlainCandidates, IsOverIfSilent, IsFactForm, IsRoundYes}
 use Rattle.nts_decisions.specs.Deciding.{IsGoalDecided}
 use Rattle.nts_trying.specs.Stopping.{StopsIn}
@@ -85,8 +86,8 @@ IsAnswered (Err e) = ⊥
 pub record AnswersQuery (R : Rules) (a b : Cx) (g h : SearchGraph) (input : CanonicalInput) (step : PathKind) (depth : ℕ) (r : Result (Box (Canonical Response)) EvalError) : Type 0 where
   pub grows : Grows a b
   pub searches : Searches a b g h
-  -- a round was counted, where the input did not stand on the stack
-  pub counted : HasNoInput a.nodes g input → 0 < a.round_limit → IsAnswered r → 0 < h.most_rounds
+  -- a round was counted, where the input did not stand on the stack; and that it stood there beside the others
+  pub counted : HasNoInput a.nodes g input → 0 < a.round_limit → IsAnswered r → (0 < h.most_rounds) × (length g.stack.items < h.most_inputs)
   -- the answer can be applied wherever such an input is asked
   pub fits : IfAnswered r (IsAnswerTo b.nodes (kinds_of input))
   -- a certain one is derived from what is assumed
@@ -116,11 +117,6 @@ pub record AsksGoal (R : Rules) (a b : Cx) (g h : SearchGraph) (t u : Table) (go
   -- at the root: where one candidate without goals decides the goal of its query, and it is not refused, it is answered yes
   pub facts : WhereTold R a g (λ m. (IsInput (input_of a.nodes t.entries goal []) → IsFactForm m.handler (mode_of t.mode) (canonical_of (input_of a.nodes t.entries goal []))) → (IsRefusedIn m t.mode a.nodes t goal → ⊥) → g.stack.items ≡ [] → CanDecide m.handler a g 0 (depth + 1) → Decides true r (λ e. IsYes e.certainty) g h)
 
--- a goal of a table, as the table knows it, is answered so at once: the store has fast paths, and the handler's says so
-pub record AnsweredAtOnce (h : Handler) (a : Cx) (t : Table) (g : Goal) (c : Certainty) : Type 0 where
-  pub on : a.disable_fast_paths ≡ false
-  pub answers : (let k = content_of a.nodes t.entries in h.at_once (deeply_resolved k (tree_at a.nodes g.param_env.node)) (deeply_resolved k (tree_at a.nodes g.predicate.node)) (certainty_of c))
-
 -- .. as the table knows it; or not at all, where it is answered at once, or no depth is left for it: then the overflow is marked
 pub record AsksAdded (R : Rules) (a b : Cx) (g h : SearchGraph) (t u : Table) (goal : Goal) (step : PathKind) (depth : AvailableDepth) (r : Result Evaluated EvalError) : Type 0 where
   pub runs : Runs a b t u
@@ -129,7 +125,7 @@ pub record AsksAdded (R : Rules) (a b : Cx) (g h : SearchGraph) (t u : Table) (g
   pub labels : OnOk r (BringsOnlyOf (asked_terms a.nodes goal) a t b u)
   pub proved : Always R a (λ s. IfSure r (IsProvedFromSince R.handler s t.mode (assumed_behind step b h) b.nodes u goal))
   pub marks : Always R a (λ s. bound_of depth ≡ 0 → IfOk r (λ e. IsTrue h.has_overflowed ⊎ AnsweredAtOnce (R.handler s.base) a t goal e.certainty))
-  pub told : WhereTold R a g (λ m. IfOk r (λ e. EvaluatesUnder m t.mode a.nodes t b.nodes u goal e.certainty e.has_changed ⊎ ((bound_of depth ≡ 0) ⊎ AnsweredAtOnce m.handler a t goal e.certainty) × (u.entries ≡ t.entries)))
+  pub told : WhereTold R a g (λ m. IfOk r (AsksOrSkips m t.mode depth a t b u goal))
   pub refuted : WhereTold R a g (λ m. r ≡ Err error.NoSolution → IsRefusedUnder m t.mode a.nodes t goal ⊎ (let c = content_of a.nodes t.entries in IsGoalCut a.nodes g c t.mode (deeply_resolved c (tree_at a.nodes goal.param_env.node)) (deeply_resolved c (tree_at a.nodes goal.predicate.node)) step))
   pub decided : AnswersDecided R a g h (bound_of depth) (λ m n b. IsBelow n (λ k. (let c = content_of a.nodes t.entries in IsGoalDecided m (mode_of t.mode) k (deeply_resolved c (tree_at a.nodes goal.param_env.node)) (deeply_resolved c (tree_at a.nodes goal.predicate.node)) b))) r IsYesUnchanged
 
@@ -139,6 +135,7 @@ pub record EndsRound (R : Rules) (a b : Cx) (g h : SearchGraph) (asked : Round) 
   pub searches : Searches a b g h
   pub entry : IfOk r (λ z. (z.value.entry.input ≡ asked.input) × (z.value.entry.step_kind ≡ step) × (z.value.entry.provisional ≡ asked.provisional))
   pub fits : IfOk r (λ z. IsHeadAnswer b.nodes (kinds_of asked.input) z.value.answer)
+  pub entered : IfOk r (λ z. length g.stack.items < h.most_inputs)
   pub proved : Always R a (λ s. IfOk r (λ z. IfSome z.value.answer (λ x. x.value.certainty ≡ certainty.Yes → IsDerivedFrom (meaning_since R.handler s) (mode_of asked.input.typing_mode)
       (assumptions (entry_at b.nodes z.value.entry ∷ entries_at b.nodes h)) (answer_sequent (form_of a.nodes asked.input) (response_at b.nodes x)))))
   pub told : WhereTold R a g (λ m. IsAnswerTold m (mode_of asked.input.typing_mode) a.nodes (form_of a.nodes asked.input) asked.provisional
@@ -283,7 +280,8 @@ pub record StepsGoals (R : Rules) (a b : Cx) (g h : SearchGraph) (t u : Table) (
   pub runs : Runs a b t u
   pub searches : Searches a b g h
   pub steps : n ≤ a.step_limit
-  pub counted : 0 < a.step_limit → 0 < n
+  -- the steps that were made, each asking each goal that was left once, in order
+  pub counts : WhereTold R a g (λ m. CountsSteps (AsksOnce m t.mode depth) a.step_limit (a, t) given n (b, u) gone r)
   pub posed : ArePosed b.nodes u gone
   pub left : AreLeft given gone
   pub labels : OnOk r (BringsOnlyOf (terms_of a.nodes given) a t b u)
@@ -303,6 +301,7 @@ pub record StepsOnce (R : Rules) (a b : Cx) (g h : SearchGraph) (t u : Table) (g
   pub proved : Always R a (λ s. IfOk r (λ z. AreSettled (IsNestedSince R.handler s t.mode (goal_kind_of kind) (assumed_in b.nodes h) b.nodes u) given z.left.items))
   pub sure : IfOk r (λ z. z.certainty ≡ certainty.Yes → z.left.items ≡ [])
   pub told : WhereTold R a g (λ m. ReachesBy m t.mode a.nodes t b.nodes u given)
+  pub asked : WhereTold R a g (λ m. IfOk r (λ z. AsksEach (AsksOnce m t.mode depth) (a, t) given (b, u) z.left.items z.has_changed))
   pub refuted : WhereTold R a g (λ m. r ≡ Err error.NoSolution → StopsIn g kind m t.mode a.nodes (content_of a.nodes t.entries) given)
   -- goals that are decided are certain after one step, which finds nothing out
   pub decided : AnswersDecided R a g h (bound_of depth) (λ m i k. GoalsSettled m t.mode i a.nodes t given k) r (λ z. (z.certainty ≡ certainty.Yes) × (z.has_changed ≡ false))

@@ -37,7 +37,8 @@ pub fn evaluate_input<H: GoalHandler>(
     requires input { IsQueryInput cx.old.nodes input }
     requires ready { H.ready cx.old.nodes handler.now }
     ensures searches { Searches cx.old cx.new graph.old graph.new }
-    ensures counted { IfOk result (λ _. 0 < cx.old.round_limit → 0 < graph.new.most_rounds) }
+    ensures counted { IfOk result (λ _. 0 < cx.old.round_limit →
+        (0 < graph.new.most_rounds) × (0 < graph.new.most_inputs)) }
     ensures grows { Grows cx.old cx.new }
     ensures fits { IfOk result (λ o. IfSome o (IsAnswerTo cx.new.nodes (kinds_of input))) }
     ensures proved { (let h = H.handler cx.old.nodes handler.now in IfOk result (λ o. IfSome o (λ r.

@@ -1,4 +1,4 @@
-use Rattle.std.proofs.Common.{ℕ, Bool, ◌<◌, ◌≡◌, ◌+◌, ◌*◌, ◌≤◌, take, drop, map, [], true}
+use Rattle.std.proofs.Common.{ℕ, Bool, ◌<◌, ◌≡◌, ◌+◌, ◌*◌, ◌≤◌, take, drop, map, length, [], true}
 use Rattle.std.specs.Prelude.{All}
 use Rattle.nts_model.specs.Tables.Passing.{BringsOnly}
 use Rattle.nts_unify.specs.Reading.{content_of}
@@ -13,6 +13,7 @@ use Rattle.nts_terms.specs.Modes.{mode_of}
 use Rattle.nts_trying.specs.Found.{Found}
 use Rattle.nts_trying.specs.Stepping.{ArePosed, AreLeft, AreSettled, terms_of, bound_of}
 use Rattle.nts_meaning.specs.Evaluation.{Runs}
+use Rattle.nts_evaluation.specs.Counting.{AsksOnce, AsksEach, MakesSteps}
 use Rattle.nts_evaluation.specs.Promises.{WhereTold}
 use Rattle.nts_evaluation.specs.Deciding.{IsQueryDecided, IsBelow, CanDecide, IsAsBefore, AreRootValues, CandidatesSettled, GoalsSettled, IsQueryAtFirst, ArePlainCandidates, IsOverIfSilent, IsFactForm}
 use Rattle.nts_evaluation.proofs.DecidedCandidates.{AreSoFar, Anything}
@@ -83,7 +84,7 @@ abbrev pub invariant-evaluate_rounds-loop-round : goal.invariant-evaluate_rounds
 invariant-evaluate_rounds-loop-round g l = record {
   grows : Grows l.fn.cx l.cx;
   searches : Searches l.fn.cx l.cx l.fn.graph l.graph;
-  counted : 0 < l.round → 0 < l.graph.most_rounds;
+  counted : 0 < l.round → (0 < l.graph.most_rounds) × (length l.fn.graph.stack.items < l.graph.most_inputs);
   input : l.asked.value.input ≡ l.fn.input.value;
   fits : IsHeadAnswer l.cx.nodes (kinds_of l.fn.input.value) l.asked.value.provisional;
   told : WhereTold (rules_of g.H.GoalHandler.ready g.H.GoalHandler.handler l.handler) l.fn.cx l.fn.graph (λ m. IsAnswerTold m (mode_of l.fn.input.value.typing_mode) l.cx.nodes (form_of l.fn.cx.nodes l.fn.input.value) l.asked.value.provisional);
@@ -116,6 +117,7 @@ invariant-try_evaluate_goals-loop-step g l = record {
   searches : Searches l.fn.cx l.cx l.fn.graph l.graph;
   steps : l.last_steps ≤ l.fn.cx.step_limit;
   counted : l.last_steps ≡ l.step;
+  counts : WhereTold (rules_of g.H.GoalHandler.ready g.H.GoalHandler.handler l.handler) l.fn.cx l.fn.graph (λ m. MakesSteps (AsksOnce m l.fn.table.mode l.depth) (l.fn.cx, l.fn.table) l.fn.goals.items l.step (l.cx, l.table) l.goals.items true);
   posed : ArePosed l.cx.nodes l.table l.goals.items;
   left : AreLeft l.fn.goals.items l.goals.items;
   labels : BringsOnly (terms_of l.fn.cx.nodes l.fn.goals.items) (content_of l.fn.cx.nodes l.fn.table.entries) (content_of l.cx.nodes l.table.entries);
@@ -136,6 +138,7 @@ invariant-evaluate_step-loop-added g l = record {
   proved : Always (rules_of g.H.GoalHandler.ready g.H.GoalHandler.handler l.handler) l.fn.cx (λ s. AreSettled (IsNestedSince (λ ts. g.H.GoalHandler.handler ts l.handler) s l.fn.table.mode (goal_kind_of l.fn.kind) (assumed_in l.cx.nodes l.graph) l.cx.nodes l.table) (take l.added-index l.goals) l.step.left.items);
   sure : l.step.certainty ≡ certainty.Yes → l.step.left.items ≡ [];
   told : WhereTold (rules_of g.H.GoalHandler.ready g.H.GoalHandler.handler l.handler) l.fn.cx l.fn.graph (λ m. ReachesBy m l.fn.table.mode l.fn.cx.nodes l.fn.table l.cx.nodes l.table l.goals);
+  asked : WhereTold (rules_of g.H.GoalHandler.ready g.H.GoalHandler.handler l.handler) l.fn.cx l.fn.graph (λ m. AsksEach (AsksOnce m l.fn.table.mode l.depth) (l.fn.cx, l.fn.table) (take l.added-index l.goals) (l.cx, l.table) l.step.left.items l.step.has_changed);
   decided : Always (rules_of g.H.GoalHandler.ready g.H.GoalHandler.handler l.handler) l.fn.cx (λ s. (n : ℕ) (b : Bool) → GoalsSettled (g.H.GoalHandler.handler s.base l.handler) l.fn.table.mode n l.fn.cx.nodes l.fn.table l.goals b
       → CanDecide (g.H.GoalHandler.handler s.base l.handler) l.fn.cx l.fn.graph n (bound_of l.depth)
       → IsStepSoFar (g.H.GoalHandler.handler s.base l.handler) n l.fn.cx.nodes l.fn.table (drop l.added-index l.goals) b l.step l.fn.graph l.graph);

@@ -55,4 +55,5 @@ returns-in-Err-NoSolution-clause-none g c = λ here q.
 pub returns-in-Ok-clause-counted : goal.returns-in-Ok-clause-counted
 returns-in-Ok-clause-counted g c = λ limit.
     let none = empty_stack c.args.graph.now c.requires.search in
-    c.in-Ok.ensures.counted (nothing_stands c.args.cx.now.nodes c.args.graph.now _ none) limit tt
+    let both = c.in-Ok.ensures.counted (nothing_stands c.args.cx.now.nodes c.args.graph.now _ none) limit tt in
+    (both.0, omega (arith, both.1))

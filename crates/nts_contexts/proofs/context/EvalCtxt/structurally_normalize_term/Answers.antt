@@ -64,7 +64,7 @@ returns-clause-normal g c = λ _.
     (keeps_grown c.add_equal-begun.new.state _ g.met.H.GoalHandler.ready_kept c.requires.ready refl refl refl refl r.runs c.note.ensures.fault r.posed c.in_ok-check.ensures.ok k.taint k.depth)
     answered r.adds c.note.ensures.fault k.fault c.in_ok-check.ensures.ok)
     e.evaluates c.resolved-value.ensures.grows.extends refl (ap (λ (z : EvalState). z.nested_goals.items) c.note-2.ensures.fault) side c.resolved-value.ensures.tree
-    (record { told = e.told; steps = e.steps; counted = e.counted }) (ap (λ (z : EvalState). z.last_steps) c.note-2.ensures.fault)
+    (record { told = e.told; steps = e.steps; counts = e.counts }) (ap (λ (z : EvalState). z.last_steps) c.note-2.ensures.fault)
 
 pub returns-clause-kind : goal.returns-clause-kind
 returns-clause-kind g c =

@@ -32,6 +32,7 @@ use Rattle.nts_certainty.specs.declared.certainty.Certainty.TheVariants as certa
 use Rattle.nts_table.specs.TableLaws.{IsTable-extended}
 use Rattle.nts_decisions.proofs.UnchangedAnswers.{own_granted}
 use Rattle.nts_evaluation.specs.Deciding.{CanDecide, IsRoundDecided}
+use Rattle.nts_evaluation.proofs.Entered.{is_entered, entered_before}
 use Rattle.nts_evaluation.proofs.Deciding.{decides_grown, decides_later, same_search, then_same}
 use Rattle.nts_evaluation.proofs.DecidedTrials.{formed_before}
 use Rattle.nts_evaluation.proofs.DecidedQueries.{its_kinds, decided_there}
@@ -148,6 +149,9 @@ evaluate_round-returns g t c =
       searches =
           let popped = search_popped {a = c.args.cx.now} {b = c.query_table.new.cx} {c = c.compute_goal-response.new.cx} {g = c.args.graph.now} {h = c.push_query.new.graph} {i = c.compute_goal-response.new.graph} {j = c.end_round.new.graph} own off.0 c.in_ok-push_query.ensures.pushed.1 c.push_query.ensures.rest c.compute_goal-response.ensures.searches taken.popped taken.kept taken.rest in
           popped.searches;
+      entered =
+          let pushed = search_pushed c.args.depth c.args.asked.value.input c.args.step c.args.asked.value.provisional c.requires.search k.grows c.requires.input c.requires.provisional c.in_ok-push_query.ensures.pushed c.in_ok-push_query.ensures.kept c.push_query.ensures.rest in
+          IfOk-map c.end_round.result (λ w ends. is_entered c.args.depth c.args.graph.now c.end_round.new.graph own pushed c.in_ok-push_query.ensures.pushed.1 c.compute_goal-response.ensures.searches taken.rest) c.end_round.ensures.answer;
       entry =
           let popped = search_popped {a = c.args.cx.now} {b = c.query_table.new.cx} {c = c.compute_goal-response.new.cx} {g = c.args.graph.now} {h = c.push_query.new.graph} {i = c.compute_goal-response.new.graph} {j = c.end_round.new.graph} own off.0 c.in_ok-push_query.ensures.pushed.1 c.push_query.ensures.rest c.compute_goal-response.ensures.searches taken.popped taken.kept taken.rest in
           ended_entry own off.0 c.end_round.result popped.entry off.2;
@@ -259,7 +263,7 @@ evaluate_rounds-loop-round-preserved g t c =
     record {
       grows = grown i.grows e.grows;
       searches = Searches-trans noted e.searches;
-      counted = λ some. round_counted c.loop-round.graph c.note_round.new.self (c.loop-round.round + 1) c.note_round.ensures (omega arith) e.searches;
+      counted = λ some. (round_counted c.loop-round.graph c.note_round.new.self (c.loop-round.round + 1) c.note_round.ensures (omega arith) e.searches, entered_before c.args.graph.now noted e.entered);
       input = ap (λ (y : Round). y.input) next ∙ e.entry.0 ∙ i.input;
       fits = subst (λ (y : Round). IsHeadAnswer c.evaluate_round.new.cx.nodes (kinds_of c.args.input.value) y.provisional) (sym next) fits;
       told = λ s tells.
@@ -300,7 +304,7 @@ evaluate_rounds-returns-then-round_is_last g t c =
     record {
       grows = grown c.loop-round.invariant.grows c.in_ok-ended.ensures.grows;
       searches = Searches-trans noted e.searches;
-      counted = λ none limit answered. round_counted c.loop-round.graph c.note_round.new.self (c.loop-round.round + 1) c.note_round.ensures (omega arith) e.searches;
+      counted = λ none limit answered. (round_counted c.loop-round.graph c.note_round.new.self (c.loop-round.round + 1) c.note_round.ensures (omega arith) e.searches, entered_before c.args.graph.now noted e.entered);
       fits = last_fits c.in_ok-ended.ended.value.answer c.last_answer.result c.last_answer.ensures.some c.last_answer.ensures.none z (kinds_of c.args.input.value) fits;
       proved = λ s.
           let m = meaning_since (λ ts. g.H.GoalHandler.handler ts c.args.handler.now) s in

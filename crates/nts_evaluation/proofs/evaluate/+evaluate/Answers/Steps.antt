@@ -31,6 +31,9 @@ use Rattle.nts_store.specs.declared.fault.EvalError.TheVariants as EvalError
 use Rattle.std.specs.Result.{is_err}
 use Rattle.std.proofs.lemmas.Result.{IfOk-from_err}
 use Rattle.nts_evaluation.proofs.evaluate.+evaluate.Goals.{search-then-graph, search-else-graph}
+use Rattle.nts_evaluation.specs.Counting.AsksEach.{asks_none}
+use Rattle.nts_evaluation.specs.Counting.MakesSteps.{no_step, then_steps}
+use Rattle.nts_evaluation.proofs.Counted.{asked_more, counts_broken, is_on, is_off}
 use Rattle.nts_evaluation.proofs.Deciding.{decides_fault, decides_error, decides_then, decides_later, same_search, then_same}
 use Rattle.nts_evaluation.proofs.Fast.{IsReadAs, answered_at_once, asked_at_once, stays_at_once, decided_so}
 use Rattle.nts_evaluation.proofs.DecidedSteps.{next_goal, at_end, step_decided}
@@ -90,7 +93,7 @@ evaluate_added-returns-in-Some g t c =
           let here = stays_at_once (g.H.GoalHandler.handler s.base c.args.handler.now) s.variances (mode_of c.args.table.now.mode) _ law.at_once c.terms_are_formed.ensures p asked (rw sure at y.answers) in
           rw (up.kept c.args.goal.param_env.node p.holds.env.within, up.kept c.args.goal.predicate.node p.holds.predicate.within, content_of-extended up p.table.now) here);
       marks = λ s e. inr (answered s.base s.is_ready s.extends);
-      told = λ s tells. inr (inr (answered s.base s.is_ready s.extends), refl);
+      told = λ s tells. inr (inr (answered s.base s.is_ready s.extends), refl, refl);
       refuted = search rules;
       decided = λ s n b d can.
           (let law = g.met.H.GoalHandler.lawful s.base c.args.handler.now s.formed s.is_ready in
@@ -110,7 +113,7 @@ evaluate_added-returns-in-None g t c =
       labels = only_same _ up p.table refl;
       proved = search rules;
       marks = λ s e. inl refl;
-      told = λ s tells. inr (inl (c.next.ensures.too_deep.0 (search rules)), refl);
+      told = λ s tells. inr (inl (c.next.ensures.too_deep.0 (search rules)), refl, refl);
       refuted = search rules;
       decided = λ s n b d can. absurd (let none = c.next.ensures.too_deep.0 (search rules) in omega (arith, none, can.deep, d.1));
     }
@@ -167,6 +170,7 @@ evaluate_step-loop-added-init g t c = record {
   proved = λ s y i. absurd i;
   sure = λ y. c.new-step.ensures.left;
   told = λ s tells. asks_nothing;
+  asked = λ s tells. rw (c.new-step.ensures.left, c.new-step.ensures.unchanged) asks_none;
   decided = λ s n b here can. record { rest = here.decided; left = c.new-step.ensures.left; certain = c.new-step.ensures.certainty; unchanged = c.new-step.ensures.unchanged; search = same_search _ };
 }
 
@@ -191,6 +195,7 @@ evaluate_step-loop-added-preserved g t c =
           (settled_proved (assumed_in c.loop-added.cx.nodes c.loop-added.graph) (assumed_in c.evaluate_added.new.cx.nodes c.evaluate_added.new.graph) (λ ts. g.H.GoalHandler.handler ts c.args.handler.now) s c.args.table.now.mode (goal_kind_of c.args.kind) gs c.loop-added.step.left.items c.loop-added.added-index d c.in_ok-answer.answer.certainty at c.requires.posed i.runs.goes.extends e.runs.goes covers (rw (i.runs.goes.mode, c.step_kind_for_source-kind.ensures) at (e.proved (Since-later (ran i.runs) s))) (i.proved s));
       sure = λ y. n.left ∙ sure_more c.loop-added.step.certainty c.in_ok-answer.answer.certainty c.loop-added.step.left.items (get_or gs c.loop-added.added-index d) i.sure (sym n.certainty ∙ y);
       told = λ s tells. reach_more c.loop-added.table (ruling_since (λ ts. g.H.GoalHandler.handler ts c.args.handler.now) s) c.args.table.now.mode gs (get_or gs c.loop-added.added-index d) c.requires.posed there i.runs.goes.extends (i.told s tells) c.evaluate_added.new.table i.runs.goes.table e.runs.goes.extends (rw i.runs.goes.mode at (e.told (Since-later (ran i.runs) s) (heads_tell_later (ruling_since (λ ts. g.H.GoalHandler.handler ts c.args.handler.now) s) (bound_of c.args.depth) c.requires.search i.runs.goes.extends i.searches tells)));
+      asked = λ s tells. asked_more gs c.loop-added.added-index d c.in_ok-answer.answer at (i.asked s tells) (rw i.runs.goes.mode at (e.told (Since-later (ran i.runs) s) (heads_tell_later (ruling_since (λ ts. g.H.GoalHandler.handler ts c.args.handler.now) s) (bound_of c.args.depth) c.requires.search i.runs.goes.extends i.searches tells))) n.left n.changed;
       decided = λ s m b here can.
           let before = i.decided s m b here can in
           let next = next_goal (g.H.GoalHandler.handler s.base c.args.handler.now) m gs b c.loop-added.added-index d i.runs.goes c.requires.posed here at before.rest in
@@ -216,6 +221,7 @@ evaluate_step-returns g t c =
       proved = λ s. rw (take_all c.loop-added.added-index c.args.goals.now c.loop-added-test.false) at (c.loop-added.invariant.proved s);
       sure = search rules;
       told = search rules;
+      asked = λ s tells. rw (take_all c.loop-added.added-index c.args.goals.now c.loop-added-test.false) at (c.loop-added.invariant.asked s tells);
       refuted = search rules;
       decided = λ s m b here can.
           let x = c.loop-added.invariant.decided s m b here can in
@@ -235,6 +241,7 @@ evaluate_step-returns-in_err-answer g t c =
       proved = λ s. IfOk-from_err c.from_residual.result _ fails;
       sure = IfOk-from_err c.from_residual.result _ fails;
       told = λ s tells. reach_still c.args.cx.now.nodes c.args.table.now c.loop-added.table (ruling_since (λ ts. g.H.GoalHandler.handler ts c.args.handler.now) s) c.args.table.now.mode c.args.goals.now c.evaluate_added.ensures.runs.goes.extends i.runs.goes.table (after_error c.evaluate_added.result c.evaluate_added.ensures.err (search rules)) (i.told s tells);
+      asked = λ s tells. IfOk-from_err c.from_residual.result _ fails;
       refuted = λ s tells n.
           let h = ruling_since (λ ts. g.H.GoalHandler.handler ts c.args.handler.now) s in
           let refused : c.evaluate_added.result ≡ Err EvalError.NoSolution = search rules in
@@ -263,6 +270,7 @@ evaluate_step-returns-in_err-note g t c =
           let i = c.loop-added.invariant in
           let e = c.in_ok-answer.ensures in
           reach_more c.loop-added.table (ruling_since (λ ts. g.H.GoalHandler.handler ts c.args.handler.now) s) c.args.table.now.mode c.args.goals.now _ c.requires.posed (among_get c.args.goals.now c.loop-added.added-index _ c.loop-added-test.true) i.runs.goes.extends (i.told s tells) c.evaluate_added.new.table i.runs.goes.table e.runs.goes.extends (rw i.runs.goes.mode at (e.told (Since-later (ran i.runs) s) (heads_tell_later (ruling_since (λ ts. g.H.GoalHandler.handler ts c.args.handler.now) s) (bound_of c.args.depth) c.requires.search i.runs.goes.extends i.searches tells)));
+      asked = λ s tells. IfOk-from_err c.from_residual-in_err-note.result _ fails;
       refuted = search rules;
       decided = λ s m b here can. decides_fault c.from_residual-in_err-note.result fails (search rules);
     }
@@ -293,6 +301,7 @@ try_evaluate_goals-loop-step-init g t c = record {
   searches = Searches-refl (bound_of c.args.depth) c.requires.search (record { extends = Extends-refl _; rest = KeepsRest-refl _ });
   steps = omega arith;
   counted = refl;
+  counts = λ s tells. no_step;
   posed = c.requires.posed;
   left = left_refl _;
   labels = only-refl _ _;
@@ -311,6 +320,7 @@ try_evaluate_goals-loop-step-preserved g t c =
       searches = Searches-trans i.searches e.searches;
       steps = omega (arith, c.loop-step-test.true, c.step_limit-step-end.ensures);
       counted = refl;
+      counts = λ s tells. then_steps (i.counts s tells) (rw (i.runs.goes.mode, c.deref.ensures.value, is_on c.in_ok-stepped.stepped.has_changed c.if-not-stepped.false) at (c.in_ok-stepped.ensures.asked (Since-later (ran i.runs) s) (heads_tell_later (ruling_since (λ ts. g.H.GoalHandler.handler ts c.args.handler.now) s) (bound_of c.args.depth) c.requires.search i.runs.goes.extends i.searches tells)));
       posed = e.posed;
       left = left_trans i.left (rw c.deref.ensures.value at e.left);
       labels = only-trans i.labels (only_left c.args.goals.now.items c.loop-step.goals.items i.runs.goes.extends c.requires.posed i.left (rw c.deref.ensures.value at e.labels));
@@ -336,7 +346,7 @@ try_evaluate_goals-returns g t c =
       runs = i.runs;
       searches = i.searches;
       steps = i.steps;
-      counted = λ limit. (let all = i.counted in omega (arith, limit, all, c.loop-step-test.false, c.step_limit-step-end.ensures));
+      counts = λ s tells. (true, rw i.counted (i.counts s tells), inr (let all = i.counted in omega (arith, all, i.steps, c.loop-step-test.false, c.step_limit-step-end.ensures)));
       posed = i.posed;
       left = i.left;
       labels = i.labels;
@@ -355,7 +365,7 @@ try_evaluate_goals-returns-in_err-stepped g t c =
       runs = Runs-trans c.loop-step.invariant.runs c.evaluate_step.ensures.runs;
       searches = Searches-trans c.loop-step.invariant.searches c.evaluate_step.ensures.searches;
       steps = search rules;
-      counted = λ limit. omega arith;
+      counts = λ s tells. counts_broken c.args.cx.now.step_limit _ c.from_residual.result fails refl (i.counts s tells);
       posed = posed_later c.loop-step.goals.items c.evaluate_step.ensures.runs.goes c.loop-step.invariant.posed;
       left = c.loop-step.invariant.left;
       labels = IfOk-from_err c.from_residual.result _ fails;
@@ -382,7 +392,7 @@ try_evaluate_goals-returns-then-not-stepped g t c =
       runs = Runs-trans c.loop-step.invariant.runs c.in_ok-stepped.ensures.runs;
       searches = Searches-trans c.loop-step.invariant.searches c.in_ok-stepped.ensures.searches;
       steps = search rules;
-      counted = λ limit. omega arith;
+      counts = λ s tells. (false, then_steps (i.counts s tells) (rw (i.runs.goes.mode, c.deref.ensures.value, is_off c.in_ok-stepped.stepped.has_changed c.if-not-stepped.true) at (c.in_ok-stepped.ensures.asked (Since-later (ran i.runs) s) (heads_tell_later (ruling_since (λ ts. g.H.GoalHandler.handler ts c.args.handler.now) s) (bound_of c.args.depth) c.requires.search i.runs.goes.extends i.searches tells))), inl refl);
       posed = search rules;
       left = left_trans i.left (rw c.deref.ensures.value at c.in_ok-stepped.ensures.left);
       labels = only-trans i.labels (only_left c.args.goals.now.items c.loop-step.goals.items i.runs.goes.extends c.requires.posed i.left (rw c.deref.ensures.value at c.in_ok-stepped.ensures.labels));

@@ -1,0 +1,23 @@
+-- An input that is evaluated stands on the stack meanwhile, which is counted.
+use Rattle.std.proofs.Common.{◌≡◌, ℕ, ◌<◌, ◌≤◌, ◌+◌, List, [], ◌∷◌, ◌++◌, length, length-append, ap, arith}
+use Rattle.nts_terms.specs.declared.cx.Cx.{Cx}
+use Rattle.nts_search.specs.declared.stack.SearchGraph.{SearchGraph}
+use Rattle.nts_search.specs.declared.stack.StackEntry.{StackEntry}
+use Rattle.nts_search.specs.Searching.{KeepsRestOfGraph}
+use Rattle.nts_meaning.specs.Searching.{IsSearch, Searches, AreLater}
+use Rattle.nts_meaning.proofs.Searching.{later_long}
+
+-- the entry y was put on the stack of g, where the search went on
+pub is_entered : {b c : Cx} {h i : SearchGraph} (n : ℕ) (g j : SearchGraph) (y : StackEntry) → IsSearch b h n → h.stack.items ≡ g.stack.items ++ y ∷ [] → Searches b c h i → KeepsRestOfGraph i j → length g.stack.items < j.most_inputs
+is_entered n g j y s pushed up down =
+    let k = s.stack in
+    let counted = k.counted in
+    let long = ap (length {A = StackEntry}) pushed in
+    let grown = length-append g.stack.items (y ∷ []) in
+    let more = up.more_inputs in
+    let rest = down.most_inputs in
+    omega (arith, counted, long, grown, more, rest)
+
+-- .. which had as many entries as an earlier one
+pub entered_before : {a b : Cx} {h : SearchGraph} {n : ℕ} (g : SearchGraph) → Searches a b g h → length h.stack.items < n → length g.stack.items < n
+entered_before {h = h} g s l = (let long = later_long g.stack.items h.stack.items s.later in omega (arith, long, l))
