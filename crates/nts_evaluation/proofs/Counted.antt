@@ -28,6 +28,11 @@ pub asked_more : {X : Type 0} {Asks : X → X → GoalSource × Goal → Evaluat
 asked_more {found} {new} gs i d e at before now left changed =
     rw (take_more gs i d at, left, found_more found new e.has_changed changed) (then_asks (get_or gs i d) e before now)
 
+-- what a goal that is asked once, or not at all, does to its table
+pub reached : {A D E F : Type 0} → A ⊎ D × E × F → A ⊎ D × E
+reached (inl x) = inl x
+reached (inr (skipped, same, unchanged)) = inr (skipped, same)
+
 pub is_on : (b : Bool) → not b ≡ false → b ≡ true
 is_on true e = refl
 is_on false e = absurd (cc e)

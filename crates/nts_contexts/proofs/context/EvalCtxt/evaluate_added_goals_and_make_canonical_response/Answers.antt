@@ -106,3 +106,21 @@ returns-clause-told g c = λ s.
     let m = c.checked_response-response.ensures in
     let h = e.keeps.is_ready in
     rw (← content_of-extended m.grows.extends h.table.now) at (e.told s)
+
+-- no goal is asked after the steps
+pub returns-in_err-goals_certainty-clause-counts : goal.returns-in_err-goals_certainty-clause-counts
+returns-in_err-goals_certainty-clause-counts g c = λ s none clear.
+    let e = c.try_evaluate_added_goals.ensures in
+    record { between = c.try_evaluate_added_goals.new.self; answer = c.try_evaluate_added_goals.result; counts = e.counts s none; steps = refl; left = refl; table = refl }
+
+pub returns-clause-counts : goal.returns-clause-counts
+returns-clause-counts g c = λ s none clear.
+    let e = c.in_ok-goals_certainty.ensures in
+    record {
+      between = c.try_evaluate_added_goals.new.self;
+      answer = Ok c.in_ok-goals_certainty.goals_certainty;
+      counts = e.counts s none;
+      steps = ap (λ (z : EvalState). z.last_steps) c.end_answer.ensures.state;
+      left = ap (λ (z : EvalState). z.nested_goals.items) c.end_answer.ensures.state;
+      table = refl;
+    }

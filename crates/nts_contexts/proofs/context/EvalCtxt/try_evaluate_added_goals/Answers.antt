@@ -53,3 +53,13 @@ returns-clause-refuted g c = λ s no.
     let self = c.args.self.now in
     subst (RefusesAmong (ruling_since (λ ts. g.H.GoalHandler.handler ts self.handler.now) s) self.table.now.mode self.cx.now.nodes (content_of self.cx.now.nodes self.table.now.entries)) c.take_goals-goals.ensures.goals
     (stopped_root c.new-graph.result kinds.Misc c.new-graph.ensures.empty (run.refuted s told refused))
+
+-- the steps of the search that was begun
+pub returns-clause-counts : goal.returns-clause-counts
+returns-clause-counts g c = λ s none.
+    let run = c.try_evaluate_goals-evaluated.ensures in
+    let told = tell_begun c.new-graph.result (ruling_since (λ ts. g.H.GoalHandler.handler ts c.args.self.now.handler.now) s) c.args.self.now.cx.now.nodes c.new-graph.ensures.empty in
+    let steps = sym (ap (λ (z : EvalState). z.last_steps) c.end_steps.ensures.state) in
+    let left = sym (ap (λ (z : EvalState). z.nested_goals.items) c.end_steps.ensures.state) in
+    let same = sym c.end_steps.ensures.same in
+    rw (c.take_goals-goals.ensures.goals, same, steps, left) at (run.counts s told)

@@ -33,7 +33,7 @@ use Rattle.std.proofs.lemmas.Result.{IfOk-from_err}
 use Rattle.nts_evaluation.proofs.evaluate.+evaluate.Goals.{search-then-graph, search-else-graph}
 use Rattle.nts_evaluation.specs.Counting.AsksEach.{asks_none}
 use Rattle.nts_evaluation.specs.Counting.MakesSteps.{no_step, then_steps}
-use Rattle.nts_evaluation.proofs.Counted.{asked_more, counts_broken, is_on, is_off}
+use Rattle.nts_evaluation.proofs.Counted.{asked_more, counts_broken, is_on, is_off, reached}
 use Rattle.nts_evaluation.proofs.Deciding.{decides_fault, decides_error, decides_then, decides_later, same_search, then_same}
 use Rattle.nts_evaluation.proofs.Fast.{IsReadAs, answered_at_once, asked_at_once, stays_at_once, decided_so}
 use Rattle.nts_evaluation.proofs.DecidedSteps.{next_goal, at_end, step_decided}
@@ -194,7 +194,7 @@ evaluate_step-loop-added-preserved g t c =
           subst (AreSettled (IsNestedSince (λ ts. g.H.GoalHandler.handler ts c.args.handler.now) s c.args.table.now.mode (goal_kind_of c.args.kind) (assumed_in c.evaluate_added.new.cx.nodes c.evaluate_added.new.graph) c.evaluate_added.new.cx.nodes c.evaluate_added.new.table) (take (c.loop-added.added-index + 1) gs)) (sym n.left)
           (settled_proved (assumed_in c.loop-added.cx.nodes c.loop-added.graph) (assumed_in c.evaluate_added.new.cx.nodes c.evaluate_added.new.graph) (λ ts. g.H.GoalHandler.handler ts c.args.handler.now) s c.args.table.now.mode (goal_kind_of c.args.kind) gs c.loop-added.step.left.items c.loop-added.added-index d c.in_ok-answer.answer.certainty at c.requires.posed i.runs.goes.extends e.runs.goes covers (rw (i.runs.goes.mode, c.step_kind_for_source-kind.ensures) at (e.proved (Since-later (ran i.runs) s))) (i.proved s));
       sure = λ y. n.left ∙ sure_more c.loop-added.step.certainty c.in_ok-answer.answer.certainty c.loop-added.step.left.items (get_or gs c.loop-added.added-index d) i.sure (sym n.certainty ∙ y);
-      told = λ s tells. reach_more c.loop-added.table (ruling_since (λ ts. g.H.GoalHandler.handler ts c.args.handler.now) s) c.args.table.now.mode gs (get_or gs c.loop-added.added-index d) c.requires.posed there i.runs.goes.extends (i.told s tells) c.evaluate_added.new.table i.runs.goes.table e.runs.goes.extends (rw i.runs.goes.mode at (e.told (Since-later (ran i.runs) s) (heads_tell_later (ruling_since (λ ts. g.H.GoalHandler.handler ts c.args.handler.now) s) (bound_of c.args.depth) c.requires.search i.runs.goes.extends i.searches tells)));
+      told = λ s tells. reach_more c.loop-added.table (ruling_since (λ ts. g.H.GoalHandler.handler ts c.args.handler.now) s) c.args.table.now.mode gs (get_or gs c.loop-added.added-index d) c.requires.posed there i.runs.goes.extends (i.told s tells) c.evaluate_added.new.table i.runs.goes.table e.runs.goes.extends (reached (rw i.runs.goes.mode at (e.told (Since-later (ran i.runs) s) (heads_tell_later (ruling_since (λ ts. g.H.GoalHandler.handler ts c.args.handler.now) s) (bound_of c.args.depth) c.requires.search i.runs.goes.extends i.searches tells))));
       asked = λ s tells. asked_more gs c.loop-added.added-index d c.in_ok-answer.answer at (i.asked s tells) (rw i.runs.goes.mode at (e.told (Since-later (ran i.runs) s) (heads_tell_later (ruling_since (λ ts. g.H.GoalHandler.handler ts c.args.handler.now) s) (bound_of c.args.depth) c.requires.search i.runs.goes.extends i.searches tells))) n.left n.changed;
       decided = λ s m b here can.
           let before = i.decided s m b here can in
@@ -269,7 +269,7 @@ evaluate_step-returns-in_err-note g t c =
       told = λ s tells.
           let i = c.loop-added.invariant in
           let e = c.in_ok-answer.ensures in
-          reach_more c.loop-added.table (ruling_since (λ ts. g.H.GoalHandler.handler ts c.args.handler.now) s) c.args.table.now.mode c.args.goals.now _ c.requires.posed (among_get c.args.goals.now c.loop-added.added-index _ c.loop-added-test.true) i.runs.goes.extends (i.told s tells) c.evaluate_added.new.table i.runs.goes.table e.runs.goes.extends (rw i.runs.goes.mode at (e.told (Since-later (ran i.runs) s) (heads_tell_later (ruling_since (λ ts. g.H.GoalHandler.handler ts c.args.handler.now) s) (bound_of c.args.depth) c.requires.search i.runs.goes.extends i.searches tells)));
+          reach_more c.loop-added.table (ruling_since (λ ts. g.H.GoalHandler.handler ts c.args.handler.now) s) c.args.table.now.mode c.args.goals.now _ c.requires.posed (among_get c.args.goals.now c.loop-added.added-index _ c.loop-added-test.true) i.runs.goes.extends (i.told s tells) c.evaluate_added.new.table i.runs.goes.table e.runs.goes.extends (reached (rw i.runs.goes.mode at (e.told (Since-later (ran i.runs) s) (heads_tell_later (ruling_since (λ ts. g.H.GoalHandler.handler ts c.args.handler.now) s) (bound_of c.args.depth) c.requires.search i.runs.goes.extends i.searches tells))));
       asked = λ s tells. IfOk-from_err c.from_residual-in_err-note.result _ fails;
       refuted = search rules;
       decided = λ s m b here can. decides_fault c.from_residual-in_err-note.result fails (search rules);
