@@ -1,5 +1,5 @@
 -- Steps that are counted, and examples of it.
-use Rattle.std.proofs.Common.{◌≡◌, ◌⊎◌, inl, inr, ℕ, ◌+◌, ◌<◌, ◌≤◌, Bool, true, false, not, List, [], ◌∷◌, ◌++◌, take, get_or, length, Result, Ok, Err, refl, sym, ap, arith}
+use Rattle.std.proofs.Common.{◌≡◌, ◌⊎◌, inl, inr, ℕ, ◌+◌, ◌<◌, Bool, true, false, not, List, [], ◌∷◌, take, get_or, length, Result, Ok, Err, refl, arith}
 use Rattle.std.specs.Prelude.{◌↔◌, ◌||◌, is_err}
 use Rattle.std.proofs.lemmas.List.{take_more}
 use Rattle.nts_store.specs.declared.fault.EvalError.{EvalError}

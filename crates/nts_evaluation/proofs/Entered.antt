@@ -1,10 +1,10 @@
 -- An input that is evaluated stands on the stack meanwhile, which is counted.
-use Rattle.std.proofs.Common.{◌≡◌, ℕ, ◌<◌, ◌≤◌, ◌+◌, List, [], ◌∷◌, ◌++◌, length, length-append, ap, arith}
+use Rattle.std.proofs.Common.{◌≡◌, ℕ, ◌<◌, [], ◌∷◌, ◌++◌, length, length-append, ap, arith}
 use Rattle.nts_terms.specs.declared.cx.Cx.{Cx}
 use Rattle.nts_search.specs.declared.stack.SearchGraph.{SearchGraph}
 use Rattle.nts_search.specs.declared.stack.StackEntry.{StackEntry}
 use Rattle.nts_search.specs.Searching.{KeepsRestOfGraph}
-use Rattle.nts_meaning.specs.Searching.{IsSearch, Searches, AreLater}
+use Rattle.nts_meaning.specs.Searching.{IsSearch, Searches}
 use Rattle.nts_meaning.proofs.Searching.{later_long}
 
 -- the entry y was put on the stack of g, where the search went on

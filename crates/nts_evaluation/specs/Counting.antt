@@ -14,7 +14,8 @@ use Rattle.nts_certainty.specs.declared.sources.GoalSource.{GoalSource}
 use Rattle.nts_certainty.specs.declared.sources.HasChanged.{HasChanged}
 use Rattle.nts_certainty.specs.declared.sources.HasChanged.TheVariants as changes
 use Rattle.nts_candidates.specs.Offered.{certainty_of}
-use Rattle.nts_meaning.specs.Meant.{Ruling, EvaluatesUnder}
+use Rattle.nts_meaning.specs.Telling.{Ruling}
+use Rattle.nts_meaning.specs.Meant.{EvaluatesUnder}
 use Rattle.nts_meaning.specs.declared.response.Evaluated.{Evaluated}
 use Rattle.nts_trying.specs.Stepping.{bound_of, left_after}
 use Rattle.nts_trying.specs.declared.steps.AvailableDepth.{AvailableDepth}
