@@ -1,4 +1,4 @@
-use Rattle.std.proofs.Common.{◌≡◌, Err, rules, subst}
+use Rattle.std.proofs.Common.{◌≡◌, Err, rules, subst, arith}
 use Rattle.nts_model.specs.Derivations.Handlers.{meaning}
 use Rattle.nts_model.specs.Answers.Responses.{answer_sequent}
 use Rattle.nts_model.specs.Searching.Stacks.{IsDerivedFrom}

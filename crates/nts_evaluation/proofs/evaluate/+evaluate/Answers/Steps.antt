@@ -1,5 +1,5 @@
 -- Longer answers for the functions that ask goals in steps.
-use Rattle.std.proofs.Common.{◌≡◌, inl, inr, Err, arith, rules, ◌+◌, ◌≤◌, take, get_or, refl, ap, sym, ◌∙◌, subst, [], ◌∷◌, true, ◌++◌}
+use Rattle.std.proofs.Common.{◌≡◌, inl, inr, Err, arith, rules, ◌+◌, ◌≤◌, take, get_or, refl, ap, sym, ◌∙◌, subst, [], ◌∷◌, true, false, ◌++◌}
 use Rattle.std.proofs.lemmas.List.{take_all, take_more}
 use Rattle.std.specs.Prelude.{List}
 use Rattle.nts_model.specs.Terms.Trees.{Tree}
@@ -31,6 +31,7 @@ use Rattle.nts_store.specs.declared.fault.EvalError.TheVariants as EvalError
 use Rattle.std.specs.Result.{is_err}
 use Rattle.std.proofs.lemmas.Result.{IfOk-from_err}
 use Rattle.nts_evaluation.proofs.evaluate.+evaluate.Goals.{search-then-graph, search-else-graph}
+use Rattle.nts_evaluation.specs.Counting.{AsksOnce, AsksEach}
 use Rattle.nts_evaluation.specs.Counting.AsksEach.{asks_none}
 use Rattle.nts_evaluation.specs.Counting.MakesSteps.{no_step, then_steps}
 use Rattle.nts_evaluation.proofs.Counted.{asked_more, counts_broken, is_on, is_off, reached}
@@ -195,7 +196,9 @@ evaluate_step-loop-added-preserved g t c =
           (settled_proved (assumed_in c.loop-added.cx.nodes c.loop-added.graph) (assumed_in c.evaluate_added.new.cx.nodes c.evaluate_added.new.graph) (λ ts. g.H.GoalHandler.handler ts c.args.handler.now) s c.args.table.now.mode (goal_kind_of c.args.kind) gs c.loop-added.step.left.items c.loop-added.added-index d c.in_ok-answer.answer.certainty at c.requires.posed i.runs.goes.extends e.runs.goes covers (rw (i.runs.goes.mode, c.step_kind_for_source-kind.ensures) at (e.proved (Since-later (ran i.runs) s))) (i.proved s));
       sure = λ y. n.left ∙ sure_more c.loop-added.step.certainty c.in_ok-answer.answer.certainty c.loop-added.step.left.items (get_or gs c.loop-added.added-index d) i.sure (sym n.certainty ∙ y);
       told = λ s tells. reach_more c.loop-added.table (ruling_since (λ ts. g.H.GoalHandler.handler ts c.args.handler.now) s) c.args.table.now.mode gs (get_or gs c.loop-added.added-index d) c.requires.posed there i.runs.goes.extends (i.told s tells) c.evaluate_added.new.table i.runs.goes.table e.runs.goes.extends (reached (rw i.runs.goes.mode at (e.told (Since-later (ran i.runs) s) (heads_tell_later (ruling_since (λ ts. g.H.GoalHandler.handler ts c.args.handler.now) s) (bound_of c.args.depth) c.requires.search i.runs.goes.extends i.searches tells))));
-      asked = λ s tells. asked_more gs c.loop-added.added-index d c.in_ok-answer.answer at (i.asked s tells) (rw i.runs.goes.mode at (e.told (Since-later (ran i.runs) s) (heads_tell_later (ruling_since (λ ts. g.H.GoalHandler.handler ts c.args.handler.now) s) (bound_of c.args.depth) c.requires.search i.runs.goes.extends i.searches tells))) n.left n.changed;
+      asked = λ s tells.
+          asked_more gs c.loop-added.added-index d c.in_ok-answer.answer at (i.asked s tells)
+          (subst (λ mode. AsksOnce (ruling_since (λ ts. g.H.GoalHandler.handler ts c.args.handler.now) s) mode c.args.depth (c.loop-added.cx, c.loop-added.table) (c.evaluate_added.new.cx, c.evaluate_added.new.table) (get_or gs c.loop-added.added-index d) c.in_ok-answer.answer) i.runs.goes.mode (e.told (Since-later (ran i.runs) s) (heads_tell_later (ruling_since (λ ts. g.H.GoalHandler.handler ts c.args.handler.now) s) (bound_of c.args.depth) c.requires.search i.runs.goes.extends i.searches tells))) n.left n.changed;
       decided = λ s m b here can.
           let before = i.decided s m b here can in
           let next = next_goal (g.H.GoalHandler.handler s.base c.args.handler.now) m gs b c.loop-added.added-index d i.runs.goes c.requires.posed here at before.rest in
@@ -320,7 +323,10 @@ try_evaluate_goals-loop-step-preserved g t c =
       searches = Searches-trans i.searches e.searches;
       steps = omega (arith, c.loop-step-test.true, c.step_limit-step-end.ensures);
       counted = refl;
-      counts = λ s tells. then_steps (i.counts s tells) (rw (i.runs.goes.mode, c.deref.ensures.value, is_on c.in_ok-stepped.stepped.has_changed c.if-not-stepped.false) at (c.in_ok-stepped.ensures.asked (Since-later (ran i.runs) s) (heads_tell_later (ruling_since (λ ts. g.H.GoalHandler.handler ts c.args.handler.now) s) (bound_of c.args.depth) c.requires.search i.runs.goes.extends i.searches tells)));
+      counts = λ s tells.
+          then_steps (i.counts s tells)
+          (subst (λ mode. AsksEach (AsksOnce (ruling_since (λ ts. g.H.GoalHandler.handler ts c.args.handler.now) s) mode c.args.depth) (c.loop-step.cx, c.loop-step.table) c.loop-step.goals.items (c.evaluate_step.new.cx, c.evaluate_step.new.table) c.in_ok-stepped.stepped.left.items true) i.runs.goes.mode
+          (rw (c.deref.ensures.value, is_on c.in_ok-stepped.stepped.has_changed c.if-not-stepped.false) at (c.in_ok-stepped.ensures.asked (Since-later (ran i.runs) s) (heads_tell_later (ruling_since (λ ts. g.H.GoalHandler.handler ts c.args.handler.now) s) (bound_of c.args.depth) c.requires.search i.runs.goes.extends i.searches tells))));
       posed = e.posed;
       left = left_trans i.left (rw c.deref.ensures.value at e.left);
       labels = only-trans i.labels (only_left c.args.goals.now.items c.loop-step.goals.items i.runs.goes.extends c.requires.posed i.left (rw c.deref.ensures.value at e.labels));
@@ -392,7 +398,10 @@ try_evaluate_goals-returns-then-not-stepped g t c =
       runs = Runs-trans c.loop-step.invariant.runs c.in_ok-stepped.ensures.runs;
       searches = Searches-trans c.loop-step.invariant.searches c.in_ok-stepped.ensures.searches;
       steps = search rules;
-      counts = λ s tells. (false, then_steps (i.counts s tells) (rw (i.runs.goes.mode, c.deref.ensures.value, is_off c.in_ok-stepped.stepped.has_changed c.if-not-stepped.true) at (c.in_ok-stepped.ensures.asked (Since-later (ran i.runs) s) (heads_tell_later (ruling_since (λ ts. g.H.GoalHandler.handler ts c.args.handler.now) s) (bound_of c.args.depth) c.requires.search i.runs.goes.extends i.searches tells))), inl refl);
+      counts = λ s tells.
+          let last = subst (λ mode. AsksEach (AsksOnce (ruling_since (λ ts. g.H.GoalHandler.handler ts c.args.handler.now) s) mode c.args.depth) (c.loop-step.cx, c.loop-step.table) c.loop-step.goals.items (c.evaluate_step.new.cx, c.evaluate_step.new.table) c.in_ok-stepped.stepped.left.items false) i.runs.goes.mode
+          (rw (c.deref.ensures.value, is_off c.in_ok-stepped.stepped.has_changed c.if-not-stepped.true) at (c.in_ok-stepped.ensures.asked (Since-later (ran i.runs) s) (heads_tell_later (ruling_since (λ ts. g.H.GoalHandler.handler ts c.args.handler.now) s) (bound_of c.args.depth) c.requires.search i.runs.goes.extends i.searches tells))) in
+          (false, then_steps (i.counts s tells) last, inl refl);
       posed = search rules;
       left = left_trans i.left (rw c.deref.ensures.value at c.in_ok-stepped.ensures.left);
       labels = only-trans i.labels (only_left c.args.goals.now.items c.loop-step.goals.items i.runs.goes.extends c.requires.posed i.left (rw c.deref.ensures.value at c.in_ok-stepped.ensures.labels));
