@@ -1,6 +1,6 @@
 -- Goals of a candidate, and those of them that are asked.
-use Rattle.std.proofs.Common.{◌≡◌, ℕ, inl, inr, Bool, true, false, List, [], ◌∷◌, Some, Ok, Err, Result, refl, rules, ap, ◌∙◌, sym, subst}
-use Rattle.std.specs.Prelude.{All, OnOk}
+use Rattle.std.proofs.Common.{◌≡◌, ℕ, inl, inr, Bool, true, false, List, [], ◌∷◌, Some, Ok, Err, Result, refl, ap, ◌∙◌, sym, subst}
+use Rattle.std.specs.Prelude.{OnOk}
 use Rattle.std.proofs.lemmas.List.Elements.{All-cons, All-head, All-tail}
 use Rattle.nts_model.specs.Lists.{Among}
 use Rattle.nts_model.specs.Terms.Trees.{Tree, kind_of, bound_predicate, IsFormed}
@@ -29,7 +29,7 @@ use Rattle.nts_candidates.proofs.Results.{OnOk-map}
 use Rattle.nts_search.specs.declared.kinds.CurrentGoalKind.{CurrentGoalKind}
 use Rattle.nts_search.specs.declared.stack.SearchGraph.{SearchGraph}
 use Rattle.nts_search.specs.Kinds.{goal_kind_of}
-use Rattle.nts_theory.specs.AskedGoals.{is_asked, those_asked, all_asked, asked_in}
+use Rattle.nts_theory.specs.AskedGoals.{is_asked, all_asked, asked_in}
 use Rattle.nts_theory.proofs.Refutation.Answered.{among_split}
 use Rattle.nts_decisions.specs.Deciding.{IsGoalDecided}
 use Rattle.nts_decisions.specs.Faring.{AreDecidedHere}

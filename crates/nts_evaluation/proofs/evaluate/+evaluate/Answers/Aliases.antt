@@ -1,15 +1,13 @@
 -- Goals about an alias.
 use Rattle.std.proofs.Common.{◌≡◌, inl, inr, ⊎_elim, arith, rules, refl, ap, ◌∙◌, subst}
 use Rattle.nts_store.specs.Growth.{tree_at}
-use Rattle.nts_store.proofs.Growing.{Extends-trans, Extends-refl}
+use Rattle.nts_store.proofs.Growing.{Extends-trans}
 use Rattle.nts_terms.specs.Modes.{mode_of}
 use Rattle.nts_unify.specs.Reading.{content_of}
 use Rattle.nts_unify.specs.Lawful.{content_of-extended}
 use Rattle.nts_candidates.specs.Offered.{candidates_of}
 use Rattle.nts_candidates.proofs.Results.{IfOk-map}
-use Rattle.nts_canonical.specs.Forms.{trees_of}
 use Rattle.nts_delegate.specs.Relevant.{LeavesOut}
-use Rattle.nts_meaning.specs.Answering.{is_yes}
 use Rattle.nts_meaning.specs.Meant.{ruling_since}
 use Rattle.nts_meaning.specs.Searching.{assumed_in}
 use Rattle.nts_meaning.proofs.AnsweredQueries.{args_later}
@@ -22,9 +20,6 @@ use Rattle.nts_trying.proofs.AliasGoals.{alias_asked}
 use Rattle.nts_trying.proofs.Labels.{only_back}
 use Rattle.nts_trying.proofs.LeftOut.{all_outcomes, kept_offered}
 use Rattle.nts_trying.proofs.Opened.{labels_through, proved_through, told_offered, alias_told, alias_refuted}
-use Rattle.nts_certainty.specs.Certainties.{ambiguous}
-use Rattle.nts_response.specs.Forms.{response_at}
-use Rattle.nts_trying.proofs.Probed.{found_still, plain_of, doubtful}
 use Rattle.nts_evaluation.proofs.Failing.{alias_failed}
 use Rattle.nts_evaluation.proofs.DecidedGoals.{is_asked_here, outlives_in, states_own, way_states_own}
 use Rattle.nts_evaluation.proofs.FactTrials.{fact_asked}

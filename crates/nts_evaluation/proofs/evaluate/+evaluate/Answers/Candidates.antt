@@ -20,7 +20,7 @@ use Rattle.nts_meaning.proofs.AskedGoals.{trees_kept}
 use Rattle.nts_meaning.proofs.AnsweredQueries.{args_later}
 use Rattle.nts_trying.proofs.Labels.{only_earlier, only_back}
 use Rattle.nts_meaning.proofs.Evaluating.{Goes-trans, Goes-extends, Runs-trans, Runs-extends, rolled_back, Since-later, offers-kept, IsPosed-later, AreValues-later, IsCandidate-extended, candidate_at, goes-back, HoldsGoal-extended}
-use Rattle.nts_trying.proofs.Stepping.{stopped_refused, among_get}
+use Rattle.nts_trying.proofs.Stepping.{among_get}
 use Rattle.nts_meaning.proofs.Running.{term_table, HasRun, has_run, both_sure, constraints-kept, offered_there, Equates-later, Constrains-later}
 use Rattle.nts_canonical.specs.declared.types.Canonical.{Canonical}
 use Rattle.nts_response.specs.declared.types.Response.{Response}
@@ -29,7 +29,7 @@ use Rattle.nts_trying.proofs.Opened.{told_through, told_offered, refuted_through
 use Rattle.nts_trying.proofs.Probed.{found_in, found_still, went_in, plain_of, not_kept, says_found, says_before, run_replies}
 use Rattle.nts_evaluation.proofs.Serving.{served_by}
 use Rattle.nts_trying.proofs.Outcomes.{found_earlier, found_of, founds_more, founds_with, outcomes_first, outcomes_more, failed_of}
-use Rattle.nts_trying.proofs.Ran.{added_is, added_only, ran_to, ran_refused, all_proved, all_posed, proved_all, ok_inside}
+use Rattle.nts_trying.proofs.Ran.{added_is, added_only, ran_to, ran_refused, all_proved, all_posed, ok_inside}
 use Rattle.nts_model.specs.Derivations.Rules.{goal_kind}
 use Rattle.nts_meaning.specs.Searching.{HeadsTell, assumed_in}
 use Rattle.nts_meaning.proofs.Searching.{Searches-refl, Searches-trans, search_later, search_grown, search_grows, search_covers, covers_grown, served_more, held_more, tell_grown, heads_tell_later}

@@ -12,7 +12,6 @@ use Rattle.nts_unify.specs.Lawful.{content_of-extended}
 use Rattle.nts_candidates.proofs.Results.{IfOk-map}
 use Rattle.nts_canonical.specs.Forms.{trees_of}
 use Rattle.nts_response.specs.Forms.{response_at}
-use Rattle.nts_certainty.specs.Certainties.{ambiguous}
 use Rattle.nts_search.specs.declared.kinds.CurrentGoalKind.TheVariants as Kinds
 use Rattle.nts_meaning.specs.Answering.{is_yes, verdict_at}
 use Rattle.nts_meaning.specs.Meant.{ruling_since, Since}
@@ -33,7 +32,7 @@ use Rattle.nts_trying.proofs.Ran.{proved_all}
 use Rattle.nts_trying.proofs.Stepping.{stopped_refused}
 use Rattle.nts_evaluation.proofs.DecidedGoals.{is_asked_here, outlives_in, states_own, way_states_own}
 use Rattle.nts_evaluation.proofs.FactTrials.{fact_asked}
-use Rattle.nts_evaluation.proofs.Failing.{equated_failed, way_failed, goal_failed}
+use Rattle.nts_evaluation.proofs.Failing.{way_failed, goal_failed}
 use Rattle.nts_evaluation.proofs.NormalLeft.{normal_more, all_relating, way_told_earlier, way_refuted_earlier, lesser_told, one_told, lesser_no}
 use Rattle.nts_terms.proofs.Moved.{KeepsRest-refl}
 use Rattle.nts_evaluation.proofs.evaluate.+evaluate.Goals as goal

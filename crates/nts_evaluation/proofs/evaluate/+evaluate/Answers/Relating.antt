@@ -1,5 +1,5 @@
 -- Candidates of whose equations some relate aliases.
-use Rattle.std.proofs.Common.{◌≡◌, Err, Ok, inl, inr, ⊎_elim, arith, rules, true, ap, sym, ◌∙◌, subst}
+use Rattle.std.proofs.Common.{◌≡◌, Err, Ok, inl, inr, arith, rules, true, ap, sym, ◌∙◌, subst}
 use Rattle.std.specs.Result.{is_err}
 use Rattle.std.proofs.lemmas.Result.{IfOk-from_err}
 use Rattle.nts_model.specs.Derivations.Handlers.{meaning}
