@@ -1,5 +1,5 @@
 -- What normalizing a term in a context comes to, by example.
-use Rattle.std.proofs.Common.{◌≡◌, refl, sym, subst, inl, ◌+◌, List, [], ◌∷◌, ◌++◌, map, length, ap, ◌∙◌, arith, ◌≤◌, ◌<◌, Option, None, Some, Ok, false}
+use Rattle.std.proofs.Common.{◌≡◌, refl, sym, subst, inl, ◌+◌, List, [], ◌∷◌, ◌++◌, map, length, ap, ◌∙◌, arith, ◌<◌, Option, None, Ok, false}
 use Rattle.std.proofs.lemmas.List.{length-append}
 use Rattle.nts_model.specs.Terms.Trees.{Tree}
 use Rattle.nts_store.specs.declared.nodes.NodeId.{NodeId}

@@ -6,8 +6,6 @@ use Rattle.nts_model.specs.Tables.Resolving.{deeply_resolved}
 use Rattle.nts_store.specs.declared.nodes.NodeId.{NodeId}
 use Rattle.nts_store.specs.declared.fault.EvalError.{EvalError}
 use Rattle.nts_terms.specs.declared.handles.ParamEnv.{ParamEnv}
-use Rattle.nts_certainty.specs.declared.sources.GoalSource.{GoalSource}
-use Rattle.nts_search.specs.declared.kinds.CurrentGoalKind.TheVariants as kind
 use Rattle.nts_evaluation.specs.nts_meaning.specs.Meant.{Rules, Always, rules_of, ruling_since}
 use Rattle.nts_contexts.specs.declared.context.EvalCtxt.{EvalCtxt}
 use Rattle.nts_nested_goals.specs.Related.{AddsEqualToNew}
