@@ -6,14 +6,15 @@ assumptions of a program, so far as the proof names no other types. A goal that 
 where the answer is `yes` with values, each proof that it finds must be of an instance of them. It finds no proofs that need other
 types, so it never says that an answer of `yes` is wrong: it counts those that it can confirm.
 
-About half of the programs have aliases, in conditions, assumptions and goals, and in coherence in heads. For the search an alias of a type is a variable, with
-the condition that the alias is that: its `norm` lines and what is assumed of it are impls of a trait of two types. An alias is said
-to be another one only if that was declared before, and no alias stands in the conditions of a `norm` line: outside of coherence an
-alias that comes back to one of its form is refused, whatever else it may be (docs/TEXT.md).
+About half of the programs have aliases, in conditions, also in each other and of what is bound, in assumptions and goals, and in
+coherence in heads. For the search an alias of a type is a variable, with the condition that the alias is that: its `norm` lines and
+what is assumed of it are impls of a trait of two types. An alias is said to be another one only if that was declared before, and
+only in coherence an alias stands in the conditions of a `norm` line: outside of it an alias that comes back to one of its form is
+refused, whatever else it may be (docs/TEXT.md).
 
     examples/against.py [--programs N] [--seed N] [--show]
 
-The proved program is run where it is built (the gate leaves it).
+PROGRAM is the proved `nts`, that of this folder's crate where none is given (the gate leaves it).
 """
 import argparse
 import itertools
@@ -24,7 +25,7 @@ import subprocess
 import sys
 
 HERE = os.path.dirname(os.path.abspath(__file__))
-PROGRAM = os.path.join(HERE, "..", "crates", "nts", "out", "nts")
+PROGRAM = os.environ.get("PROGRAM", os.path.join(HERE, "..", "crates", "nts", "out", "nts"))
 
 # A type is a tuple: its constructor, and its arguments. A variable is a string that begins with `?`. What a binder binds is `Z`, and
 # in its place stands a type of which nothing is known, and which no other type of the goal names.
@@ -68,8 +69,9 @@ def item_text(item):
     return goal_text(item)
 
 
-def without_aliases(goal):
-    """The goal with variables in place of its aliases, and before it the conditions that these are what the aliases are."""
+def without_aliases(goal, number=0):
+    """The goal with variables in place of its aliases, and before it the conditions that these are what the aliases are. The
+    variables have that number in their names, and so are others than those of other numbers."""
     conditions = []
 
     def put(term):
@@ -78,11 +80,16 @@ def without_aliases(goal):
         term = (term[0], *map(put, term[1:]))
         if not is_alias(term[0]):
             return term
-        conditions.append((*term, f"?{term[0]}_{len(conditions)}"))
+        conditions.append((*term, f"?{term[0]}_{number}_{len(conditions)}"))
         return conditions[-1][-1]
 
     goal = (goal[0], *map(put, goal[1:]))
     return [*conditions, goal]
+
+
+def aliases_in(terms):
+    """How many aliases stand in terms."""
+    return sum(is_alias(term[0]) + aliases_in(term[1:]) for term in terms if not isinstance(term, str))
 
 
 def names(term, leaf):
@@ -157,10 +164,24 @@ class Program:
     def with_alias(self, goal, of):
         """Now and then a goal that binds nothing with an alias of an argument in its place, or in a type in its place."""
         if self.aliases and self.rng.random() < of and not any(names(argument, BOUND) for argument in goal[1:]):
-            at = self.rng.randrange(1, len(goal))
-            alias = (self.rng.choice(self.aliases), goal[at])
-            goal = (*goal[:at], self.rng.choice([alias, alias, ("W", alias)]), *goal[at + 1:])
+            goal = self.aliased(goal)
         return goal
+
+    def aliased(self, goal):
+        """The goal with an alias of an argument in its place, or in a type in its place."""
+        at = self.rng.randrange(1, len(goal))
+        alias = (self.rng.choice(self.aliases), goal[at])
+        return (*goal[:at], self.rng.choice([alias, alias, ("W", alias)]), *goal[at + 1:])
+
+    def aliased_conditions(self, head):
+        """Conditions with aliases, at most three with the variables, since the search tries all values of each."""
+        body = self.conditions(head)
+        terms = [term for goal in [head, *body] for term in goal[1:]]
+        for _ in range(3 - len(variables_in(terms)) - aliases_in(terms)):
+            if body and self.aliases and self.rng.random() < 0.5:
+                at = self.rng.randrange(len(body))
+                body[at] = self.aliased(body[at])
+        return body
 
     def conditions(self, head):
         bound = variables_in(head[1:])
@@ -168,14 +189,11 @@ class Program:
         return [self.bound(self.predicate(bound + others, 1), 0.15) for _ in range(self.rng.choice([0, 0, 1, 1, 2]))]
 
     def impl(self):
-        """At most one alias stands in the conditions, and then no variable that the head has not. In coherence one may stand in the head."""
+        """In coherence an alias may stand in the head."""
         head = self.predicate(VARIABLES[:2], 2)
-        body = self.conditions(head)
-        if body and VARIABLES[2] not in variables_in([term for goal in body for term in goal[1:]]):
-            body[-1] = self.with_alias(body[-1], 0.4)
         if self.mode == "coherence":
             head = self.with_alias(head, 0.2)
-        return head, body
+        return head, self.aliased_conditions(head)
 
     def norm(self, at):
         """What an alias of a type is: a type, or now and then an alias before it of one."""
@@ -184,7 +202,7 @@ class Program:
         if at > 0 and self.rng.random() < 0.3:
             value = (self.rng.choice(self.aliases[:at]), value)
         head = (*head, value)
-        return head, self.conditions(head)
+        return head, self.aliased_conditions(head) if self.mode == "coherence" else self.conditions(head)
 
     def assumed(self, name):
         """What an alias of a closed type is assumed to be."""
@@ -228,7 +246,7 @@ class Program:
                 yield (goal[0], *(in_place(term, value) for term in goal[1:])), (), ()
         for head, body in rules:
             *related, head = without_aliases(head)
-            body = [*related, *(part for goal in body for part in without_aliases(goal))]
+            body = [*related, *(part for number, goal in enumerate(body, 1) for part in without_aliases(goal, number))]
             told_of = variables_in([*head[1:], *(term for goal in body for term in goal[1:])])
             for values in itertools.product(UNIVERSE, repeat=len(told_of)):
                 told = dict(zip(told_of, values))

@@ -18,7 +18,8 @@ use Rattle.nts_table.specs.Making.{new_variable}
 use Rattle.nts_variance.specs.Goals.{goal_of}
 use Rattle.nts_variance_model.specs.Variances.Relations.{Relating as Pair}
 use Rattle.nts_adding.specs.Equal.{IsEqualToNew}
-use Rattle.nts_adding.specs.Putting.{HasPut, put_alias, put_empty, put_more, put_node, equal_pair, AreVariables}
+use Rattle.nts_adding.specs.Putting.{AreVariables}
+use Rattle.nts_theory.specs.Posing.{HasPut, put_alias, put_empty, put_more, put_node, equal_pair}
 
 -- an alias has its variable in its place, by the one pair of the two
 pub put_there : (a v : Tree) → IsAlias a → IsClosed v → HasPut (equal_pair a v ∷ []) a v

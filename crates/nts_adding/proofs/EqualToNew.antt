@@ -16,7 +16,8 @@ use Rattle.nts_variance.specs.Terms.{pairs_at, AreGoals, ArePairs}
 use Rattle.nts_meaning.specs.Evaluation.{Goes}
 use Rattle.nts_meaning.proofs.Evaluating.{gave_fresh, Knows-goes}
 use Rattle.nts_adding.specs.Equal.{equal_nodes}
-use Rattle.nts_adding.specs.Putting.{AllPut, AreVariables, equal_pair}
+use Rattle.nts_adding.specs.Putting.{AllPut, AreVariables}
+use Rattle.nts_theory.specs.Posing.{equal_pair}
 use Rattle.nts_adding.proofs.Known.{are_goals}
 use Rattle.nts_adding.proofs.Walked.{put_one, variable_sort}
 

@@ -38,7 +38,8 @@ use Rattle.nts_folding.specs.Folding.{Stops, anywhere, early, late, at_term, at_
 use Rattle.nts_meaning.specs.Evaluation.{AllKnown, Goes, Runs, IsPosed}
 use Rattle.nts_meaning.proofs.Evaluating.{gave_fresh, Knows-goes}
 use Rattle.nts_adding.specs.declared.putting.AliasFolder.{AliasFolder}
-use Rattle.nts_adding.specs.Putting.{Standing, Puts, put, HasPut, equal_pair, right_sides, AllPut, PutsVariables}
+use Rattle.nts_adding.specs.Putting.{Standing, Puts, put, right_sides, AllPut, PutsVariables}
+use Rattle.nts_theory.specs.Posing.{HasPut, equal_pair}
 use Rattle.nts_adding.specs.Walking.{IsFolderReady, standing_of, FailsForWant, pairs_later, pushed_pairs}
 use Rattle.nts_adding.proofs.Walked.{LeftsKnown, IsWalked, put_replaces}
 

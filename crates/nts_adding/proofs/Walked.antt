@@ -21,7 +21,8 @@ use Rattle.nts_table.specs.Making.{new_variable}
 use Rattle.nts_table.specs.Fresh.{variable_kind, fresh_row, IsFreshLike}
 use Rattle.nts_table.proofs.FreshLemmas.{with_fresh-push, length-with_fresh, fresh_row-push}
 use Rattle.nts_variance_model.specs.Variances.Relations.{Relating as Pair}
-use Rattle.nts_adding.specs.Putting.{Standing, Puts, plain, put, goes_on, HasPut, put_alias, put_empty, put_more, put_node, equal_pair, right_sides, IsPutFor, AllPut, AreVariables}
+use Rattle.nts_adding.specs.Putting.{Standing, Puts, plain, put, goes_on, right_sides, IsPutFor, AllPut, AreVariables}
+use Rattle.nts_theory.specs.Posing.{HasPut, put_alias, put_empty, put_more, put_node, equal_pair}
 
 -- a tree without aliases stays
 pub nothing_put : (t : Tree) → any_label is_alias t ≡ false → HasPut [] t t

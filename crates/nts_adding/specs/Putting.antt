@@ -1,9 +1,8 @@
 -- Variables that are put in the places of aliases.
 use Rattle.std.specs.Prelude.{◌≡◌, false, List, [], ◌∷◌, ◌++◌, length, Option, Some, None}
 use Rattle.nts_model.specs.declared.labels.Sort.{Sort}
-use Rattle.nts_model.specs.declared.labels.Label.{Label}
 use Rattle.nts_model.specs.declared.labels.Variance.TheVariants as variance
-use Rattle.nts_model.specs.Terms.Trees.{Tree, empty, more, node, any_label, is_alias, kind_of, IsClosed}
+use Rattle.nts_model.specs.Terms.Trees.{Tree, empty, more, any_label, is_alias, kind_of, IsClosed}
 use Rattle.nts_model.specs.Tables.Resolving.{Knows}
 use Rattle.nts_model.specs.Derivations.Related.{IsAlias}
 use Rattle.nts_store.specs.declared.nodes.NodeId.{NodeId}
@@ -12,6 +11,7 @@ use Rattle.nts_unify.specs.Entries.{Entries}
 use Rattle.nts_unify.specs.Reading.{content_of}
 use Rattle.nts_table.specs.Fresh.{with_fresh, fresh_row, IsFreshLike}
 use Rattle.nts_variance_model.specs.Variances.Relations.{Relating as Pair}
+use Rattle.nts_theory.specs.Posing.{equal_pair, HasPut}
 use Rattle.nts_variance.specs.declared.along.Relating.{Relating}
 use Rattle.nts_variance.specs.Terms.{pairs_at, ArePairs}
 
@@ -20,23 +20,11 @@ pub record Standing : Type 0 where
   pub entries : Entries
   pub puts : List Pair
 
--- an alias and its variable, which are to be equal
-abbrev pub equal_pair : Tree → Tree → Pair
-equal_pair a v = record { variance = variance.Invariant; left = a; right = v }
-
 -- what stands for a term: itself if it has no alias, and a new variable of its kind if it is an alias without escaping bound variables
 pub data Puts : Standing → Tree → Option Tree → Standing → Type 0 where
   plain : {s : Standing} {t : Tree} → any_label is_alias t ≡ false → Puts s t (Some t) s
   put : {s : Standing} {t : Tree} (v : Tree) (f : Entries) → IsAlias t → IsFreshLike (kind_of t) v s.entries f → Puts s t (Some v) (record { entries = f; puts = s.puts ++ equal_pair t v ∷ [] })
   goes_on : {s : Standing} {t : Tree} → (IsAlias t → ⊥) → Puts s t None s
-
--- the second tree is the first with a closed term in the place of each outermost alias without escaping bound variables: for each such
--- place one pair, in the order of the places, of the alias that stood there and the term that stands there
-pub data HasPut : List Pair → Tree → Tree → Type 0 where
-  put_alias : {a v : Tree} → IsAlias a → IsClosed v → HasPut (equal_pair a v ∷ []) a v
-  put_empty : HasPut [] empty empty
-  put_more : {ps qs : List Pair} {a b s t : Tree} → HasPut ps a b → HasPut qs s t → HasPut (ps ++ qs) (more a s) (more b t)
-  put_node : {ps : List Pair} {l : Label} {c d : Tree} → (IsAlias (node l c) → ⊥) → HasPut ps c d → HasPut ps (node l c) (node l d)
 
 abbrev pub right_sides : List Pair → Tree
 right_sides [] = empty

@@ -77,8 +77,9 @@ fn with_source(
     Ok(added)
 }
 
-/// Puts what stands for a goal behind what was added before.
-fn add_one(
+/// Puts what stands for a goal behind what was added before, for a goal of that kind that asks for it from that source. It is `Memory`
+/// where a growth was refused; then variables may be left in the table, and a part of it behind what was added.
+pub fn add_goal(
     table: &mut InferCtxt,
     cx: &mut Cx,
     added: &mut Vec<(GoalSource, Goal)>,
@@ -122,7 +123,7 @@ pub fn goals_to_add(
 {
     let mut added = Vec::new(cx.alloc);
     for goal in goals {
-        add_one(table, cx, &mut added, kind, source, *goal)?;
+        add_goal(table, cx, &mut added, kind, source, *goal)?;
     }
     Ok(added)
 }

@@ -8,6 +8,6 @@ mod putting;
 mod rigid;
 
 pub use equal::equal_to_new;
-pub use goals::{goals_to_add, replace_aliases};
+pub use goals::{add_goal, goals_to_add, replace_aliases};
 pub use putting::is_closed_alias;
 pub use rigid::relate_rigid_alias;

@@ -195,9 +195,9 @@ pub are_places : (ts : List Tree) → ((i : ℕ) → i < length ts → (s : Sort
 are_places ts h = places_from 0 ts (λ i l. (let r = h i l in (r.0, r.1 ∙ ap (position r.0) (let e : i ≡ 0 + i = omega arith in e))))
 
 -- where there are no goals, none is asked
-no_goal_asked : (mode : Mode) (vs : List Tree) (ps : List Premise) → ps ≡ [] → (p : Premise) → Among (asked_in mode (goals_with vs ps)) p → ⊥
-no_goal_asked mode vs ps e p i = subst (λ z. Among z p) (asks_none mode) (rw e at i)
+no_goal_asked : (mode : Mode) (ps : List Premise) → ps ≡ [] → (p : Premise) → Among (asked_in mode ps) p → ⊥
+no_goal_asked mode ps e p i = subst (λ z. Among z p) (asks_none mode) (rw e at i)
 
-pub reached_nothing : (Q : Queries) (h : Handler) (mode : Mode) (vs : List Tree) (ps : List Premise) (c d : Content) → ps ≡ [] → Reaches Q h mode (asked_in mode (goals_with vs ps)) c d → d ≡ c
-reached_nothing Q h mode vs ps c d e asks_nothing = refl
-reached_nothing Q h mode vs ps c d e (then_asks m p r i can asked) = absurd (no_goal_asked mode vs ps e p i)
+pub reached_nothing : (Q : Queries) (h : Handler) (mode : Mode) (ps : List Premise) (c d : Content) → ps ≡ [] → Reaches Q h mode (asked_in mode ps) c d → d ≡ c
+reached_nothing Q h mode ps c d e asks_nothing = refl
+reached_nothing Q h mode ps c d e (then_asks m p r i can asked) = absurd (no_goal_asked mode ps e p i)

@@ -8,6 +8,7 @@ pub mod DecidedGoals
 pub mod DecidedInfer
 pub mod DecidedInputs
 pub mod DecidedOpening
+pub mod DecidedPosed
 pub mod DecidedQueries
 pub mod Deciding
 pub mod DecidingExamples

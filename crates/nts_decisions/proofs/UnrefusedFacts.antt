@@ -52,7 +52,8 @@ use Rattle.nts_model.specs.Refutation.Containing.{AreInputValues, IsInputValue}
 use Rattle.nts_decisions.specs.Deciding.{blurred}
 use Rattle.nts_model.specs.Searching.Driving.{positions_from}
 use Rattle.nts_theory.proofs.Refutation.Witnesses.{outcome_long}
-use Rattle.nts_theory.proofs.Examples.ToldExamples.{no_refusal}
+use Rattle.nts_theory.proofs.Examples.ToldExamples.{no_refusal, none_with}
+use Rattle.nts_theory.proofs.Refutation.PosedGoals.{no_goals_posed, none_posed}
 
 -- leaves stand for the positions of a query, which have the kinds of any input
 pub record HasLeavesEach (Q : Queries) : Type 0 where
@@ -187,11 +188,11 @@ module _ (Q : Queries) (h : Handler) (law : IsLawfulHandler h) (mode : Mode) (ti
     never_fails (is_unmet n) = n (plain_met q y is_met)
     never_fails (has_types_apart a) = apart_unmet q y a is_met
     never_fails (is_unrelated outside n) = n.some is_plain
-    never_fails {k} (is_refused ps met (inl (values, in_one, begun, same)) refused) = no_refusal Q h mode met k values y.goals no_goals (subst (λ z. RefusesOne Q h mode k (asked_in mode z) met) same refused)
-    never_fails (is_refused ps met (inr (inl (outside, begun))) refused) = begun.some is_plain
-    never_fails (is_refused ps met (inr (inr (inside, inl begun))) refused) = begun.some is_plain
-    never_fails (is_refused ps met (inr (inr (inside, inr begun))) refused) = (let b = begun.begun in b.some is_plain)
-    never_fails (is_leaky ps met found begun reach leaks) = tight found 0 leaks
+    never_fails {k} (is_refused ps gs met posed (inl (values, in_one, begun, same)) poses refused) = no_refusal Q h mode posed k gs (no_goals_posed mode k met posed ps gs poses (same ∙ none_with values y.goals no_goals)) refused
+    never_fails (is_refused ps gs met posed (inr (inl (outside, begun))) poses refused) = begun.some is_plain
+    never_fails (is_refused ps gs met posed (inr (inr (inside, inl begun))) poses refused) = begun.some is_plain
+    never_fails (is_refused ps gs met posed (inr (inr (inside, inr begun))) poses refused) = (let b = begun.begun in b.some is_plain)
+    never_fails (is_leaky ps gs met posed found begun poses reach leaks) = tight found 0 leaks
 
     -- and what it replies is so in the caller's world
     is_tried : IsTried (canonical_of i).kinds q e' g' (map leaf_tree u)
@@ -203,13 +204,14 @@ module _ (Q : Queries) (h : Handler) (law : IsLawfulHandler h) (mode : Mode) (ti
     says_so found v table m (inr (y, inr r)) = says_merged (canonical_of i).kinds (without_constraints q) (map leaf_tree u) ts v.response is_tried.placed (query_without (canonical_of i).kinds q (map leaf_tree u) is_tried.table) r (without q (map leaf_tree u) ts entered)
 
     fact_replies : (v : Verdict) → Replies Q h mode q e' g' (map leaf_tree u) y v → ContainsMerged v.response ts
-    fact_replies v (replies ps met found (inr (inl (outside, begun))) reach is says) = absurd (begun.some is_plain)
-    fact_replies v (replies ps met found (inr (inr (inside, inl begun))) reach is says) = absurd (begun.some is_plain)
-    fact_replies v (replies ps met found (inr (inr (inside, inr begun))) reach is says) = absurd (let b = begun.begun in b.some is_plain)
-    fact_replies v (replies ps met found (inl (values, in_one, begun, are)) reach is says) =
+    fact_replies v (replies ps gs met posed found (inr (inl (outside, begun))) poses reach is says) = absurd (begun.some is_plain)
+    fact_replies v (replies ps gs met posed found (inr (inr (inside, inl begun))) poses reach is says) = absurd (begun.some is_plain)
+    fact_replies v (replies ps gs met posed found (inr (inr (inside, inr begun))) poses reach is says) = absurd (let b = begun.begun in b.some is_plain)
+    fact_replies v (replies ps gs met posed found (inl (values, in_one, begun, are)) poses reach is says) =
         let n = entered in
         let b = begun_there q n.world n.solves e' g' first.knows y over us fit one named equal proper values met begun (map leaf_tree u) ts (tried_knows (canonical_of i).kinds q e' g' (map leaf_tree u) is_tried) n.images in
-        let same : found ≡ met = reached_nothing Q h mode values y.goals met found no_goals (subst (λ z. Reaches Q h mode (asked_in mode z) met found) are reach) in
+        let none = none_posed mode (kind_for h g') met posed ps gs poses (are ∙ none_with values y.goals no_goals) in
+        let same : found ≡ met = reached_nothing Q h mode gs posed found none.1 reach ∙ none.0 in
         let table = found_table (canonical_of i).kinds q found e' g' (map leaf_tree u) is_tried is (subst (KeepsKinds q) (sym same) b.1) in
         says_so found v table (subst (λ z. MergedWorld z (map leaf_tree u) ts) (sym same) b.0) says
 

@@ -34,7 +34,7 @@ use Rattle.nts_theory.proofs.Refutation.Answered.{among_split}
 use Rattle.nts_decisions.specs.Deciding.{IsGoalDecided}
 use Rattle.nts_decisions.specs.Faring.{AreDecidedHere}
 use Rattle.nts_decisions.proofs.DecidedAliases.{decided_is_asked, all_decided, decided_asked}
-use Rattle.nts_meaning.specs.Evaluation.{IsPosed, asked_terms, goals_at}
+use Rattle.nts_meaning.specs.Evaluation.{Runs, IsPosed, asked_terms, goals_at}
 use Rattle.nts_response.specs.Forms.{premise_at}
 use Rattle.nts_meaning.specs.Meant.{Rules, ruling_since}
 use Rattle.nts_meaning.specs.Telling.{Reaches, RefusesOne}
@@ -47,7 +47,10 @@ use Rattle.nts_trying.proofs.Opened.{on_ok}
 use Rattle.nts_trying.proofs.Ran.{all_posed, proved_all, ok_inside}
 use Rattle.nts_trying.proofs.Stepping.{stopped_refused}
 use Rattle.nts_evaluation.specs.Deciding.{Decides, IsYes}
-use Rattle.nts_evaluation.specs.Promises.{StepsAsked, StepsGoals}
+use Rattle.nts_meaning.specs.Meant.{Always, IsNestedSince}
+use Rattle.nts_meaning.specs.Searching.{Searches, assumed_in}
+use Rattle.nts_evaluation.specs.Deciding.{GoalsSettled}
+use Rattle.nts_evaluation.specs.Promises.{BringsOnlyOf, WhereTold, AnswersDecided, StepsGoals}
 
 terms_first : (ts : List Tree) (z : GoalSource × Goal) (zs : List (GoalSource × Goal)) (x : Tree) → (Among (terms_of ts (asked_data ts zs)) x → Among (terms_of ts zs) x) → Among (terms_of ts (asked_data ts (z ∷ zs))) x → Among (terms_of ts (z ∷ zs)) x
 terms_first ts z zs x rest i = by_test (is_asked (tree_at ts z.1.predicate.node)) refl
@@ -80,7 +83,7 @@ posed_asked ts t (z ∷ zs) h = posed_first ts t z zs h (posed_asked ts t zs (Al
 
 -- those that are decided are asked
 module _ (h : Handler) (mode : Mode) (n : ℕ) (ts : List Tree) (t : Table) (zs : List (GoalSource × Goal)) (k : Bool) (formed : AreFormed ts) (posed : ArePosed ts t zs) (decided : AreDecidedHere h mode n (content_of ts t.entries) (goals_at ts zs) k) where
-  each_asked : (p : Premise) → Among (goals_at ts zs) p → (m : ℕ) (b : Bool) → IsGoalDecided h mode m (deeply_resolved (content_of ts t.entries) p.environment) (deeply_resolved (content_of ts t.entries) p.predicate) b → is_asked p.predicate ≡ true
+  pub each_asked : (p : Premise) → Among (goals_at ts zs) p → (m : ℕ) (b : Bool) → IsGoalDecided h mode m (deeply_resolved (content_of ts t.entries) p.environment) (deeply_resolved (content_of ts t.entries) p.predicate) b → is_asked p.predicate ≡ true
   each_asked p i m b x =
       let r = among_back (premise_at ts) zs p i in
       let posed_there = all_posed zs posed r.of r.found in
@@ -122,8 +125,18 @@ decides_joined (Err error.NoSolution) z f d = record { answer = d.answer; search
 decides_joined (Err error.Memory) z f d = record { answer = tt; search = tt }
 decides_joined (Err error.Full) z f d = record { answer = tt; search = tt }
 
+-- goals that were kept of those that were posed are asked in steps, and then so are these, with what is in doubt
+pub record StepsKept (R : Rules) (a b : Cx) (g h : SearchGraph) (t u : Table) (given : List (GoalSource × Goal)) (kind : CurrentGoalKind) (depth : ℕ) (r : Result Certainty EvalError) : Type 0 where
+  pub runs : Runs a b t u
+  pub searches : Searches a b g h
+  pub labels : OnOk r (BringsOnlyOf (terms_of a.nodes given) a t b u)
+  pub proved : Always R a (λ s. r ≡ Ok certainty.Yes → (z : GoalSource × Goal) → Among given z → IsNestedSince R.handler s t.mode (goal_kind_of kind) (assumed_in b.nodes h) b.nodes u z)
+  pub told : WhereTold R a g (λ m. OnOk r (Reaches m (mode_of t.mode) (asked_in (mode_of t.mode) (goals_at a.nodes given)) (content_of a.nodes t.entries) (content_of b.nodes u.entries)))
+  pub refuted : WhereTold R a g (λ m. r ≡ Err error.NoSolution → RefusesOne m (mode_of t.mode) (goal_kind_of kind) (asked_in (mode_of t.mode) (goals_at a.nodes given)) (content_of a.nodes t.entries))
+  pub decided : AnswersDecided R a g h depth (λ m i k. GoalsSettled m t.mode i a.nodes t given k) r IsYes
+
 module _ (R : Rules) (a b : Cx) (g h : SearchGraph) (t u : Table) (given gone : List (GoalSource × Goal)) (kind : CurrentGoalKind) (depth n : ℕ) (r : Result Certainty EvalError) (z : Certainty) where
-  all_are_stepped : (kept : List (GoalSource × Goal)) → AreAllKept a.nodes (mode_of t.mode) given kept z → StepsGoals R a b g h t u kept gone kind (steps.Below depth) n r → StepsAsked R a b g h t u given kind depth (joined r z)
+  all_are_stepped : (kept : List (GoalSource × Goal)) → AreAllKept a.nodes (mode_of t.mode) given kept z → StepsGoals R a b g h t u kept gone kind (steps.Below depth) n r → StepsKept R a b g h t u given kind depth (joined r z)
   all_are_stepped kept k stepped =
       let e : StepsGoals R a b g h t u given gone kind (steps.Below depth) n r = rw k.same at stepped in
       let here = content_of a.nodes t.entries in
@@ -138,7 +151,7 @@ module _ (R : Rules) (a b : Cx) (g h : SearchGraph) (t u : Table) (given gone : 
       }
 
   module _ (formed : AreFormed a.nodes) (posed : ArePosed a.nodes t given) where
-    some_are_stepped : (kept : List (GoalSource × Goal)) → AreSomeLeftOut a.nodes (mode_of t.mode) given kept z → StepsGoals R a b g h t u kept gone kind (steps.Below depth) n r → StepsAsked R a b g h t u given kind depth (joined r z)
+    some_are_stepped : (kept : List (GoalSource × Goal)) → AreSomeLeftOut a.nodes (mode_of t.mode) given kept z → StepsGoals R a b g h t u kept gone kind (steps.Below depth) n r → StepsKept R a b g h t u given kind depth (joined r z)
     some_are_stepped kept k stepped =
         let e : StepsGoals R a b g h t u (asked_data a.nodes given) gone kind (steps.Below depth) n r = rw k.those at stepped in
         let here = content_of a.nodes t.entries in
@@ -157,9 +170,9 @@ module _ (R : Rules) (a b : Cx) (g h : SearchGraph) (t u : Table) (given gone : 
               (e.decided s i b (asked_settled m (mode_of t.mode) i a.nodes t given b formed posed d) can);
         }
 
-    -- a candidate's goals are asked in steps by those that were kept
-    pub steps_asked : (kept : List (GoalSource × Goal)) → KeepsAsked a.nodes (mode_of t.mode) given kept z → StepsGoals R a b g h t u kept gone kind (steps.Below depth) n r → StepsAsked R a b g h t u given kind depth (joined r z)
-    steps_asked kept k stepped = elim k [ inl w ↦ all_are_stepped kept w stepped | inr w ↦ some_are_stepped kept w stepped ]
+    -- goals are asked in steps by those of them that were kept
+    pub steps_kept : (kept : List (GoalSource × Goal)) → KeepsAsked a.nodes (mode_of t.mode) given kept z → StepsGoals R a b g h t u kept gone kind (steps.Below depth) n r → StepsKept R a b g h t u given kind depth (joined r z)
+    steps_kept kept k stepped = elim k [ inl w ↦ all_are_stepped kept w stepped | inr w ↦ some_are_stepped kept w stepped ]
 
 -- what was kept are goals of the table
 pub posed_kept : (ts : List Tree) (mode : Mode) (t : Table) (given kept : List (GoalSource × Goal)) (z : Certainty) → KeepsAsked ts mode given kept z → ArePosed ts t given → ArePosed ts t kept

@@ -54,7 +54,7 @@ silent none (then_asks g e before now) = rw (silent none before, none _ _ g e no
 -- where no goal finds anything out one step is made, if the limit allows one
 pub silent_goals_take_one_step : {X A : Type 0} {Asks : X → X → GoalSource × Goal → Evaluated → Type 0} {limit n : ℕ} {x y : X} {gs left : List (GoalSource × Goal)} (c : A) → ((a b : X) (g : GoalSource × Goal) (e : Evaluated) → Asks a b g e → e.has_changed ≡ changes.No) → 0 < limit
     → CountsSteps Asks limit x gs n y left (let r : Result A EvalError = Ok c in r) → n ≡ 1
-silent_goals_take_one_step c none some (found, no_step, last) = absurd (elim last [ | inl e ↦ cc e | inr e ↦ omega (arith, e, some) ])
+silent_goals_take_one_step c none some (found, no_step, last) = absurd (elim last [ inl e ↦ cc e | inr e ↦ omega (arith, e, some) ])
 silent_goals_take_one_step c none some (found, then_steps no_step each, last) = refl
 silent_goals_take_one_step c none some (found, then_steps (then_steps before each) after, last) = absurd (let e = silent none each in cc e)
 

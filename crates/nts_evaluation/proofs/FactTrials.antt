@@ -7,12 +7,14 @@ use Rattle.nts_model.specs.Derivations.Handlers.{Handler, Candidate, IsLawfulHan
 use Rattle.nts_model.specs.Derivations.Rules.{Mode}
 use Rattle.nts_model.specs.Refutation.Choosing.{IsCandidateMet}
 use Rattle.nts_model.specs.Refutation.Opening.{binds}
-use Rattle.nts_theory.specs.AskedGoals.{asked_in}
 use Rattle.nts_theory.specs.Telling.{IsTraitGoal, IsResponseOf, AreTermsOfKinds}
 use Rattle.nts_theory.specs.RelatingCandidates.{IsBegun, goals_with}
 use Rattle.nts_decisions.specs.Faring.{Fares, no_world, by_goals}
 use Rattle.nts_decisions.specs.FirstTables.{IsSettledFact}
 use Rattle.nts_decisions.proofs.FactsSettled.{fact_over, are_places, reached_nothing}
+use Rattle.nts_theory.specs.Telling.{kind_for}
+use Rattle.nts_theory.proofs.Examples.ToldExamples.{none_with}
+use Rattle.nts_theory.proofs.Refutation.PosedGoals.{none_posed}
 use Rattle.nts_store.specs.Growth.{tree_at, Extends}
 use Rattle.nts_store.specs.Formed.{AreFormed}
 use Rattle.nts_terms.specs.declared.handles.Goal.{Goal}
@@ -31,7 +33,7 @@ use Rattle.nts_response.specs.declared.types.Response.{Response}
 use Rattle.nts_response.specs.Forms.{response_at, recorded_at, HoldsResponse}
 use Rattle.nts_search.proofs.StackLater.{response_same}
 use Rattle.nts_meaning.specs.Asking.{first_values}
-use Rattle.nts_meaning.specs.Telling.{Ruling, queries, Reaches}
+use Rattle.nts_meaning.specs.Telling.{Ruling, queries}
 use Rattle.nts_meaning.specs.Meant.{HasRunTo}
 use Rattle.nts_meaning.specs.Evaluation.{IsPosed, IsAskedGoal}
 use Rattle.nts_trying.specs.Opening.{IsOpenedTo}
@@ -50,9 +52,9 @@ plain_later a b g x y env predicate same p = rw same (record { offered = rw (env
 
 -- one that relates no aliases was begun at once
 ran_plainly : (h : Ruling) (s : Table) (a b : List Tree) (u : Table) (g : Goal) (x : CandidateData) → IsPlainCandidate a g (candidate_of a x) → (run : HasRunTo h s.mode a s b u g x)
-    → (vs : List Tree) × IsBegun (content_of a s.entries) (candidate_of a x) vs run.met × Reaches h (mode_of s.mode) (asked_in (mode_of s.mode) (goals_with vs (let y = candidate_of a x in y.goals))) run.met (content_of b u.entries)
+    → (vs : List Tree) × IsBegun (content_of a s.entries) (candidate_of a x) vs run.met × (run.left ≡ goals_with vs (let y = candidate_of a x in y.goals))
 ran_plainly h s a b u g x p run =
-    ⊎_elim (λ w. (w.0, w.2, subst (λ ps. Reaches h (mode_of s.mode) (asked_in (mode_of s.mode) ps) run.met (content_of b u.entries)) w.3 run.reaches)) (λ w. absurd (⊎_elim (λ v. (let r = v.1 in r.some p.plain)) (λ v. ⊎_elim (λ r. r.some p.plain) (λ o. (let r = o.begun in r.some p.plain)) v.1) w)) run.begun
+    ⊎_elim (λ w. (w.0, w.2, w.3)) (λ w. absurd (⊎_elim (λ v. (let r = v.1 in r.some p.plain)) (λ v. ⊎_elim (λ r. r.some p.plain) (λ o. (let r = o.begun in r.some p.plain)) v.1) w)) run.begun
 
 -- the response of the table that such a candidate left
 pub over_after : (h : Ruling) (s t u : Table) {a b : List Tree} (e : List Tree) (x : CandidateData) (g : Goal) (qs : List GenericArg) (r : Canonical Response) → HasRunTo h s.mode a s b u g x → s.entries ≡ t.entries
@@ -62,17 +64,18 @@ over_after h s t u {a} {b} e x g qs r run same continues formed table q p says h
     let now = table.now in
     let proper = now.proper in
     let terms = term_table formed table in
-    let (chosen, its_begun, its_reaches) = ran_plainly h s a b u g x p run in
-    let found : content_of b u.entries ≡ run.met = reached_nothing (queries h.variances) h.handler (mode_of s.mode) chosen _ run.met (content_of b u.entries) p.no_goals its_reaches in
+    let (chosen, its_begun, left) = ran_plainly h s a b u g x p run in
+    let none = none_posed (mode_of s.mode) (kind_for h.handler (tree_at a g.predicate.node)) run.met run.posed run.left run.goals run.poses (left ∙ none_with chosen _ p.no_goals) in
+    let found : content_of b u.entries ≡ run.met = reached_nothing (queries h.variances) h.handler (mode_of s.mode) run.goals run.posed (content_of b u.entries) none.1 run.reaches ∙ none.0 in
     let begun : IsBegun (content_of a t.entries) (candidate_of a x) chosen (content_of b u.entries) = rw (← same, found) its_begun in
     let later : Continues (content_of a t.entries) (content_of b u.entries) = rw (← same) continues in
     let values : trees_of a qs ≡ first_values q.kinds = q.values in
     let one : response_at ts r ≡ response_at e r = response_same e ts r up holds in
     let says_there : IsResponseOf (content_of b u.entries) (first_values q.kinds) (response_at ts r) = rw one (subst (λ z. IsResponseOf (content_of b u.entries) z (response_at e r)) values says) in
-    let none = silent.2 in
+    let no_constraints = silent.2 in
     subst (AreTermsOfKinds (map kind_of_var r.var_kinds.items)) (sym values)
     (fact_over (content_of a t.entries) (value_leaves 0 q.kinds) (tree_at a g.param_env.node) (tree_at a g.predicate.node) q.first (candidate_of a x) p.offered chosen (content_of b u.entries) begun (record { grows = later.grows; kinds = later.kinds })
-    now.sound proper.solvable terms.values (response_at ts r) says_there (are_places (trees_of ts r.value.var_values.items) silent.1) (ap (map (recorded_at ts)) none.0))
+    now.sound proper.solvable terms.values (response_at ts r) says_there (are_places (trees_of ts r.value.var_values.items) silent.1) (ap (map (recorded_at ts)) no_constraints.0))
 
 -- what a handler kept of what it offers: how it fares, and that what is met has no goals
 pub facts_kept : (h : Handler) (law : IsLawfulHandler h) (mode : TypingMode) (a : List Tree) (t : Table) (g : Goal) (xs : List CandidateData) → IsSettledFact h (mode_of mode) (content_of a t.entries) (tree_at a g.param_env.node) (tree_at a g.predicate.node)

@@ -53,10 +53,10 @@ module _ {R : Rules} {a b c : Cx} {g h : SearchGraph} {t u : Table} {goal : Goal
         searches = search_grown n search ran.searches grows;
         labels = ok_ran _ r s ok (OnOk-map r (λ l. rw same l) ran.labels);
         proved = λ z e. rw same (held_more (covers_grown n (search_later n n (omega arith) search ran.searches) grows) (ran.proved z (sure_ran r s ok e)));
-        told = λ z tells. ok_ran _ r s ok (OnOk-map r (λ to. record { left = to.left; met = to.met; begun = to.begun; reaches = rw same to.reaches }) (ran.told z tells));
+        told = λ z tells. ok_ran _ r s ok (OnOk-map r (λ to. record { left = to.left; met = to.met; begun = to.begun; goals = to.goals; posed = to.posed; poses = to.poses; reaches = rw same to.reaches }) (ran.told z tells));
         refuted = λ z tells e.
             leaks_or_not (FailsIn (ruling_since R.handler z) t.mode a.nodes t goal x) _ (HasRunTo (ruling_since R.handler z) t.mode a.nodes t b.nodes u goal x) r s err (ran.told z tells) e (ran.refuted z tells) (leaks e)
-            (λ to l. is_leaky to.left to.met (content_of b.nodes u.entries) to.begun to.reaches (let m = means z in m.leaks (content_of b.nodes u.entries) 0 l));
+            (λ to l. is_leaky to.left to.goals to.met to.posed (content_of b.nodes u.entries) to.begun to.poses to.reaches (let m = means z in m.leaks (content_of b.nodes u.entries) 0 l));
         decided = λ z j k d can.
             checked_decided (R.handler z.base) (content_of b.nodes u.entries) r s can.tight ok
             (λ e. elim (leaks e) [ inl q ↦ inl q | inr l ↦ inr (let m = means z in m.leaks (content_of b.nodes u.entries) 0 l) ]) (ran.decided z j k d can);

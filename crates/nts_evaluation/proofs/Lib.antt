@@ -11,6 +11,8 @@ mod AnswerExamples
 pub mod Deciding
 mod DecidedSteps
 mod AskedSteps
+pub mod PosedSteps
+mod PutCandidates
 mod Entered
 pub mod Counted
 mod DecidedCandidates

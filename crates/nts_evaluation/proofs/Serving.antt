@@ -1,7 +1,7 @@
 -- A candidate that holds, and that is offered, serves the goal.
 use Rattle.std.proofs.Common.{List, inl, inr}
 use Rattle.nts_theory.specs.RelatingCandidates.{HasPlainEquations}
-use Rattle.nts_model.specs.Derivations.Rules.{Mode}
+use Rattle.nts_model.specs.Derivations.Rules.{Mode, statement_of, IsHandlers}
 use Rattle.nts_model.specs.Tables.Contents.{Content}
 use Rattle.nts_model.specs.Terms.Trees.{Tree}
 use Rattle.nts_model.specs.Lists.{Among}
@@ -30,7 +30,7 @@ served_by h m mode A b c u g x up holds offered y =
       holds = rw (env, predicate) y.holds;
     }
 
--- one that relates no aliases holds at once
-pub held_plain : {m : Meaning} {mode : Mode} {A : List Assumed} {c : Content} {e g : Tree} {x : Candidate} → HasPlainEquations x → HoldsEither m mode A c e g x → HoldsCandidateFrom m mode A c g x
-held_plain plain (inl h) = h
-held_plain plain (inr h) = absurd (h.0 plain)
+-- one that relates no aliases, for a goal about which no handler has rules, holds at once
+pub held_plain : {m : Meaning} {mode : Mode} {A : List Assumed} {c : Content} {e g : Tree} {x : Candidate} → HasPlainEquations x → (IsHandlers (statement_of g) → ⊥) → HoldsEither m mode A c e g x → HoldsCandidateFrom m mode A c g x
+held_plain plain none (inl h) = h
+held_plain plain none (inr h) = absurd (elim h.0 [ inl n ↦ n plain | inr i ↦ none i ])

@@ -4,7 +4,7 @@ use Rattle.std.specs.Prelude.{◌≡◌, ◌⊎◌, ℕ, ◌<◌, ◌≤◌, Lis
 use Rattle.nts_model.specs.Lists.{Among}
 use Rattle.nts_model.specs.Terms.Trees.{Tree}
 use Rattle.nts_model.specs.Tables.Contents.{Content}
-use Rattle.nts_model.specs.Derivations.Rules.{Meaning, Mode, statement_of}
+use Rattle.nts_model.specs.Derivations.Rules.{Meaning, Mode, GoalKind, statement_of, IsHandlers}
 use Rattle.nts_model.specs.Derivations.Handlers.{Handler, Candidate}
 use Rattle.nts_theory.specs.Affirming.{SaysAffirmed, IsDenied, HasOwnWay}
 use Rattle.nts_theory.specs.Telling.{IsResponseOf, IsPlainResponse, kind_for}
@@ -50,13 +50,16 @@ use Rattle.nts_trying.specs.Found.{Found}
 use Rattle.nts_evaluation.specs.Counting.{AnsweredAtOnce, AsksOrSkips, AsksOnce, AsksEach, CountsSteps}
 use Rattle.nts_evaluation.specs.Deciding.{IsQueryDecided, IsOwnSettled, CanDecide, IsBelow, IsAsBefore, Decides, IsYes, IsYesUnchanged, IsOwnYes, IsRoundDecided, IsRootQuery, AreRootValues, CandidatesSettled, IsSettled, GoalsSettled, IsQueryAtFirst, IsFactHere, IsPlainCandidate, ArePlainCandidates, IsOverIfSilent, IsFactForm, IsRoundYes}
 use Rattle.nts_decisions.specs.Deciding.{IsGoalDecided}
+use Rattle.nts_trying.specs.Asking.{IsProvedAsked}
 use Rattle.nts_trying.specs.Stopping.{StopsIn}
 use Rattle.nts_trying.specs.Aliasing.{IsAliasTold, IsAliasRefuted, IsNormalizedBy, NormalTold, NormalRefuted, RunsWay, WayTold, WayRefuted}
 use Rattle.nts_trying.specs.Subtyping.{AreVariablesIn, AreSubtypesBy, SubtypesTold, SubtypesRefuted, IsJoinedAnswer}
 use Rattle.nts_trying.specs.declared.subtypes.TypePair.{TypePair}
 use Rattle.nts_trying.specs.Stepping.{ArePosed, AreLeft, AreSettled, terms_of, bound_of}
 use Rattle.nts_trying.specs.declared.steps.AvailableDepth.{AvailableDepth}
-use Rattle.nts_meaning.specs.Evaluation.{Runs, asked_terms}
+use Rattle.nts_model.specs.Derivations.Sequents.{Premise}
+use Rattle.nts_store.specs.Formed.{AreFormed}
+use Rattle.nts_meaning.specs.Evaluation.{Runs, asked_terms, goals_at}
 use Rattle.nts_store.specs.declared.fault.EvalError.TheVariants as error
 use Rattle.nts_certainty.specs.declared.certainty.Certainty.TheVariants as certainty
 use Rattle.nts_store.specs.Growth.{tree_at}
@@ -265,15 +268,23 @@ pub record RunsOne (R : Rules) (a b : Cx) (g h : SearchGraph) (t u : Table) (goa
   pub refuted : WhereTold R a g (λ m. r ≡ Err error.NoSolution → FailsIn m t.mode a.nodes t goal x)
   pub decided : AnswersDecided R a g h depth (λ m n k. IsSettled m t.mode n a.nodes t x k) r IsYes
 
--- goals of a candidate are asked in steps, those that are asked as they stand: where it is certain, each of all is proved
-pub record StepsAsked (R : Rules) (a b : Cx) (g h : SearchGraph) (t u : Table) (given : List (GoalSource × Goal)) (kind : CurrentGoalKind) (depth : ℕ) (r : Result Certainty EvalError) : Type 0 where
+-- each of these goals is proved; or the goal that asks for them is one of a handler's rules, and each is proved as it is, or with terms in
+-- the places of its aliases
+abbrev pub AreProvedAsked : {ready : List Tree → Type 0} {now : Cx} → (List Tree → Handler) → Since ready now → TypingMode → GoalKind → List Assumed → List Tree → Cx → Table → Tree → List (GoalSource × Goal) → Type 0
+AreProvedAsked handler s mode k A a b u says given =
+    ((z : GoalSource × Goal) → Among given z → IsNestedSince handler s mode k A b.nodes u z)
+    ⊎ IsHandlers (statement_of says) × ((p : Premise) → Among (goals_at a given) p → IsProvedAsked (meaning_since handler s) (mode_of mode) A (content_of b.nodes u.entries) k p)
+
+-- goals of a candidate for a goal that says this are posed in a mode, and asked in steps, those that are asked as they stand: where it is
+-- certain, all of them are proved
+pub record StepsAsked (R : Rules) (a b : Cx) (g h : SearchGraph) (t u : Table) (mode : TypingMode) (says : Tree) (given : List (GoalSource × Goal)) (kind : CurrentGoalKind) (depth : ℕ) (r : Result Certainty EvalError) : Type 0 where
   pub runs : Runs a b t u
   pub searches : Searches a b g h
   pub labels : OnOk r (BringsOnlyOf (terms_of a.nodes given) a t b u)
-  pub proved : Always R a (λ s. r ≡ Ok certainty.Yes → (z : GoalSource × Goal) → Among given z → IsNestedSince R.handler s t.mode (goal_kind_of kind) (assumed_in b.nodes h) b.nodes u z)
-  pub told : WhereTold R a g (λ m. OnOk r (ReachesAsked m t.mode a.nodes t b.nodes u given))
-  pub refuted : WhereTold R a g (λ m. r ≡ Err error.NoSolution → RefusesOneAsked m t.mode (goal_kind_of kind) a.nodes t given)
-  pub decided : AnswersDecided R a g h depth (λ m i k. GoalsSettled m t.mode i a.nodes t given k) r IsYes
+  pub proved : Always R a (λ s. AreFormed b.nodes → r ≡ Ok certainty.Yes → AreProvedAsked R.handler s mode (goal_kind_of kind) (assumed_in b.nodes h) a.nodes b u says given)
+  pub told : WhereTold R a g (λ m. OnOk r (ReachesAsked m mode (goal_kind_of kind) a.nodes t b.nodes u given))
+  pub refuted : WhereTold R a g (λ m. r ≡ Err error.NoSolution → RefusesOneAsked m mode (goal_kind_of kind) a.nodes t given)
+  pub decided : AnswersDecided R a g h depth (λ m i k. GoalsSettled m mode i a.nodes t given k) r IsYes
 
 -- goals are asked in steps: `left` are those that are left. After an error too the table is one that asking some of them leaves
 pub record StepsGoals (R : Rules) (a b : Cx) (g h : SearchGraph) (t u : Table) (given gone : List (GoalSource × Goal)) (kind : CurrentGoalKind) (depth : AvailableDepth) (n : ℕ) (r : Result Certainty EvalError) : Type 0 where

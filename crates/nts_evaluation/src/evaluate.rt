@@ -27,6 +27,7 @@ use nts_canonical::CanonicalInput;
 use nts_certainty::{Certainty, GoalSource, HasChanged, PathKind};
 use nts_delegate::{CandidateData, GoalHandler};
 use nts_meaning::{Ended, Evaluated, Round, boxed_response, resolve_goal};
+use nts_posing::pose_asked;
 use nts_response::CanonicalResponse;
 use nts_search::{CurrentGoalKind, SearchGraph, round_is_last, step_kind_for_source};
 use nts_store::EvalError;
@@ -35,9 +36,8 @@ use nts_terms::{Cx, GenericArg, Goal};
 use nts_trying::{
     AvailableDepth, EquatedAlias, GoalRow, Judged, OwnGoal, Step, Trial, TypePair, answer_outlives,
     begin_in_part, begin_relating, check_leaks, enter_forall, equate, fast_answer, goal_kind,
-    goal_row, is_open_to_normalizing, judge, keep_asked, keep_response, may_ask, may_relate,
-    merge_responses, needs_relating, record_constraints, relate_types, relevant_candidates,
-    way_goals,
+    goal_row, is_open_to_normalizing, judge, keep_response, may_ask, may_relate, merge_responses,
+    needs_relating, record_constraints, relate_types, relevant_candidates, way_goals,
 };
 
 /// Evaluates a goal in a query of its own: its leaves give place to positions, the search answers the query, and the response is
@@ -594,7 +594,8 @@ fn try_candidate<H: GoalHandler>(
     drop(values);
     cx.terms_are_formed();
     let mut asked = goals;
-    let kept = keep_asked(cx, table.typing_mode(), &mut asked)?;
+    let kept = pose_asked(table, cx, goal, kind, &mut asked)?;
+    cx.terms_are_formed();
     let mut last_steps = 0;
     let certainty = try_evaluate_goals(
         table,
@@ -638,7 +639,8 @@ fn try_relating<H: GoalHandler>(
         return Ok(Certainty::AMBIGUOUS);
     }
     let mut asked = begun.goals;
-    let kept = keep_asked(cx, table.typing_mode(), &mut asked)?;
+    let kept = pose_asked(table, cx, goal, kind, &mut asked)?;
+    cx.terms_are_formed();
     let mut last_steps = 0;
     let certainty = try_evaluate_goals(
         table,

@@ -1,23 +1,22 @@
 -- The first equations of a candidate, begun alone, where some relate aliases.
-use Rattle.std.proofs.Common.{◌≡◌, ◌⊎◌, inl, inr, ℕ, suc, ◌+◌, ◌-◌, ◌<◌, ◌≤◌, List, [], map, length, take, refl, sym, ap, ◌∙◌, subst, arith}
-use Rattle.std.proofs.lemmas.List.{take-map, take_all, length-map}
+use Rattle.std.proofs.Common.{◌≡◌, ◌⊎◌, inl, inr, ℕ, ◌+◌, ◌-◌, ◌<◌, ◌≤◌, List, [], map, length, take, refl, sym, ap, ◌∙◌, subst, arith}
+use Rattle.std.proofs.lemmas.List.{take-map, take_all}
 use Rattle.nts_model.specs.declared.labels.Variance.{Variance}
 use Rattle.nts_model.specs.Terms.Trees.{Tree}
 use Rattle.nts_model.specs.Tables.Contents.{Content}
-use Rattle.nts_model.specs.Derivations.Sequents.{Premise}
-use Rattle.nts_model.specs.Derivations.Rules.{Mode, Equation, coherence}
+use Rattle.nts_model.specs.Derivations.Rules.{Mode, coherence}
 use Rattle.nts_model.specs.Derivations.Handlers.{Candidate}
 use Rattle.nts_model.specs.Refutation.Choosing.{IsCandidateMet}
-use Rattle.nts_theory.specs.RelatingCandidates.{HasPlainEquations, IsBegun, IsUnrelated, plain_part, plain_equations, aliased_equations}
+use Rattle.nts_theory.specs.RelatingCandidates.{HasPlainEquations, IsUnrelated}
 use Rattle.nts_theory.proofs.Refutation.PlainParts.{plain_is}
-use Rattle.nts_store.specs.Growth.{Extends, tree_at}
+use Rattle.nts_store.specs.Growth.{tree_at}
 use Rattle.nts_unify.specs.Reading.{content_of}
 use Rattle.nts_unify.specs.Lawful.{content_of-extended}
 use Rattle.nts_table.specs.Tables.{Table, IsTable}
 use Rattle.nts_terms.specs.declared.cx.Cx.{Cx}
 use Rattle.nts_terms.specs.declared.handles.Goal.{Goal}
 use Rattle.nts_terms.specs.Rest.{Grows}
-use Rattle.nts_terms.specs.Signatures.{Declared, variances_in}
+use Rattle.nts_terms.specs.Signatures.{variances_in}
 use Rattle.nts_certainty.specs.Certainties.{ambiguous}
 use Rattle.nts_certainty.specs.declared.certainty.Certainty.TheVariants as certainty
 use Rattle.nts_certainty.specs.declared.reruns.RerunCondition.TheVariants as rerun

@@ -8,8 +8,9 @@ ghost use Rattle.nts_explaining.specs.Asking.{IsWithin};
 use nts_certainty::{Certainty, GoalSource};
 use nts_delegate::GoalHandler;
 use nts_evaluation::nts_search::{CurrentGoalKind, SearchGraph};
-use nts_evaluation::nts_trying::{AvailableDepth, asks};
+use nts_evaluation::nts_trying::AvailableDepth;
 use nts_evaluation::try_evaluate_goals;
+use nts_posing::pose_asked;
 use nts_store::EvalError;
 use nts_table::InferCtxt;
 use nts_terms::{Cx, Goal};
@@ -124,7 +125,8 @@ struct Asked {
     has_changed: bool,
 }
 
-/// Asks one condition, in a search of its own, as deep as the store's limit says. In coherence one that is not asked is in doubt.
+/// Asks one condition, in a search of its own, as deep as the store's limit says: in coherence as what stands for it there, and in doubt
+/// if an alias stays in it.
 fn ask<H: GoalHandler>(
     table: &mut InferCtxt,
     cx: &mut Cx,
@@ -136,16 +138,11 @@ fn ask<H: GoalHandler>(
     requires ready { H.ready cx.old.nodes handler.now }
     ensures runs { Runs cx.old cx.new table.old table.new }
 {
-    if !asks(cx, table.typing_mode(), goal.1) {
-        return Ok(Asked {
-            certainty: Some(Certainty::AMBIGUOUS),
-            has_changed: false,
-        });
-    }
     let depth = cx.recursion_limit();
     let mut graph = SearchGraph::new(cx.alloc, depth);
     let mut goals = Vec::new(cx.alloc);
     goals.push(goal)?;
+    let kept = pose_asked(table, cx, goal.1, kind, &mut goals)?;
     let mut steps = 0;
     let answer = try_evaluate_goals(
         table,
@@ -159,7 +156,7 @@ fn ask<H: GoalHandler>(
     );
     match answer {
         Ok(certainty) => Ok(Asked {
-            certainty: Some(certainty),
+            certainty: Some(certainty.and(kept)),
             has_changed: steps > 1,
         }),
         Err(EvalError::NoSolution) => Ok(Asked {

@@ -7,11 +7,13 @@ use Rattle.nts_model.specs.declared.labels.Sort.{Sort}
 use Rattle.nts_model.specs.Terms.Trees.{Tree, Place, more, empty}
 use Rattle.nts_model.specs.Tables.Contents.{Content}
 use Rattle.nts_model.specs.Derivations.Sequents.{Premise, PathKind, coinductive, unknown, inductive, forced_ambiguity}
-use Rattle.nts_model.specs.Derivations.Rules.{Meaning, Mode, Equation, related, alike, goal_kind, step_kind}
-use Rattle.nts_theory.specs.RelatingCandidates.{HoldsEquationFrom}
+use Rattle.nts_model.specs.Derivations.Rules.{Meaning, Mode, GoalKind, Equation, related, alike, goal_kind, step_kind}
+use Rattle.nts_theory.specs.RelatingCandidates.{HoldsEquationFrom, IsProvedPut}
+use Rattle.nts_theory.proofs.Derivations.Monotone.{replaced_more}
 use Rattle.nts_model.specs.Derivations.Proving.{sequent_at}
 use Rattle.nts_model.specs.Derivations.Proofs.{Assumed, passed}
-use Rattle.nts_model.specs.Derivations.Handlers.{Handler, Candidate}
+use Rattle.nts_model.specs.Terms.Substitutions.{filled}
+use Rattle.nts_model.specs.Derivations.Handlers.{Handler, Candidate, premise_by}
 use Rattle.nts_model.specs.Searching.Stacks.{IsProvedFrom, IsProvedFromAt, IsReadSince, AreReadSince, assumptions, path_kind}
 use Rattle.nts_theory.proofs.Searching.Stacks.{read_since_covers}
 use Rattle.nts_model.specs.Canonical.Inputs.{PositionKind, CanonicalInput as Form}
@@ -253,6 +255,18 @@ goal_more m mode A B c g vs q f y =
     let k = step_kind (goal_kind m g) q.source in
     record { environment = y.environment; predicate = y.predicate; proved = derived_more m mode (passed k A) (passed k B) _ (covers_passed k A B f) y.proved }
 
+put_more_assumed : (m : Meaning) (mode : Mode) (A B : List Assumed) (c : Content) (k : GoalKind) (p : Premise) → Covers A B → IsProvedPut m mode A c k p → IsProvedPut m mode B c k p
+put_more_assumed m mode A B c k p f y =
+    let step = step_kind k p.source in
+    record {
+      environment = y.environment;
+      predicate = y.predicate;
+      says = y.says;
+      goal = y.goal;
+      replaced = replaced_more (λ a v w. (w.0, derived_more m mode (passed step A) (passed step B) _ (covers_passed step A B f) w.1)) y.replaced;
+      proved = derived_more m mode (passed step A) (passed step B) _ (covers_passed step A B f) y.proved;
+    }
+
 pub held_more : {m : Meaning} {mode : Mode} {A B : List Assumed} {c : Content} {e g : Tree} {d : Candidate} → Covers A B → HoldsSurely m mode A c e g d → HoldsSurely m mode B c e g d
 held_more {m} {mode} {A} {B} {c} {e} {g} {d} f s = record { sure = s.sure; holds = by_case s.holds }
   where
@@ -260,7 +274,7 @@ held_more {m} {mode} {A} {B} {c} {e} {g} {d} f s = record { sure = s.sure; holds
     by_case (inl x) =
         inl (record { chosen = x.chosen; values = x.values; known = x.known; equations = x.equations; constraints = x.constraints; goals = λ q i. goal_more m mode A B c g x.chosen q f (x.goals q i) })
     by_case (inr (some, x)) =
-        inr (some, record { chosen = x.chosen; values = x.values; known = x.known; equations = λ q i. equation_more m mode A B c e x.chosen q f (x.equations q i); constraints = x.constraints; goals = λ q i. goal_more m mode A B c g x.chosen q f (x.goals q i) })
+        inr (some, record { chosen = x.chosen; values = x.values; known = x.known; equations = λ q i. equation_more m mode A B c e x.chosen q f (x.equations q i); constraints = x.constraints; goals = λ q i. elim (x.goals q i) [ inl y ↦ inl (goal_more m mode A B c g x.chosen q f y) | inr y ↦ inr (put_more_assumed m mode A B c (goal_kind m g) (premise_by (filled x.chosen) q) f y) ] })
 
 pub served_more : {h : Handler} {m : Meaning} {mode : Mode} {A B : List Assumed} {c : Content} {e g : Tree} → Covers A B → IsServed h m mode A c e g → IsServed h m mode B c e g
 served_more {h} {m} {mode} {A} {B} {c} {e} {g} f s =

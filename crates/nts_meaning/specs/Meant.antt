@@ -3,7 +3,7 @@ use Rattle.std.specs.Prelude.{◌≡◌, ◌⊎◌, ℕ, false, List, []}
 use Rattle.nts_model.specs.declared.labels.Variance.{Variance}
 use Rattle.nts_model.specs.Terms.Trees.{Tree}
 use Rattle.nts_model.specs.Lists.{Among}
-use Rattle.nts_model.specs.Derivations.Rules.{Mode, Meaning, GoalKind, step_kind}
+use Rattle.nts_model.specs.Derivations.Rules.{Mode, Meaning, GoalKind, step_kind, statement_of, IsHandlers}
 use Rattle.nts_model.specs.Derivations.Proofs.{Assumed, HasProof, passed}
 use Rattle.nts_model.specs.Searching.Stacks.{IsProvedFrom, HoldsCandidateFrom}
 use Rattle.nts_model.specs.Tables.Resolving.{deeply_resolved}
@@ -31,6 +31,7 @@ use Rattle.nts_model.specs.Answers.Responses.{answer_sequent}
 use Rattle.nts_candidates.specs.Offered.{source_of, candidate_of, candidates_of}
 use Rattle.nts_meaning.specs.Telling.{Ruling, Tells, Refutes, Outcomes, Replies, Fails, Reaches, RefusesOne, Asked, Refused, QueryTells, QueryRefutes}
 use Rattle.nts_theory.specs.AskedGoals.{asked_in}
+use Rattle.nts_theory.specs.Posing.{PosesIn}
 use Rattle.nts_theory.specs.Telling.{IsPlainResponse}
 use Rattle.nts_theory.specs.RelatingCandidates.{HasPlainEquations, HoldsByRelating, Begins}
 use Rattle.nts_model.specs.Derivations.Sequents.{Premise}
@@ -86,9 +87,10 @@ abbrev pub IsOffered : Handler → TypingMode → List Tree → Goal → Candida
 IsOffered h mode ts g c = Among (offers_of h (mode_of mode) ts g) (candidate_of ts c)
 
 -- a candidate for the goal g of the environment e holds: its goals are proved from what is assumed at the goal, after a step. Where an
--- equation of it relates aliases, what relating left is proved too
+-- equation of it relates aliases, what relating left is proved too; and of a goal about which a handler has rules a candidate's goals may
+-- be proved with terms in the places of aliases
 abbrev pub HoldsEither : Meaning → Mode → List Assumed → Content → Tree → Tree → Candidate → Type 0
-HoldsEither m mode A c e g x = HoldsCandidateFrom m mode A c g x ⊎ (HasPlainEquations x → ⊥) × HoldsByRelating m mode A c e g x
+HoldsEither m mode A c e g x = HoldsCandidateFrom m mode A c g x ⊎ ((HasPlainEquations x → ⊥) ⊎ IsHandlers (statement_of g)) × HoldsByRelating m mode A c e g x
 
 -- .. and is certain
 pub record HoldsSurely (m : Meaning) (mode : Mode) (A : List Assumed) (c : Content) (e g : Tree) (x : Candidate) : Type 0 where
@@ -184,23 +186,32 @@ RepliesWith h mode a t g qs x b r = Replies h (mode_of mode) (content_of a t.ent
 abbrev pub FailsIn : Ruling → TypingMode → List Tree → Table → Goal → CandidateData → Type 0
 FailsIn h mode a t g x = Fails h (mode_of mode) (kind_for h.handler (tree_at a g.predicate.node)) (content_of a t.entries) (tree_at a g.param_env.node) (candidate_of a x)
 
--- a candidate for a goal was run: it is begun, and then some of the goals that are asked of those that are left of it were
+-- a candidate for a goal was run: it is begun, what is left of it is posed, and then some of the goals that are asked of these were
 pub record HasRunTo (h : Ruling) (mode : TypingMode) (a : List Tree) (t : Table) (b : List Tree) (u : Table) (g : Goal) (x : CandidateData) : Type 0 where
   pub left : List Premise
   pub met : Content
   pub begun : Begins h.variances (mode_of mode) (content_of a t.entries) (tree_at a g.param_env.node) (candidate_of a x) met left
-  pub reaches : Reaches h (mode_of mode) (asked_in (mode_of mode) left) met (content_of b u.entries)
+  pub goals : List Premise
+  pub posed : Content
+  pub poses : PosesIn (mode_of mode) (kind_for h.handler (tree_at a g.predicate.node)) met left posed goals
+  pub reaches : Reaches h (mode_of mode) (asked_in (mode_of mode) goals) posed (content_of b u.entries)
 
 -- goals of the store a were asked
 abbrev pub ReachesBy : Ruling → TypingMode → List Tree → Table → List Tree → Table → List (GoalSource × Goal) → Type 0
 ReachesBy h mode a t b u gs = Reaches h (mode_of mode) (goals_at a gs) (content_of a t.entries) (content_of b u.entries)
 
--- .. those of a candidate that are asked
-abbrev pub ReachesAsked : Ruling → TypingMode → List Tree → Table → List Tree → Table → List (GoalSource × Goal) → Type 0
-ReachesAsked h mode a t b u gs = Reaches h (mode_of mode) (asked_in (mode_of mode) (goals_at a gs)) (content_of a t.entries) (content_of b u.entries)
+-- .. those of a candidate for a goal of that kind, which are posed, and of which some are asked
+pub record ReachesAsked (h : Ruling) (mode : TypingMode) (k : GoalKind) (a : List Tree) (t : Table) (b : List Tree) (u : Table) (gs : List (GoalSource × Goal)) : Type 0 where
+  pub goals : List Premise
+  pub posed : Content
+  pub poses : PosesIn (mode_of mode) k (content_of a t.entries) (goals_at a gs) posed goals
+  pub reaches : Reaches h (mode_of mode) (asked_in (mode_of mode) goals) posed (content_of b u.entries)
 
 abbrev pub RefusesOneOf : Ruling → TypingMode → GoalKind → List Tree → Table → List (GoalSource × Goal) → Type 0
 RefusesOneOf h mode k a t gs = RefusesOne h (mode_of mode) k (goals_at a gs) (content_of a t.entries)
 
-abbrev pub RefusesOneAsked : Ruling → TypingMode → GoalKind → List Tree → Table → List (GoalSource × Goal) → Type 0
-RefusesOneAsked h mode k a t gs = RefusesOne h (mode_of mode) k (asked_in (mode_of mode) (goals_at a gs)) (content_of a t.entries)
+pub record RefusesOneAsked (h : Ruling) (mode : TypingMode) (k : GoalKind) (a : List Tree) (t : Table) (gs : List (GoalSource × Goal)) : Type 0 where
+  pub goals : List Premise
+  pub posed : Content
+  pub poses : PosesIn (mode_of mode) k (content_of a t.entries) (goals_at a gs) posed goals
+  pub refuses : RefusesOne h (mode_of mode) k (asked_in (mode_of mode) goals) posed

@@ -3,6 +3,8 @@
 pub mod ByParts
 pub mod ByRelating
 pub mod ChosenValues
+pub mod Loose
+pub mod PosedHolds
 pub mod BuiltIn
 pub mod ByEngine
 pub mod ByOwnWay

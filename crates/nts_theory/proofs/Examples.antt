@@ -8,6 +8,7 @@ pub mod ErasingExamples
 pub mod OpenGoalExample
 pub mod ToldExamples
 pub mod AliasExamples
+mod PosingExamples
 mod EqualExamples
 pub mod JudgedExamples
 pub mod SubtypingExamples

@@ -10,6 +10,7 @@ pub mod OfferMeeting
 pub mod Equating
 pub mod Entering
 pub mod Carriers
+pub mod WithValues
 pub mod UsedRules
 pub mod Theories
 pub mod Offering
@@ -32,6 +33,9 @@ pub mod Begun
 pub mod OneSided
 pub mod AskedGoals
 pub mod Turned
+pub mod Matched
+pub mod Posed
+pub mod PosedGoals
 pub mod Witnesses
 pub mod Refuted
 pub mod Tight

@@ -3,7 +3,6 @@
 -- stands: it is left out if an alias stands in it, and then the candidate is in doubt.
 use Rattle.std.specs.Prelude.{◌&&◌, ◌||◌, Bool, true, false, not, if◌then◌else◌, List, [], ◌∷◌}
 use Rattle.nts_model.specs.declared.labels.ClauseHead.TheVariants as clause
-use Rattle.nts_model.specs.declared.labels.PredicateHead.TheVariants as predicate
 use Rattle.nts_model.specs.declared.labels.Label.TheVariants as label
 use Rattle.nts_model.specs.Terms.Trees.{Tree, node, any_label, is_alias}
 use Rattle.nts_model.specs.Derivations.Sequents.{Premise}

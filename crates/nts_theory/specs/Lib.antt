@@ -5,5 +5,6 @@ pub mod Subtyping
 pub mod Aliasing
 pub mod RelatingCandidates
 pub mod AskedGoals
+pub mod Posing
 pub mod Refutation
 pub mod Telling

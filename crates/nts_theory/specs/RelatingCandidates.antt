@@ -11,9 +11,9 @@ use Rattle.nts_model.specs.Terms.Substitutions.{filled}
 use Rattle.nts_model.specs.Tables.Contents.{Content}
 use Rattle.nts_model.specs.Tables.Resolving.{Knows, deeply_resolved}
 use Rattle.nts_model.specs.Tables.Holding.{Continues}
-use Rattle.nts_model.specs.Derivations.Related.{Constraint}
+use Rattle.nts_model.specs.Derivations.Related.{Constraint, alias_goal}
 use Rattle.nts_model.specs.Derivations.Sequents.{Premise, inductive}
-use Rattle.nts_model.specs.Derivations.Rules.{Meaning, Mode, coherence, Equation, related, alike, relating, goal_kind, step_kind}
+use Rattle.nts_model.specs.Derivations.Rules.{Meaning, Mode, coherence, Equation, related, alike, relating, GoalKind, goal_kind, step_kind, choice, Replaced, statement_of}
 use Rattle.nts_model.specs.Derivations.Proofs.{Assumed, passed}
 use Rattle.nts_model.specs.Derivations.Proving.{IsTermOf, AreEquated, IsHeldAt}
 use Rattle.nts_model.specs.Derivations.Handlers.{Candidate, premise_by, AreValuesOf}
@@ -26,6 +26,7 @@ use Rattle.nts_variance_model.specs.Variances.Leaving.{Refuses}
 use Rattle.nts_variance_model.specs.Variances.RelatingBy.{AreGoalsOf}
 use Rattle.nts_theory.specs.Subtyping.{LeavesGoals}
 use Rattle.nts_theory.specs.Aliasing.{IsPlainEquality}
+use Rattle.nts_theory.specs.Posing.{TakesValues}
 
 -- in coherence an inductive cycle is in doubt, and elsewhere it has no solution; there alone subtypes are related
 abbrev pub IsCutIn : Mode → Type 0
@@ -171,11 +172,22 @@ abbrev pub HoldsEquationFrom : Meaning → Mode → List Assumed → Content →
 HoldsEquationFrom m mode A c e vs (related a b) = AreEquated c vs a b ⊎ IsRelatedFrom m mode A c e (filled vs a) (filled vs b)
 HoldsEquationFrom m mode A c e vs (alike a b) = AreEquated c vs a b
 
--- a candidate for the goal g of the environment e holds under the table: its equations do, and each of its goals is proved
+-- what a premise says is proved with terms in the places of its aliases, each of which is proved to be equal to its alias by a step of
+-- the premise's kind
+pub record IsProvedPut (m : Meaning) (mode : Mode) (A : List Assumed) (c : Content) (k : GoalKind) (p : Premise) : Type 0 where
+  pub environment : IsTermOf c p.environment
+  pub predicate : IsTermOf c p.predicate
+  pub says : TakesValues (statement_of p.predicate)
+  pub goal : Tree
+  pub replaced : Replaced (λ a v. IsTermOf c v × IsProvedFrom m mode (passed (step_kind k (let q = choice k p a v in q.source)) A) c p.environment (alias_goal variance.Invariant a v)) p.predicate goal
+  pub proved : IsProvedFrom m mode (passed (step_kind k p.source) A) c p.environment goal
+
+-- a candidate for the goal g of the environment e holds under the table: its equations do, and each of its goals is proved, as it is or
+-- with terms in the places of its aliases
 pub record HoldsByRelating (m : Meaning) (mode : Mode) (A : List Assumed) (c : Content) (e g : Tree) (d : Candidate) : Type 0 where
   pub chosen : List Tree
   pub values : AreValuesOf d.fresh chosen
   pub known : (v : Tree) → Among chosen v → Knows c v
   pub equations : (q : Equation) → Among d.equations q → HoldsEquationFrom m mode A c e chosen q
   pub constraints : (x : Constraint) → Among d.constraints x → IsHeldAt c chosen x
-  pub goals : (q : Premise) → Among d.goals q → IsProvedFromAt m mode (passed (step_kind (goal_kind m g) q.source) A) c chosen q
+  pub goals : (q : Premise) → Among d.goals q → IsProvedFromAt m mode (passed (step_kind (goal_kind m g) q.source) A) c chosen q ⊎ IsProvedPut m mode A c (goal_kind m g) (premise_by (filled chosen) q)

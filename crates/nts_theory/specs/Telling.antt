@@ -36,6 +36,7 @@ use Rattle.nts_theory.specs.Outliving.{IsOutlives}
 use Rattle.nts_theory.specs.Subtyping.{LeavesPremises, IsNoSubtype}
 use Rattle.nts_theory.specs.Aliasing.{IsPlainEquality, NormalizesSides, NormalizesLesser, IsLesserGoal}
 use Rattle.nts_theory.specs.AskedGoals.{asked_in}
+use Rattle.nts_theory.specs.Posing.{PosesIn}
 use Rattle.nts_theory.specs.RelatingCandidates.{IsCutIn, HasPlainEquations, plain_part, Begins, MayRelate, IsUnrelated, HasTypesApart}
 use Rattle.nts_model.specs.Answers.Responses.{Findings, AreFindings, Response, response_of, IsResponseTo, Applies, RefusesResponse}
 
@@ -261,10 +262,11 @@ mutual
     then_fails : {c : Content} {e g : Tree} {qs : List Tree} {xs : List Candidate} {vs : List Verdict} {x : Candidate} → Outcomes Q h mode c e g qs xs vs → Fails Q h mode (kind_for h g) c e x → Outcomes Q h mode c e g qs (xs ++ x ∷ []) vs
     then_replies : {c : Content} {e g : Tree} {qs : List Tree} {xs : List Candidate} {vs : List Verdict} {x : Candidate} {v : Verdict} → Outcomes Q h mode c e g qs xs vs → Replies Q h mode c e g qs x v → Outcomes Q h mode c e g qs (xs ++ x ∷ []) (vs ++ v ∷ [])
 
-  -- the reply of a candidate: it is begun, some of the goals that are asked of those that are left of it were, and the table says what it found
+  -- the reply of a candidate: it is begun, and what is left of it is posed; some of the goals that are asked of these were, and the table
+  -- says what it found
   pub data Replies (Q : Queries) (h : Handler) (mode : Mode) : Content → Tree → Tree → List Tree → Candidate → Verdict → Type 0 where
-    replies : {c : Content} {e g : Tree} {qs : List Tree} {x : Candidate} {v : Verdict} (ps : List Premise) (met found : Content) → Begins Q.variances mode c e x met ps → Reaches Q h mode (asked_in mode ps) met found → IsFound c e g found → SaysOf c found qs v
-        → Replies Q h mode c e g qs x v
+    replies : {c : Content} {e g : Tree} {qs : List Tree} {x : Candidate} {v : Verdict} (ps gs : List Premise) (met posed found : Content) → Begins Q.variances mode c e x met ps → PosesIn mode (kind_for h g) met ps posed gs → Reaches Q h mode (asked_in mode gs) posed found
+        → IsFound c e g found → SaysOf c found qs v → Replies Q h mode c e g qs x v
 
   -- a candidate for a goal of that kind, in that environment, fails: no world of the table meets what is made equal of it at once; or it
   -- equates types that are apart; or no settled solution relates its equations with aliases, which counts in coherence where each of them
@@ -274,8 +276,8 @@ mutual
     is_unmet : {k : GoalKind} {c : Content} {e : Tree} {x : Candidate} → (IsCandidateMet c (plain_part x) → ⊥) → Fails Q h mode k c e x
     has_types_apart : {k : GoalKind} {c : Content} {e : Tree} {x : Candidate} → HasTypesApart x → Fails Q h mode k c e x
     is_unrelated : {k : GoalKind} {c : Content} {e : Tree} {x : Candidate} → MayRelate mode x → IsUnrelated Q.variances c x → Fails Q h mode k c e x
-    is_refused : {k : GoalKind} {c : Content} {e : Tree} {x : Candidate} (ps : List Premise) (met : Content) → Begins Q.variances mode c e x met ps → RefusesOne Q h mode k (asked_in mode ps) met → Fails Q h mode k c e x
-    is_leaky : {k : GoalKind} {c : Content} {e : Tree} {x : Candidate} (ps : List Premise) (met found : Content) → Begins Q.variances mode c e x met ps → Reaches Q h mode (asked_in mode ps) met found → h.leaks found 0 → Fails Q h mode k c e x
+    is_refused : {k : GoalKind} {c : Content} {e : Tree} {x : Candidate} (ps gs : List Premise) (met posed : Content) → Begins Q.variances mode c e x met ps → PosesIn mode k met ps posed gs → RefusesOne Q h mode k (asked_in mode gs) posed → Fails Q h mode k c e x
+    is_leaky : {k : GoalKind} {c : Content} {e : Tree} {x : Candidate} (ps gs : List Premise) (met posed found : Content) → Begins Q.variances mode c e x met ps → PosesIn mode k met ps posed gs → Reaches Q h mode (asked_in mode gs) posed found → h.leaks found 0 → Fails Q h mode k c e x
 
   -- some of the goals were asked, in any order and more than once
   pub data Reaches (Q : Queries) (h : Handler) (mode : Mode) : List Premise → Content → Content → Type 0 where

@@ -1,11 +1,10 @@
 -- Goals of a candidate that are asked, as data and as trees.
-use Rattle.std.proofs.Common.{◌≡◌, ◌+◌, ◌<◌, ℕ, arith, length, inl, inr, Bool, true, false, List, [], ◌∷◌, ◌++◌, map, Some, refl, ap, ◌∙◌, sym, subst}
-use Rattle.std.specs.Prelude.{All, ◌&&◌, ◌||◌, not}
+use Rattle.std.proofs.Common.{◌≡◌, ◌<◌, ℕ, arith, length, Bool, true, false, List, [], ◌∷◌, ◌++◌, Some, refl, ap, ◌∙◌, sym}
+use Rattle.std.specs.Prelude.{All, not}
 use Rattle.std.proofs.lemmas.List.Elements.{All-nil, All-cons, All-head, All-tail}
 use Rattle.nts_model.specs.declared.labels.ClauseHead.TheVariants as clause
 use Rattle.nts_model.specs.declared.labels.ListHead.TheVariants as list
 use Rattle.nts_model.specs.declared.labels.Label.TheVariants as label
-use Rattle.nts_model.specs.Lists.{Among}
 use Rattle.nts_model.specs.Terms.Trees.{Tree, empty, more, node, any_label, is_alias, kind_of, statement, bound_predicate, IsFormed}
 use Rattle.nts_model.specs.Derivations.Rules.{statement_of, IsHandlers}
 use Rattle.nts_store.specs.Growth.{tree_at}

@@ -1,22 +1,27 @@
 -- A candidate that was begun by relating holds where all goals that are left are proved.
-use Rattle.std.proofs.Common.{◌≡◌, inl, inr, ⊎_elim, Bool, true, false, List, [], ◌∷◌, ◌++◌, map, refl, sym, ap, ◌∙◌, subst}
+use Rattle.std.proofs.Common.{◌≡◌, ◌⊎◌, inl, inr, ⊎_elim, Bool, true, false, List, [], ◌∷◌, ◌++◌, map, refl, sym, ap, ◌∙◌, subst}
 use Rattle.std.specs.Prelude.{if◌then◌else◌}
+use Rattle.nts_model.specs.declared.labels.Variance.{Variance}
 use Rattle.nts_model.specs.declared.labels.Variance.TheVariants as variance
+use Rattle.nts_model.specs.declared.labels.PredicateHead.{PredicateHead}
 use Rattle.nts_model.specs.Lists.{Among}
 use Rattle.nts_model.specs.Terms.Trees.{Tree, IsFormed}
 use Rattle.nts_model.specs.Terms.Substitutions.{filled}
 use Rattle.nts_model.specs.Tables.Contents.{Content}
 use Rattle.nts_model.specs.Tables.Resolving.{Knows, deeply_resolved}
 use Rattle.nts_model.proofs.Tables.Held.{Continues-refl}
-use Rattle.nts_model.specs.Derivations.Sequents.{type_relating, inductive}
-use Rattle.nts_model.specs.Derivations.Handlers.{certain}
-use Rattle.nts_model.specs.Derivations.Rules.{Meaning, Mode, GoalKind, Equation, related, alike, goal_kind, step_kind}
+use Rattle.nts_model.specs.Derivations.Related.{directed}
+use Rattle.nts_model.specs.Derivations.Sequents.{Premise, type_relating, inductive}
+use Rattle.nts_model.specs.Derivations.Handlers.{certain, premise_by}
+use Rattle.nts_model.specs.Derivations.Rules.{Meaning, Mode, GoalKind, Equation, related, alike, goal_kind, step_kind, statement_of}
 use Rattle.nts_model.specs.Derivations.Proofs.{Assumed, passed}
 use Rattle.nts_model.specs.Derivations.Proving.{IsTermOf}
-use Rattle.nts_model.specs.Searching.Stacks.{IsProvedFrom}
+use Rattle.nts_model.specs.Searching.Stacks.{IsProvedFrom, IsProvedFromAt}
 use Rattle.nts_model.specs.Refutation.Choosing.{left_of, right_of}
+use Rattle.nts_variance_model.specs.Variances.Relations.{Relating as Pair}
 use Rattle.nts_variance_model.specs.Variances.AnsweredGoals.{RelatedUnder, AllRelatedUnder}
-use Rattle.nts_theory.specs.RelatingCandidates.{HasPlainEquations, relates_aliases, aliased_equations, plain_equations, pairs_with, HoldsEquationFrom}
+use Rattle.nts_theory.specs.Posing.{TakesValues}
+use Rattle.nts_theory.specs.RelatingCandidates.{HasPlainEquations, relates_aliases, aliased_equations, plain_equations, pairs_with, HoldsEquationFrom, IsProvedPut, goals_with}
 use Rattle.nts_theory.proofs.Refutation.PlainParts.{plain_or_aliased}
 use Rattle.nts_store.specs.Formed.{AreFormed}
 use Rattle.nts_store.specs.Growth.{tree_at, trees_at}
@@ -32,17 +37,23 @@ use Rattle.nts_unify.specs.Reading.{content_of}
 use Rattle.nts_table.specs.Tables.{Table}
 use Rattle.nts_candidates.specs.declared.data.Equation.{Equation as EquationData}
 use Rattle.nts_candidates.specs.declared.data.CandidateData.{CandidateData}
-use Rattle.nts_candidates.specs.Offered.{equation_of, constraint_of, premise_of, candidate_of, source_of}
+use Rattle.nts_candidates.specs.Offered.{equation_of, constraint_of, premise_of, candidate_of}
 use Rattle.nts_delegate.specs.Candidates.{IsCandidate, AreEquations}
-use Rattle.nts_meaning.specs.Evaluation.{Goes, IsPosed, AllKnown}
+use Rattle.nts_variance.specs.declared.along.Relating.{Relating}
+use Rattle.nts_variance.specs.Goals.{goal_head}
+use Rattle.nts_variance.specs.Terms.{pair_at}
+use Rattle.nts_solver_relating.specs.Sides.{AreGoalsOfPairs}
+use Rattle.nts_response.specs.Forms.{premise_at}
+use Rattle.nts_meaning.specs.Evaluation.{Goes, IsPosed, AllKnown, goals_at}
 use Rattle.nts_meaning.specs.Meant.{HoldsSurely}
-use Rattle.nts_meaning.specs.Running.{EachStays, Stays, EquationHolds, ConstraintHolds, PremiseHolds, StaysProved}
+use Rattle.nts_meaning.specs.Running.{EachStays, Stays, EquationHolds, ConstraintHolds}
 use Rattle.nts_meaning.proofs.Evaluating.{Goes-trans, Goes-extends, IsPosed-later, Knows-goes}
 use Rattle.nts_meaning.proofs.Running.{Equates-later, Constrains-later, term_table}
 use Rattle.nts_trying.specs.Subtyping.{with_source}
 use Rattle.nts_trying.specs.Relating.{aliased_data, plain_data, left_node, right_node, left_list, right_list, RunsByRelating, BeginsByRelating}
+use Rattle.nts_trying.specs.Asking.{IsProvedAsked}
+use Rattle.nts_trying.proofs.Adding.{goals_kept}
 use Rattle.nts_trying.proofs.AnsweredTypes.{pairs_answered}
-use Rattle.nts_trying.proofs.Ran.{all_proved, all_posed}
 use Rattle.nts_trying.proofs.RelatedAliases.{map_aliased, map_plain, aliased_are, lists_pair, lefts_known, rights_known, grown_equations, same_equations}
 use Rattle.nts_trying.proofs.RelatedTypes.{predicates, each_goal}
 use Rattle.nts_trying.proofs.SubtypeGoals.{among_image as image_of}
@@ -102,10 +113,41 @@ each_pair declared c ks vs ts (x ∷ qs) kl kr fl fr h q (inl e) =
     subst (IsRelatedPair declared c ks vs) (sym e) (record { left = subst (λ z. IsTermOf c (filled vs z)) (sym l) left; right = subst (λ z. IsTermOf c (filled vs z)) (sym r) right; related = h.0 })
 each_pair declared c ks vs ts (x ∷ qs) kl kr fl fr h q (inr i) = each_pair declared c ks vs ts qs kl.1 kr.1 fl.1 fr.1 h.1 q i
 
+-- in a goal of relating no value takes the place of an alias
+relation_takes : (h : PredicateHead) (v : Variance) (a b : Tree) → TakesValues (statement_of (directed h v a b)) → ⊥
+relation_takes h variance.Invariant a b t = t
+relation_takes h variance.Covariant a b t = t
+relation_takes h variance.Contravariant a b t = t
+
+no_values : (us : List Tree) (c : Content) (env : ParamEnv) (ps : List Relating) (gs : List Goal) → AreGoalsOfPairs us c env ps gs → (g : Goal) → Among gs g → TakesValues (statement_of (tree_at us g.predicate.node)) → ⊥
+no_values us c env [] [] h g i t = absurd i
+no_values us c env [] (x ∷ gs) h g i t = absurd h
+no_values us c env (p ∷ ps) [] h g i t = absurd i
+no_values us c env (p ∷ ps) (x ∷ gs) h g (inl e) t =
+    let y = h.0 in
+    let pair : Pair = pair_at us p in
+    relation_takes (goal_head pair) pair.variance pair.left pair.right (subst (λ z. TakesValues (statement_of z)) (ap (λ (o : Goal). tree_at us o.predicate.node) e ∙ y.tree) t)
+no_values us c env (p ∷ ps) (x ∷ gs) h g (inr i) t = no_values us c env ps gs h.1 g i t
+
+among_image : {X Y : Type 0} (f : X → Y) (xs : List X) (x : X) → Among xs x → Among (map f xs) (f x)
+among_image f [] x i = absurd i
+among_image f (y ∷ xs) x (inl e) = inl (ap f e)
+among_image f (y ∷ xs) x (inr i) = inr (among_image f xs x i)
+
+later_goals : (ts : List Tree) (xs ys : List (GoalSource × Goal)) (p : Premise) → Among (goals_at ts ys) p → Among (goals_at ts (xs ++ ys)) p
+later_goals ts [] ys p i = i
+later_goals ts (x ∷ xs) ys p i = inr (later_goals ts xs ys p i)
+
+-- a goal of a candidate, with its values
+pub asked_at : (m : Meaning) (mode : Mode) (A : List Assumed) (c : Content) (k : GoalKind) (vs : List Tree) (q : Premise) → IsProvedAsked m mode A c k (premise_by (filled vs) q)
+    → IsProvedFromAt m mode (passed (step_kind k q.source) A) c vs q ⊎ IsProvedPut m mode A c k (premise_by (filled vs) q)
+asked_at m mode A c k vs q (inl x) = inl (record { environment = x.0; predicate = x.1; proved = x.2 })
+asked_at m mode A c k vs q (inr x) = inr x
+
 -- where all goals that are left are proved
 module _ (m : Meaning) (mode : Mode) (A : List Assumed) {a b : Cx} {t u : Table} (g : Goal) (x : CandidateData) (left : List (GoalSource × Goal)) (equal : Bool) (z : List Tree) (w : Table) (posed : IsPosed a.nodes t g) (candidate : IsCandidate a.nodes g x) (some : HasPlainEquations (candidate_of a.nodes x) → ⊥)
     (begun : BeginsByRelating a b t u g x left equal) (variances : m.variances ≡ variances_in a.declarations) (goes : Goes b.nodes z u w) (formed : AreFormed z)
-    (proved : (y : GoalSource × Goal) → Among left y → StaysProved m mode (passed (step_kind (goal_kind m (tree_at a.nodes g.predicate.node)) (source_of y.0)) A) z w y.1) where
+    (proved : (p : Premise) → Among (goals_at z left) p → IsProvedAsked m mode A (content_of z w.entries) (goal_kind m (tree_at a.nodes g.predicate.node)) p) where
   abbrev ran : RunsByRelating a b t u g x left
   ran = begun.runs
 
@@ -199,11 +241,13 @@ module _ (m : Meaning) (mode : Mode) (A : List Assumed) {a b : Cx} {t u : Table}
       let here = (let d = r.before in let at = r.at in Extends-trans d.goes.extends (let k = since_held in k.extends)) in
       let env_same : tree_at z q.0.param_env.node ≡ env = ap (λ (e : ParamEnv). tree_at z e.node) one.0 ∙ here.kept g.param_env.node posed.holds.env.within in
       let there : Among left (source.TypeRelating, q.0) = subst (λ xs. Among xs (source.TypeRelating, q.0)) (sym r.are) (among_left r.related r.own (source.TypeRelating, q.0) (subst (λ xs. Among xs (source.TypeRelating, q.0)) (sym l.are) (sourced l.goals q.0 q.1))) in
-      let stays = proved (source.TypeRelating, q.0) there in
-      let now = stays.later c table (Continues-refl c table.sound) in (
-        rw q.2 (record { knows = Knows-goes (tree_at f.nodes q.0.predicate.node) since one.2; formed = formed_related q.0.predicate.node holds.within }),
-        rw (env_same, same) at now,
-      )
+      let asked : Premise = premise_at z (source.TypeRelating, q.0) in
+      let says : tree_at z q.0.predicate.node ≡ tree_at f.nodes q.0.predicate.node = since.extends.kept q.0.predicate.node holds.within in
+      let known : IsTermOf c y = rw q.2 (record { knows = Knows-goes (tree_at f.nodes q.0.predicate.node) since one.2; formed = formed_related q.0.predicate.node holds.within }) in
+      elim (proved asked (among_image (premise_at z) left (source.TypeRelating, q.0) there)) [
+        | inl x ↦ (known, rw (env_same, same) at x.2)
+        | inr x ↦ absurd (no_values f.nodes (content_of f.nodes u.entries) g.param_env by.pairs l.goals by.goals q.0 q.1 (subst (λ t. TakesValues (statement_of t)) says x.says))
+      ]
 
   plain_holds : (q : Equation) → EquationHolds vs q c → HoldsEquationFrom m mode A c env vs q
   plain_holds (related s o) h = inl h
@@ -226,20 +270,19 @@ module _ (m : Meaning) (mode : Mode) (A : List Assumed) {a b : Cx} {t u : Table}
       (subst (λ ws. EachStays c (EquationHolds ws) (map (equation_of a.nodes) (plain_data a.nodes x.equations.items))) same_values (Equates-later a.nodes r.values (plain_data a.nodes x.equations.items) since_held k.within r.equal)) in
       let constraints : EachStays c (ConstraintHolds vs) (map (constraint_of a.nodes) x.region_constraints.items) =
       subst (λ ws. EachStays c (ConstraintHolds ws) (map (constraint_of a.nodes) x.region_constraints.items)) same_values (Constrains-later a.nodes r.values x.region_constraints.items since_held k.within r.constrains) in
-      let own : EachStays c (PremiseHolds m mode kind A vs) (map (premise_of a.nodes) x.goals.items) =
-      all_proved m mode kind A vs (map (premise_of a.nodes) x.goals.items) r.own r.goals (all_posed r.own r.own_posed) goes formed
-      (λ y i. proved y (subst (λ xs. Among xs y) (sym r.are) (among_right r.related r.own y i))) in
+      let own_goals : goals_at z r.own ≡ goals_with vs (map (premise_of a.nodes) x.goals.items) = goals_kept b.nodes z u r.own goes.extends r.own_posed ∙ r.goals in
+      let among_all : (p : Premise) → Among (goals_at z r.own) p → Among (goals_at z left) p = λ p i. subst (λ xs. Among (goals_at z xs) p) (sym r.are) (later_goals z r.related r.own p i) in
       record {
         sure = sure;
         holds = inr (
-          some,
+          inl some,
           record {
             chosen = vs;
             values = k.values;
             known = λ v i. Knows-goes v since_held (value_known (content_of at.nodes (let s = begun.runs in let h = s.held in h.entries)) vs v k.known i);
             equations = λ q i. ⊎_elim (λ j. (let s = each_now c (EquationHolds vs) (plain_equations qs) q plain j in plain_holds q (s.later c table still))) (λ j. aliased_holds q (aliased_is qs q j) (each_aliased q j)) (plain_or_aliased qs q i);
             constraints = λ y i. (let s = each_now c (ConstraintHolds vs) (map (constraint_of a.nodes) x.region_constraints.items) y constraints i in s.later c table still);
-            goals = λ q i. (let s = each_now c (PremiseHolds m mode kind A vs) (map (premise_of a.nodes) x.goals.items) q own i in s.later c table still);
+            goals = λ q i. asked_at m mode A c kind vs q (proved (premise_by (filled vs) q) (among_all (premise_by (filled vs) q) (subst (λ xs. Among xs (premise_by (filled vs) q)) (sym own_goals) (among_image (premise_by (filled vs)) (map (premise_of a.nodes) x.goals.items) q i))));
           },
         );
       }

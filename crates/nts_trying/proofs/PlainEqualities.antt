@@ -1,11 +1,11 @@
 -- A goal of the store that an alias is equal to a term, in which no alias stands.
-use Rattle.std.proofs.Common.{◌≡◌, ◌⊎◌, inl, inr, true, false, refl, sym, ap, subst, ◌∙◌}
+use Rattle.std.proofs.Common.{◌≡◌, inl, inr, false, refl, subst}
 use Rattle.nts_model.specs.declared.labels.AliasHead.{AliasHead}
 use Rattle.nts_model.specs.declared.labels.AliasHead.TheVariants as alias_of
 use Rattle.nts_model.specs.declared.labels.AliasRelationDirection.{AliasRelationDirection}
 use Rattle.nts_model.specs.declared.labels.AliasRelationDirection.TheVariants as direction
 use Rattle.nts_model.specs.Terms.Trees.{Tree, any_label, is_alias}
-use Rattle.nts_model.specs.Derivations.Related.{alias, IsAlias}
+use Rattle.nts_model.specs.Derivations.Related.{alias}
 use Rattle.nts_model.specs.Derivations.Rules.{statement_of}
 use Rattle.std.specs.Prelude.{List}
 use Rattle.nts_theory.specs.Aliasing.{alias_relation, EquatesAlias, IsPlainEquality}

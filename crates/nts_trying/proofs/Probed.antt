@@ -145,7 +145,7 @@ run_replies {a} {b} s t u h mode x g qs v run moded same formed table labels say
     let p = tree_at a g.predicate.node in
     let found : IsFound (content_of a s.entries) e p (content_of b u.entries) = record { table = term_table formed table; labels = labels } in
     subst (λ z. Replies h (mode_of mode) (content_of a z) e p qs (candidate_of a x) v) same
-    (subst (λ z. Replies h (mode_of z) (content_of a s.entries) e p qs (candidate_of a x) v) moded (replies run.left run.met (content_of b u.entries) run.begun run.reaches found says))
+    (subst (λ z. Replies h (mode_of z) (content_of a s.entries) e p qs (candidate_of a x) v) moded (replies run.left run.goals run.met run.posed (content_of b u.entries) run.begun run.poses run.reaches found says))
 
 -- what was found in the table of a query, which was made for an input of these kinds
 module _ {P : List Tree → Table → Type 0} (a b e : List Tree) (q : Table) (g : Goal) (ks : List PositionKind) (input : CanonicalInput) (vs : List GenericArg) (r : Canonical Response) (found : Found P b e q g vs r)

@@ -72,17 +72,20 @@ module _ {a b e f : List Tree} {t u v : Table} (h : Ruling) (mode : TypingMode) 
   begun_here : Begins h.variances (mode_of mode) (content_of a t.entries) (tree_at a g.param_env.node) (candidate_of a x) (content_of e v.entries) (goals_with (map (tree_at b) vs) (let y = candidate_of a x in y.goals))
   begun_here = inl (map (tree_at b) vs, at_once, begins e v x vs equated adds constraints, refl)
 
-  pub ran_to : (z : List Tree) (w : Table) → ReachesAsked h mode f v z w gs → HasRunTo h mode a t z w g x
+  pub ran_to : (z : List Tree) (w : Table) → ReachesAsked h mode (kind_for h.handler (tree_at a g.predicate.node)) f v z w gs → HasRunTo h mode a t z w g x
   ran_to z w r =
       record {
         left = goals_with (map (tree_at b) vs) (let y = candidate_of a x in y.goals);
         met = content_of e v.entries;
         begun = begun_here;
-        reaches = rw (its_goals, content_of-extended ef table.now) at r;
+        goals = r.goals;
+        posed = r.posed;
+        poses = rw (its_goals, content_of-extended ef table.now) at r.poses;
+        reaches = r.reaches;
       }
 
   pub ran_refused : RefusesOneAsked h mode (kind_for h.handler (tree_at a g.predicate.node)) f v gs → FailsIn h mode a t g x
-  ran_refused r = is_refused (goals_with (map (tree_at b) vs) (let y = candidate_of a x in y.goals)) (content_of e v.entries) begun_here (rw (its_goals, content_of-extended ef table.now) at r)
+  ran_refused r = is_refused (goals_with (map (tree_at b) vs) (let y = candidate_of a x in y.goals)) r.goals (content_of e v.entries) r.posed begun_here (rw (its_goals, content_of-extended ef table.now) at r.poses) r.refuses
 
 -- what is proved of the goals
 pub all_posed : {f : List Tree} {v : Table} (gs : List (GoalSource × Goal)) → ArePosed f v gs → (g : GoalSource × Goal) → Among gs g → IsPosed f v g.1

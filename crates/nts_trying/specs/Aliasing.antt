@@ -21,7 +21,6 @@ use Rattle.nts_model.specs.Derivations.Sequents.{Premise}
 use Rattle.nts_model.specs.Searching.Stacks.{IsProvedFrom}
 use Rattle.nts_theory.specs.Aliasing.{EquatesAlias, EquatesAliases, NormalizesSide, NormalizesSides, IsLesserGoal, NormalizesLesser}
 use Rattle.nts_theory.specs.Telling.{IsAliasStatement, IsTraitStatement, IsOpenToNormalizing, Verdict, IsFound, SaysOf, StandsForAll, IsPlainResponse}
-use Rattle.nts_theory.specs.RelatingCandidates.{IsCutIn}
 use Rattle.nts_store.specs.Growth.{tree_at, IsIn}
 use Rattle.nts_certainty.specs.declared.sources.GoalSource.{GoalSource}
 use Rattle.nts_certainty.specs.declared.sources.GoalSource.TheVariants as source

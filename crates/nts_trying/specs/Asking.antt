@@ -1,13 +1,19 @@
 -- The goals of a candidate that are asked, as data.
 use Rattle.std.specs.Prelude.{◌≡◌, ◌⊎◌, true, false, if◌then◌else◌, List, [], ◌∷◌}
 use Rattle.nts_model.specs.Terms.Trees.{Tree}
-use Rattle.nts_model.specs.Derivations.Rules.{Mode, coherence}
+use Rattle.nts_model.specs.Tables.Contents.{Content}
+use Rattle.nts_model.specs.Derivations.Sequents.{Premise}
+use Rattle.nts_model.specs.Derivations.Rules.{Mode, coherence, Meaning, GoalKind, step_kind}
+use Rattle.nts_model.specs.Derivations.Proofs.{Assumed, passed}
+use Rattle.nts_model.specs.Derivations.Proving.{IsTermOf}
+use Rattle.nts_model.specs.Searching.Stacks.{IsProvedFrom}
 use Rattle.nts_store.specs.Growth.{tree_at}
 use Rattle.nts_terms.specs.declared.handles.Goal.{Goal}
 use Rattle.nts_certainty.specs.declared.sources.GoalSource.{GoalSource}
 use Rattle.nts_certainty.specs.Certainties.{ambiguous}
 use Rattle.nts_certainty.specs.declared.certainty.Certainty.{Certainty}
 use Rattle.nts_certainty.specs.declared.certainty.Certainty.TheVariants as certainty
+use Rattle.nts_theory.specs.RelatingCandidates.{IsProvedPut}
 use Rattle.nts_theory.specs.AskedGoals.{is_asked, all_asked, asked_in}
 use Rattle.nts_meaning.specs.Evaluation.{goals_at}
 
@@ -33,3 +39,10 @@ pub record AreSomeLeftOut (ts : List Tree) (mode : Mode) (given kept : List (Goa
 
 abbrev pub KeepsAsked : List Tree → Mode → List (GoalSource × Goal) → List (GoalSource × Goal) → Certainty → Type 0
 KeepsAsked ts mode given kept y = AreAllKept ts mode given kept y ⊎ AreSomeLeftOut ts mode given kept y
+
+-- what a goal of a candidate says is proved, as it is or with terms in the places of its aliases, from what is assumed at a goal of that
+-- kind after a step
+abbrev pub IsProvedAsked : Meaning → Mode → List Assumed → Content → GoalKind → Premise → Type 0
+IsProvedAsked m mode A c k p =
+    IsTermOf c p.environment × IsTermOf c p.predicate × IsProvedFrom m mode (passed (step_kind k p.source) A) c p.environment p.predicate
+    ⊎ IsProvedPut m mode A c k p

@@ -74,7 +74,7 @@ pub fn asks(cx: &Cx, mode: &TypingMode, goal: Goal) -> bool
 }
 
 /// Whether all goals of a candidate are asked in that mode: in each but coherence, and there where each is asked as it stands.
-fn asks_all(cx: &Cx, mode: &TypingMode, goals: &[(GoalSource, Goal)]) -> bool
+pub fn asks_all(cx: &Cx, mode: &TypingMode, goals: &[(GoalSource, Goal)]) -> bool
     requires { All (λ z. HoldsGoal cx.now.nodes z.1) goals.now }
     ensures yes { result ≡ true → asked_in (mode_of mode.now) (goals_at cx.now.nodes goals.now)
         ≡ goals_at cx.now.nodes goals.now }

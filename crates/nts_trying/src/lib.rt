@@ -21,7 +21,7 @@ mod steps;
 mod subtypes;
 
 pub use aliases::is_open_to_normalizing;
-pub use asked::{asks, keep_asked};
+pub use asked::{asks, asks_all, keep_asked};
 pub use binder::enter_forall;
 pub use candidate::{Trial, equate, record_constraints};
 pub use fast::fast_answer;

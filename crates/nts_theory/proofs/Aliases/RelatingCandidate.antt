@@ -7,15 +7,18 @@ use Rattle.nts_model.specs.Terms.Trees.{Tree, empty, more, any_label, is_canonic
 use Rattle.nts_model.specs.Tables.Contents.{Content}
 use Rattle.nts_model.specs.Tables.Resolving.{deeply_resolved, IsSound}
 use Rattle.nts_model.specs.Terms.Substitutions.{filled, instance_of}
-use Rattle.nts_model.specs.Derivations.Related.{Constraint, unbound}
+use Rattle.nts_model.specs.declared.labels.Variance.TheVariants as variance
+use Rattle.nts_model.specs.declared.labels.AliasRelationDirection.TheVariants as direction
+use Rattle.nts_model.specs.declared.labels.PredicateHead.TheVariants as predicate
+use Rattle.nts_model.specs.Derivations.Related.{Constraint, unbound, alias_goal}
 use Rattle.nts_model.specs.Lists.{Among}
-use Rattle.nts_model.specs.Derivations.Sequents.{Premise, type_relating, Grants, Hides}
-use Rattle.nts_model.specs.Derivations.Rules.{Mode, Equation, related, alike, GoalKind, goal_kind, step_kind, proof_kind, Stands, relating, statement_of, IsApplied}
+use Rattle.nts_model.specs.Derivations.Sequents.{Premise, type_relating, normalize_goal, Grants, Hides}
+use Rattle.nts_model.specs.Derivations.Rules.{Mode, Equation, related, alike, GoalKind, goal_kind, step_kind, proof_kind, Stands, relating, choice, statement_of, IsApplied}
 use Rattle.nts_model.specs.Derivations.Proofs.{Assumed, passed}
-use Rattle.nts_model.specs.Derivations.Handlers.{Handler, meaning, Candidate, certain, premise_by, IsAsked, IsCandidateFor, IsLawfulHandler}
+use Rattle.nts_model.specs.Derivations.Handlers.{Handler, meaning, Candidate, certain, premise_by, IsAsked, IsCandidateFor, IsHandlersSource, IsLawfulHandler}
 use Rattle.nts_model.specs.Derivations.Proving.{HoldsTerms, IsTermOf, AreConstraintsOf, HoldsEquationAt, HoldsButForGoals, read_constraints, sequent_at}
 use Rattle.nts_model.specs.Searching.Stacks.{IsProvedFrom}
-use Rattle.nts_theory.specs.RelatingCandidates.{HoldsEquationFrom, HoldsByRelating}
+use Rattle.nts_theory.specs.RelatingCandidates.{HoldsEquationFrom, HoldsByRelating, IsProvedPut}
 use Rattle.nts_model.proofs.Tables.ResolvedTerms.{IsFormed-deeply_resolved}
 use Rattle.nts_model.proofs.Tables.TableInstances.{reading_of}
 use Rattle.nts_model.proofs.Tables.Open.{Knows-deeply_resolved}
@@ -23,9 +26,12 @@ use Rattle.nts_model.proofs.Terms.Unpositioned.{or_false, filled-none, IsFormedT
 use Rattle.nts_theory.proofs.Derivations.Served.{IsClosedEnvironment, keeps_or_not}
 use Rattle.nts_theory.proofs.Derivations.Relating.{Chooses, chooses_grows, chooses_itself}
 use Rattle.nts_theory.proofs.Derivations.ByCandidate.{formed_here, closed_here, among_mapped, read_filled, read_itself, equates_grows, equation_follows}
-use Rattle.nts_theory.proofs.Derivations.FromCandidate.{steps_passed}
+use Rattle.nts_theory.proofs.Derivations.FromCandidate.{steps_passed, choice_passed}
 use Rattle.nts_theory.proofs.Derivations.Owing.{IsServedFrom, OwesFrom, from_then, from_both, owes_from}
-use Rattle.nts_theory.proofs.Aliases.ByParts.{bare, bare_holds, read, kind_here, at_goal, own_open, EquatesAt, StandsAt, EquatesAll, StandAll, parts_follow, parts_apply, met_follows, related_equates, by_parts}
+use Rattle.nts_theory.proofs.Aliases.ChosenValues.{added_stands}
+use Rattle.nts_theory.proofs.Aliases.ByRelating.{resolved_about}
+use Rattle.nts_theory.proofs.Aliases.Loose.{loose_resolved}
+use Rattle.nts_theory.proofs.Aliases.ByParts.{bare, bare_holds, read, kind_here, at_goal, own_open, EquatesAt, StandsAt, EquatesAll, StandAll, parts_follow, parts_apply, kind_is, met_follows, related_equates, by_parts}
 
 module _ (h : Handler) (V : ℕ → List Variance) (mode : Mode) (A : List Assumed) (c : Content) (s : IsSound c) (t : HoldsTerms c) (k : AreConstraintsOf c) (e g : Tree)
     (asked : IsAsked e g) (ke : IsTermOf c e) (kg : IsTermOf c g) (d : Candidate) (x : HoldsByRelating (meaning h V) mode A c e g d) where
@@ -81,6 +87,24 @@ module _ (h : Handler) (V : ℕ → List Variance) (mode : Mode) (A : List Assum
       (owes_from m mode e' cs at own (Chooses m mode e' cs fe ce ri here r r.predicate) (chooses_grows m mode e' cs fe ce ri here r r.predicate) (chooses_itself m mode e' cs fe ce ri here r r.predicate env (known_term q.predicate term)))))
       (keeps_or_not (statement_of r.predicate))
 
+  -- .. and so does one that is proved with terms in the places of its aliases
+  stands_put : (q : Premise) → q.environment ≡ e → IsHandlersSource q.source → IsProvedPut (meaning h V) mode A c z q → Owed (λ P. Stands (λ y. Unit {0}) P here (premise_by (deeply_resolved c) q))
+  stands_put q same handlers y =
+      let m = meaning h V in
+      let bh = bare_holds h V mode A c s t k e g asked ke kg d x.chosen x.values x.known x.constraints [] no_terms in
+      let fe = formed_here h V mode c s t k e g asked ke kg b bh in
+      let ce = closed_here h V mode c s t k e g asked ke kg b bh in
+      let same_kind : here ≡ z = kind_is h V mode A c s t k e g asked ke kg d x.chosen x.values x.known x.constraints [] no_terms in
+      subst (λ w. Owed (λ P. Stands (λ v. Unit {0}) P w (premise_by (deeply_resolved c) q))) (sym same_kind)
+      (added_stands m mode c s t k e' fe ce at own z (premise_by (deeply_resolved c) q) q.predicate y.goal (ap (deeply_resolved c) same) refl (loose_resolved c q.predicate y.says) y.predicate
+      (λ a v. IsTermOf c v × IsProvedFrom m mode (passed (step_kind z (let p = choice z q a v in p.source)) A) c q.environment (alias_goal variance.Invariant a v)) (λ a v i w. (w.0, chosen_met a v w.1)) y.replaced
+      (met_follows h V mode A c s t k e g asked ke kg d x.chosen x.values x.known x.constraints [] no_terms (record q { predicate = y.goal }) (steps_passed z q.source A handlers) (inl y.proved)))
+    where
+      chosen_met : (a v : Tree) → IsProvedFrom (meaning h V) mode (passed (step_kind z (let p = choice z q a v in p.source)) A) c q.environment (alias_goal variance.Invariant a v) → Owed (λ P. P (choice z (premise_by (deeply_resolved c) q) (deeply_resolved c a) (deeply_resolved c v)))
+      chosen_met a v w =
+          subst (λ u. Owed (λ P. P (record { source = normalize_goal (step_kind z q.source); environment = deeply_resolved c q.environment; predicate = u }))) (resolved_about c (predicate.AliasRelate direction.Equate) a v)
+          (met_follows h V mode A c s t k e g asked ke kg d x.chosen x.values x.known x.constraints [] no_terms (choice z q a v) (choice_passed z q.source A handlers) (inl w))
+
   -- the candidate with one equation whose sides are one
   module _ (q : Equation) (w : HoldsEquationAt c x.chosen q) where
     abbrev one : Candidate
@@ -116,15 +140,18 @@ module _ (h : Handler) (V : ℕ → List Variance) (mode : Mode) (A : List Assum
   goal : IsCandidateFor e g d → (q : Premise) → Among d.goals q → Owed (StandsAt h V mode A c s t k e g asked ke kg d x.chosen x.values x.known x.constraints [] no_terms q)
   goal keeps q i =
       let bh = bare_holds h V mode A c s t k e g asked ke kg d x.chosen x.values x.known x.constraints [] no_terms in
-      let y = x.goals q i in
       let nested = keeps.goals q i in
       let none = or_false (any_label is_canonical e) (any_label is_canonical (more g empty)) asked.no_positions in
       let stays : filled x.chosen q.environment ≡ e = ap (filled x.chosen) nested.environment ∙ filled-none x.chosen e none.0 in
-      let env = read_filled h V mode c s t k e g asked ke kg b bh q.environment y.environment in
-      let pred = read_filled h V mode c s t k e g asked ke kg b bh q.predicate y.predicate in
       let p : Premise = premise_by (filled x.chosen) q in
-      let same : premise_by (read h V mode A c s t k e g asked ke kg d x.chosen x.values x.known x.constraints [] no_terms) q ≡ premise_by (deeply_resolved c) p = λ j. record { source = q.source; environment = env j; predicate = pred j } in
-      subst (λ w. Owed (λ P. Stands (λ v. Unit {0}) P here w)) (sym same) (stands p stays y.predicate (steps_passed z q.source A nested.source) y.proved)
+      let same : IsTermOf c p.environment → IsTermOf c p.predicate → premise_by (read h V mode A c s t k e g asked ke kg d x.chosen x.values x.known x.constraints [] no_terms) q ≡ premise_by (deeply_resolved c) p =
+      λ te tp. (let env = read_filled h V mode c s t k e g asked ke kg b bh q.environment te in
+      let pred = read_filled h V mode c s t k e g asked ke kg b bh q.predicate tp in
+      λ j. record { source = q.source; environment = env j; predicate = pred j }) in
+      elim (x.goals q i) [
+        | inl y ↦ subst (λ w. Owed (λ P. Stands (λ v. Unit {0}) P here w)) (sym (same y.environment y.predicate)) (stands p stays y.predicate (steps_passed z q.source A nested.source) y.proved)
+        | inr y ↦ subst (λ w. Owed (λ P. Stands (λ v. Unit {0}) P here w)) (sym (same y.environment y.predicate)) (stands_put p stays nested.source y)
+      ]
 
   all_parts : IsCandidateFor e g d → Owed (λ P. EquatesAll h V mode A c s t k e g asked ke kg d x.chosen x.values x.known x.constraints [] no_terms P × StandAll h V mode A c s t k e g asked ke kg d x.chosen x.values x.known x.constraints [] no_terms P)
   all_parts keeps = parts_follow h V mode A c s t k e g asked ke kg d x.chosen x.values x.known x.constraints [] no_terms equation (goal keeps)

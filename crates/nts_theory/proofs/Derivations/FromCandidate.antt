@@ -51,6 +51,22 @@ steps_passed other_goal alias_bound_const A h = refl
 steps_passed other_goal alias_well_formed A h = refl
 steps_passed other_goal (normalize_goal p) A h = absurd h
 
+-- .. and so is a step to the equality of an alias of such a goal
+pub choice_passed : (z : GoalKind) (o : Source) (A : List Assumed) → IsHandlersSource o → passed (step_kind z o) A ≡ passed (proof_kind z (normalize_goal (step_kind z o))) A
+choice_passed coinductive_trait o A h = refl
+choice_passed normalization misc A h = refl
+choice_passed normalization type_relating A h = refl
+choice_passed normalization impl_where_bound A h = refl
+choice_passed normalization alias_bound_const A h = refl
+choice_passed normalization alias_well_formed A h = refl
+choice_passed normalization (normalize_goal p) A h = absurd h
+choice_passed other_goal misc A h = refl
+choice_passed other_goal type_relating A h = refl
+choice_passed other_goal impl_where_bound A h = refl
+choice_passed other_goal alias_bound_const A h = refl
+choice_passed other_goal alias_well_formed A h = refl
+choice_passed other_goal (normalize_goal p) A h = absurd h
+
 module _ (h : Handler) (V : ℕ → List Variance) (mode : Mode) (A : List Assumed) (c : Content) (s : IsSound c) (t : HoldsTerms c) (k : AreConstraintsOf c) where
   module _ (e g : Tree) (asked : IsAsked e g) (ke : IsTermOf c e) (kg : IsTermOf c g) (d : Candidate) (x : HoldsCandidateFrom (meaning h V) mode A c g d) where
     -- the candidate without its goals

@@ -1,10 +1,9 @@
 -- Goals about aliases: what a query tells and refutes of them, and which goals say that an alias is equal to a term.
-use Rattle.std.proofs.Common.{◌≡◌, inl, inr, true, false, List, [], ◌∷◌, refl, subst}
+use Rattle.std.proofs.Common.{◌≡◌, inl, inr, true, false, List, [], ◌∷◌, refl}
 use Rattle.nts_model.specs.declared.labels.AliasHead.{AliasHead}
 use Rattle.nts_model.specs.declared.labels.AliasRelationDirection.TheVariants as direction
 use Rattle.nts_model.specs.declared.labels.AliasHead.TheVariants as alias_of
 use Rattle.nts_model.specs.declared.labels.ClauseHead.TheVariants as clause
-use Rattle.nts_model.specs.declared.labels.PredicateHead.TheVariants as predicate
 use Rattle.nts_model.specs.declared.labels.Label.TheVariants as label
 use Rattle.nts_model.specs.declared.labels.Variance.TheVariants as variance
 use Rattle.nts_model.specs.declared.labels.VariableKind.TheVariants as variable
@@ -16,7 +15,7 @@ use Rattle.nts_model.specs.Derivations.Related.{constructor, alias, alias_goal, 
 use Rattle.nts_model.specs.Derivations.Rules.{Mode, coherence, post_analysis, relating, normalization_goal, statement_of, IsHandlers}
 use Rattle.nts_model.specs.Derivations.Sequents.{Premise}
 use Rattle.nts_model.specs.Derivations.Handlers.{Handler}
-use Rattle.nts_model.specs.Refutation.Opening.{entered_table, opened_in}
+use Rattle.nts_model.specs.Refutation.Opening.{opened_in}
 use Rattle.nts_theory.specs.Aliasing.{EquatesAlias, NormalizesSide, IsLesserGoal, NormalizesLesser}
 use Rattle.nts_theory.specs.Telling.{Queries, IsTraitStatement, IsAliasStatement, IsAliasReady, Refutes, aliases_fail, no_outcome}
 use Rattle.nts_theory.specs.AskedGoals.{is_asked, asked_in, asks_all}

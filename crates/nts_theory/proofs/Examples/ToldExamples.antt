@@ -1,5 +1,5 @@
 -- What is told binds: responses that say nothing, verdicts that stand for others, and goals that are refuted, with what is none.
-use Rattle.std.proofs.Common.{subst, zero, suc, ◌≡◌, inl, inr, ℕ, zero, true, false, List, [], ◌∷◌, ◌++◌, length, Some, refl, sym, ap, arith}
+use Rattle.std.proofs.Common.{subst, zero, suc, ◌≡◌, inl, inr, ℕ, zero, true, false, List, [], ◌∷◌, ◌++◌, length, Some, refl, sym, ap, arith, ◌∙◌}
 use Rattle.std.specs.Prelude.{◌⊎◌}
 use Rattle.nts_model.specs.declared.labels.Sort.{Sort}
 use Rattle.nts_model.specs.declared.labels.Sort.TheVariants as sort
@@ -25,6 +25,7 @@ use Rattle.nts_theory.proofs.Refutation.Agreeing.{nothing_is_identity}
 use Rattle.nts_theory.proofs.Refutation.Affirming.{denied_no_handlers, way_no_handlers}
 use Rattle.nts_theory.proofs.Refutation.Subtyping.{subtyping_no_handlers}
 use Rattle.nts_theory.proofs.Refutation.Aliasing.{sides_no_handlers}
+use Rattle.nts_theory.proofs.Refutation.PosedGoals.{no_goals_posed}
 use Rattle.nts_theory.specs.Telling.{Verdict, Queries, IsReady, SaysNothing, ChangesNothing, StandsForAll, Refutes, all_fail, is_denied, own_fails, is_no_subtype, subtype_refused, aliases_fail, normal_refused, kind_for, Outcomes, no_outcome, then_fails, then_replies, Fails, is_unmet, has_types_apart, is_unrelated, is_refused, is_leaky, RefusesOne, refuses_one, cuts_one}
 use Rattle.nts_theory.specs.AskedGoals.{asked_in}
 use Rattle.nts_theory.proofs.Refutation.AskedGoals.{asks_none}
@@ -58,19 +59,23 @@ nothing_refused : (Q : Queries) (h : Handler) (mode : Mode) (k : GoalKind) (c : 
 nothing_refused Q h mode k c (refuses_one d p r i n q) = i
 nothing_refused Q h mode k c (cuts_one d p r i s n) = i
 
-pub no_refusal : (Q : Queries) (h : Handler) (mode : Mode) (c : Content) (k : GoalKind) (vs : List Tree) (gs : List Premise) → gs ≡ [] → RefusesOne Q h mode k (asked_in mode (goals_with vs gs)) c → ⊥
-no_refusal Q h mode c k vs [] e r = nothing_refused Q h mode k c (subst (λ z. RefusesOne Q h mode k z c) (asks_none mode) r)
-no_refusal Q h mode c k vs (g ∷ gs) e r = cc e
+pub no_refusal : (Q : Queries) (h : Handler) (mode : Mode) (c : Content) (k : GoalKind) (gs : List Premise) → gs ≡ [] → RefusesOne Q h mode k (asked_in mode gs) c → ⊥
+no_refusal Q h mode c k [] e r = nothing_refused Q h mode k c (subst (λ z. RefusesOne Q h mode k z c) (asks_none mode) r)
+no_refusal Q h mode c k (g ∷ gs) e r = cc e
+
+pub none_with : (vs : List Tree) (gs : List Premise) → gs ≡ [] → goals_with vs gs ≡ []
+none_with vs [] e = refl
+none_with vs (g ∷ gs) e = cc e
 
 pub fact_never_fails : (Q : Queries) (h : Handler) (mode : Mode) (c : Content) (e : Tree) (x : Candidate) → HasNoLeaks h → IsCandidateMet c x → x.constraints ≡ [] → x.goals ≡ [] → HasPlainEquations x → (k : GoalKind) → Fails Q h mode k c e x → ⊥
 fact_never_fails Q h mode c e x tight met constraints goals plain k (is_unmet n) = n (plain_met c x met)
 fact_never_fails Q h mode c e x tight met constraints goals plain k (has_types_apart y) = apart_unmet c x y met
 fact_never_fails Q h mode c e x tight met constraints goals plain k (is_unrelated outside n) = n.some plain
-fact_never_fails Q h mode c e x tight met constraints goals plain k (is_refused ps there (inl (vs, in_one, begun, same)) refused) = no_refusal Q h mode there k vs x.goals goals (subst (λ z. RefusesOne Q h mode k (asked_in mode z) there) same refused)
-fact_never_fails Q h mode c e x tight met constraints goals plain k (is_refused ps there (inr (inl (outside, begun))) refused) = begun.some plain
-fact_never_fails Q h mode c e x tight met constraints goals plain k (is_refused ps there (inr (inr (inside, inl begun))) refused) = begun.some plain
-fact_never_fails Q h mode c e x tight met constraints goals plain k (is_refused ps there (inr (inr (inside, inr begun))) refused) = (let b = begun.begun in b.some plain)
-fact_never_fails Q h mode c e x tight met constraints goals plain k (is_leaky ps there found begun reach leaks) = tight found 0 leaks
+fact_never_fails Q h mode c e x tight met constraints goals plain k (is_refused ps gs there posed (inl (vs, in_one, begun, same)) poses refused) = no_refusal Q h mode posed k gs (no_goals_posed mode k there posed ps gs poses (same ∙ none_with vs x.goals goals)) refused
+fact_never_fails Q h mode c e x tight met constraints goals plain k (is_refused ps gs there posed (inr (inl (outside, begun))) poses refused) = begun.some plain
+fact_never_fails Q h mode c e x tight met constraints goals plain k (is_refused ps gs there posed (inr (inr (inside, inl begun))) poses refused) = begun.some plain
+fact_never_fails Q h mode c e x tight met constraints goals plain k (is_refused ps gs there posed (inr (inr (inside, inr begun))) poses refused) = (let b = begun.begun in b.some plain)
+fact_never_fails Q h mode c e x tight met constraints goals plain k (is_leaky ps gs there posed found begun poses reach leaks) = tight found 0 leaks
 
 -- where no verdict is left, each candidate failed
 among_ends : {A : Type 0} (xs : List A) (x y : A) → Among (xs ++ x ∷ []) y → Among xs y ⊎ (y ≡ x)

@@ -14,7 +14,7 @@ use Rattle.nts_model.specs.Derivations.Sequents.{Premise}
 use Rattle.nts_model.specs.Derivations.Rules.{Mode, coherence, post_analysis, erased, analysis, borrowck, post_borrowck, statement_of, IsHandlers, KeepsAliases}
 use Rattle.nts_model.specs.Refutation.Containing.{Truth, IsPlainWorld}
 use Rattle.nts_theory.specs.AskedGoals.{is_engines, is_asked, those_asked, all_asked, asked_in, asks_all}
-use Rattle.nts_theory.specs.Refutation.Refutation.{StandsAsIs, IsGranted, IsGrantedAsAsked}
+use Rattle.nts_theory.specs.Refutation.Refutation.{StandsAsIs, IsGrantedAsIs, IsGrantedAsAsked}
 use Rattle.nts_theory.proofs.Refutation.PlainTerms.{unlabelled_free, statement_free}
 use Rattle.nts_theory.proofs.Refutation.OneSided.{free_inst}
 use Rattle.nts_theory.proofs.Refutation.Begun.{BegunAt}
@@ -68,7 +68,7 @@ asks_not_all (analysis l) ps e = absurd (cc e)
 asks_not_all (borrowck l) ps e = absurd (cc e)
 asks_not_all (post_borrowck l) ps e = absurd (cc e)
 
-pub granted_weakly : (Proves : Tree → Tree → Type 0) (e g : Tree) → IsGrantedAsAsked Proves e g → IsGranted Proves e g
+pub granted_weakly : (Proves : Tree → Tree → Type 0) (e g : Tree) → IsGrantedAsAsked Proves e g → IsGrantedAsIs Proves e g
 granted_weakly Proves e g x = record { ground = x.ground; proved = λ s. x.proved (inl s) }
 
 -- a goal of the engine's own kinds, or whose aliases stay
@@ -111,11 +111,11 @@ module _ (Proves : Tree → Tree → Type 0) (c : Content) (w : World) (free : I
       by_alias false n = inl (statement_free (inst w g) (free_inst c w free g k (unlabelled_free g n)))
       by_alias true n = engines_stand w g (or_left (is_engines (statement_of g)) (rw n at e)) h
 
-  pub asked_granted : (e g : Tree) → Knows c g → is_asked g ≡ true → IsGranted Proves (inst w e) (inst w g) → IsGrantedAsAsked Proves (inst w e) (inst w g)
+  pub asked_granted : (e g : Tree) → Knows c g → is_asked g ≡ true → IsGrantedAsIs Proves (inst w e) (inst w g) → IsGrantedAsAsked Proves (inst w e) (inst w g)
   asked_granted e g k a x = record { ground = x.ground; proved = λ t. elim t [ inl s ↦ x.proved s | inr h ↦ x.proved (stands_there g k a h) ] }
 
 -- so where a candidate is begun, those of its goals that are asked are granted as they are asked
-pub begun_asked : (truth : Truth) (Proves : Tree → Tree → Type 0) (c met : Content) (w : World) (ps : List Premise) → BegunAt truth (IsGranted Proves) c met w ps → BegunAt truth (IsGrantedAsAsked Proves) c met w (those_asked ps)
+pub begun_asked : (truth : Truth) (Proves : Tree → Tree → Type 0) (c met : Content) (w : World) (ps : List Premise) → BegunAt truth (IsGrantedAsIs Proves) c met w ps → BegunAt truth (IsGrantedAsAsked Proves) c met w (those_asked ps)
 begun_asked truth Proves c met w ps b =
     let to = b.reaches in
     let solves = b.goals in

@@ -53,7 +53,7 @@ use Rattle.nts_theory.proofs.Refutation.Equating.{one_relation, inst_alias}
 use Rattle.nts_theory.proofs.Refutation.Begun.{BegunAt, BegunHere, begun_at}
 
 -- a tree without aliases is settled, and stands for itself
-no_alias_node : (l : Label) (c : Tree) → IsNoAlias l → IsAlias (node l c) → ⊥
+pub no_alias_node : (l : Label) (c : Tree) → IsNoAlias l → IsAlias (node l c) → ⊥
 no_alias_node l c n i = by_head i.head i.is
   where
     by_head : (k : AliasHead) → node l c ≡ alias k i.parts → ⊥
@@ -167,6 +167,7 @@ module _ (h : Handler) (truth : Truth) (Proves : Tree → Tree → Type 0) (theo
       record {
         ground = (let f = x.ground in let y = f.1.0 in (f.0, ((y.0, (y.1.0, ((y.1.1.0.0, (y.1.1.0.1.1.0, (y.1.1.0.1.0, tt))), tt))), tt)));
         proved = λ s. turns e a b (x.proved (inr tt));
+        with_values = λ n. absurd (n tt);
       }
 
   proved_either : (e a t : Tree) → IsEqualAlias Granted e a t → Proves e (alias_relation direction.Equate a t) ⊎ Proves e (alias_relation direction.Equate t a)

@@ -1,6 +1,6 @@
 -- A goal that is proved in a world of a query's table has a candidate that can be begun, in the table in which it is answered.
 use Rattle.std.proofs.Common.{ℕ, ◌≡◌, ◌+◌, Bool, true, false, length, Option, Some, None, refl, sym, ap, subst, ◌∙◌, arith, inl, inr}
-use Rattle.std.specs.Prelude.{slice_get, ◌||◌}
+use Rattle.std.specs.Prelude.{slice_get}
 use Rattle.nts_model.specs.declared.labels.Sort.{Sort}
 use Rattle.nts_model.specs.declared.labels.Sort.TheVariants as sort
 use Rattle.nts_model.specs.declared.labels.VariableKind.{VariableKind}
@@ -9,7 +9,7 @@ use Rattle.nts_model.specs.declared.labels.ListHead.TheVariants as list
 use Rattle.nts_model.specs.declared.labels.ClauseHead.TheVariants as clause
 use Rattle.nts_model.specs.declared.labels.PredicateHead.TheVariants as predicate
 use Rattle.nts_model.specs.declared.labels.Label.TheVariants as label
-use Rattle.nts_model.specs.Terms.Trees.{Tree, empty, more, node, any_label, is_alias, IsClosed, IsFormed}
+use Rattle.nts_model.specs.Terms.Trees.{Tree, empty, more, node, IsClosed, IsFormed}
 use Rattle.nts_model.specs.Tables.Contents.{Content, Slot, map_slot, universe_of, kind_at, in_universe}
 use Rattle.nts_model.specs.Tables.Resolving.{Knows}
 use Rattle.nts_model.specs.Terms.Placeholders.{leaf_level}
@@ -22,7 +22,7 @@ use Rattle.nts_model.specs.Derivations.Rules.{coherence, statement_of, opened, I
 use Rattle.nts_model.specs.Refutation.Opening.{binds, placeholder_in, entered_table, opened_in}
 use Rattle.nts_model.specs.Derivations.Handlers.{Handler, Candidate, IsAsked, IsLawfulHandler}
 use Rattle.nts_model.specs.Answers.Applying.{IsProperContent}
-use Rattle.nts_model.specs.Refutation.Containing.{Truth, IsSolution, IsAliasFree, IsPlainWorld}
+use Rattle.nts_model.specs.Refutation.Containing.{Truth, IsSolution, IsPlainWorld}
 use Rattle.nts_model.specs.Refutation.Coherence.{RulesAreOffered}
 use Rattle.nts_theory.specs.Telling.{IsTraitStatement, IsTraitGoal, IsAliasStatement, IsAliasGoal}
 use Rattle.nts_theory.specs.Refutation.Refutation.{UsesNamed, binding, IsTheory, IsPlainFor, IsGranted, IsGrantedAsAsked}

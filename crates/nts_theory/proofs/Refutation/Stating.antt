@@ -27,7 +27,7 @@ use Rattle.nts_model.proofs.Tables.Fitting.{IsClosed-inst}
 use Rattle.nts_model.proofs.Terms.Unpositioned.{known_no_positions, filled-none}
 use Rattle.nts_model.proofs.Canonical.Positioned.{inst-filled}
 use Rattle.nts_theory.specs.Affirming.{SaysOfTwo, is_its_type, is_well_formed, plain_way, goals_there, IsOwnWay, by_type, by_goals, HasOwnWay}
-use Rattle.nts_theory.specs.Refutation.Refutation.{binding, IsTheory, HasNoAlias, IsGranted}
+use Rattle.nts_theory.specs.Refutation.Refutation.{binding, IsTheory, HasNoAlias, IsGranted, IsGrantedAsIs}
 use Rattle.nts_theory.proofs.Derivations.ClosedStatements.{one_statement as same_statement}
 use Rattle.nts_theory.proofs.Refutation.OpenedGoals.{inst_opened}
 use Rattle.nts_theory.proofs.Refutation.Saying.{said_inst, was_formed}
@@ -96,13 +96,13 @@ no_alias_of u t k e =
     (free_none u (unlabelled_free u x.0), free_none t (unlabelled_free t x.1))
 
 module _ (h : Handler) (truth : Truth) (Proves : Tree → Tree → Type 0) (theory : IsTheory h truth Proves) (lawful : IsLawfulHandler h) (law : RulesAreOffered h) (c : Content) (e g : Tree) (w : World) (s : IsSolution truth 0 c w) (current : AreCurrent c) (known : Knows c (pair e g))
-    (free : IsPlainWorld c w) (granted : IsGranted Proves (inst w e) (inst w g)) where
+    (free : IsPlainWorld c w) (granted : IsGrantedAsIs Proves (inst w e) (inst w g)) where
   -- what a goal that binds nothing states, and one that binds variables
   said_plain : (st : Tree) → g ≡ unbound st → (x : Constraint) → SaysOfTwo x st → IsClosed st → HasNoAlias st → IsTrueBy truth x.relation (inst w x.left) (inst w x.right)
   said_plain st is x says closed none =
       let fitting = (let z = s.solves in z.fitting) in
       let there : Knows c (unbound st) = subst (Knows c) is known.1.0 in
-      let p : IsGranted Proves (inst w e) (unbound (inst w st)) = subst (λ z. IsGranted Proves (inst w e) (inst w z)) is granted in
+      let p : IsGrantedAsIs Proves (inst w e) (unbound (inst w st)) = subst (λ z. IsGrantedAsIs Proves (inst w e) (inst w z)) is granted in
       let n = none_inst c w free st there.1.1.0 none in
       theory.says (inst w e) (inst w st) (constraint_by (inst w) x) (p.proved (inl n)) (said_inst w x st says) (IsClosed-inst c w 0 st fitting there.1.1.0 closed) n
 
@@ -122,7 +122,7 @@ module _ (h : Handler) (truth : Truth) (Proves : Tree → Tree → Type 0) (theo
       let p = placeholder_in (c.universe + 1) in
       let opens : st ≡ opened p 0 b.says = sym (same_statement (opened p 0 (statement_of g)) st is) ∙ ap (λ z. opened p 0 (statement_of z)) b.is in
       let n = none_inst c w free b.says now.1.1.0 (none_opened p 0 b.says (subst HasNoAlias opens none)) in
-      let here : IsGranted Proves (inst w e) (binding (inst w b.first) (inst w b.rest) (inst w b.says)) = subst (λ z. IsGranted Proves (inst w e) (inst w z)) b.is granted in
+      let here : IsGrantedAsIs Proves (inst w e) (binding (inst w b.first) (inst w b.rest) (inst w b.says)) = subst (λ z. IsGrantedAsIs Proves (inst w e) (inst w z)) b.is granted in
       theory.says_opened c.universe (inst w e) (inst w b.first) (inst w b.rest) (inst w b.says) (constraint_by (inst w) x) (here.proved (inl n))
       (subst (SaysOfTwo (constraint_by (inst w) x)) (image_opened b st is) (said_inst w x st says)) (names_image truth 0 c w s current e known.0, (names_image truth 0 c w s current b.says now.1.1.0, tt)) n
 
@@ -193,7 +193,7 @@ module _ (h : Handler) (truth : Truth) (Proves : Tree → Tree → Type 0) (theo
     proved_plain p i same =
         let fitting = (let z = s.solves in z.fitting) in
         let now : Knows c (unbound st) = subst (Knows c) same known.1.0 in
-        let q : IsGranted Proves (inst w e) (unbound (inst w st)) = subst (λ z. IsGranted Proves (inst w e) (inst w z)) same granted in
+        let q : IsGrantedAsIs Proves (inst w e) (unbound (inst w st)) = subst (λ z. IsGrantedAsIs Proves (inst w e) (inst w z)) same granted in
         theory.formed (inst w e) (inst w st) (q.proved (inr (subst (λ z. KeepsAliases (inst w z)) (sym says) tt))) (IsClosed-inst c w 0 st fitting now.1.1.0 closed) (inst w t) (map (inst w) ps) (ap (inst w) says) given_there (inst w p) (image_among (inst w) ps p i)
 
     proved_binding : (p : Tree) → Among ps p → (b : IsBinding g) → unbound (opened (placeholder_in (c.universe + 1)) 0 (statement_of g)) ≡ unbound st → IsGranted Proves (inst w e) (inst w p)
@@ -202,7 +202,7 @@ module _ (h : Handler) (truth : Truth) (Proves : Tree → Tree → Type 0) (theo
         let fresh = placeholder_in (c.universe + 1) in
         let opens : opened fresh 0 b.says ≡ is_well_formed t = sym (sym (same_statement (opened fresh 0 (statement_of g)) st same) ∙ ap (λ z. opened fresh 0 (statement_of z)) b.is) ∙ says in
         let was = was_formed fresh b.says t opens in
-        let here : IsGranted Proves (inst w e) (binding (inst w b.first) (inst w b.rest) (inst w b.says)) = subst (λ z. IsGranted Proves (inst w e) (inst w z)) b.is granted in
+        let here : IsGrantedAsIs Proves (inst w e) (binding (inst w b.first) (inst w b.rest) (inst w b.says)) = subst (λ z. IsGrantedAsIs Proves (inst w e) (inst w z)) b.is granted in
         theory.formed_opened c.universe (inst w e) (inst w b.first) (inst w b.rest) (inst w b.says) (here.proved (inr (subst (λ z. KeepsAliases (inst w z)) (sym was.is) tt)))
         (names_image truth 0 c w s current e known.0, (names_image truth 0 c w s current b.says now.1.1.0, tt)) (inst w t) (map (inst w) ps) (sym (image_opened b st same) ∙ ap (inst w) says) given_there (inst w p) (image_among (inst w) ps p i)
 

@@ -49,6 +49,7 @@ use Rattle.nts_theory.proofs.Refutation.OpenedGoals.{rename_opened, kept_tree}
 use Rattle.nts_theory.proofs.Refutation.Carrying.{names_replaced}
 use Rattle.nts_theory.proofs.Refutation.Carriers.{forward_others, forward_property, none_renamed, none_carrying, then_by, then_carrying, rename_then, back_to, back_carrying, region_carried, instance_by, AreMovable, extension_carrying, shifted, shifted_carrying, shifted_low}
 use Rattle.nts_theory.proofs.Refutation.PlainTerms.{no_alias_renamed, no_alias_before, free_renamed, statement_before, kept_before, rules_before}
+use Rattle.nts_theory.proofs.Refutation.WithValues.{still_alias, values_renamed, kept_later}
 use Rattle.nts_theory.proofs.Refutation.UsedRules.{handlers_replaced, handlers_before}
 use Rattle.nts_model.specs.declared.labels.AliasHead.{AliasHead}
 use Rattle.nts_model.specs.declared.labels.AliasHead.TheVariants as alias_of
@@ -146,6 +147,7 @@ granted_renamed Proves Later ρ k later e g x =
     record {
       ground = (let f = x.ground in (ground_renamed ρ k e f.0, (ground_renamed ρ k g f.1.0, tt)));
       proved = λ s. later e g (x.proved (elim s [ inl n ↦ inl (statement_before ρ g n) | inr n ↦ inr (kept_before ρ g n) ]));
+      with_values = λ n. values_renamed Proves Later ρ k later e g (x.with_values (λ y. n (kept_later ρ g y)));
     }
 
 -- .. and so it is of one that is asked
@@ -161,17 +163,6 @@ true_renamed truth fair ρ k relation.Equal a b h = ap (rename ρ) h
 true_renamed truth fair ρ k relation.RegionOutlives a b (inl e) = inl (ap (rename ρ) e)
 true_renamed truth fair ρ k relation.RegionOutlives a b (inr e) = inr (fair.renamed ρ k a b ∙ e)
 true_renamed truth fair ρ k relation.TypeOutlives a b e = fair.renamed ρ k a b ∙ e
-
--- what an alias is, once renamed
-alias_renamed : (ρ : Renaming) (a : Tree) (x : IsAlias a) → rename ρ a ≡ alias x.head (rename ρ x.parts)
-alias_renamed ρ a x = ap (rename ρ) x.is ∙ renamed_alias x.head
-  where
-    renamed_alias : (h : AliasHead) → rename ρ (alias h x.parts) ≡ alias h (rename ρ x.parts)
-    renamed_alias (alias_of.Ty i) = refl
-    renamed_alias (alias_of.Const i) = refl
-
-abbrev still_alias : (ρ : Renaming) → IsCarrying ρ → (a : Tree) → IsAlias a → IsAlias (rename ρ a)
-still_alias ρ k a x = record { head = x.head; parts = rename ρ x.parts; is = alias_renamed ρ a x; closed = IsClosed-instance (instance_by ρ k) a x.closed }
 
 -- what aliases are equal to, renamed
 module _ (Granted Later : Tree → Tree → Type 0) (ρ : Renaming) (k : IsCarrying ρ) (later : (e g : Tree) → Granted e g → Later (rename ρ e) (rename ρ g)) where

@@ -13,6 +13,7 @@ use Rattle.nts_model.specs.Derivations.Rules.{statement_of, opened, IsHandlers, 
 use Rattle.nts_model.specs.Derivations.Handlers.{Handler}
 use Rattle.nts_model.specs.Refutation.Opening.{placeholder_in}
 use Rattle.nts_model.specs.Refutation.Containing.{Truth, IsTrueBy, IsGroundLabel}
+use Rattle.nts_theory.proofs.Derivations.Monotone.{replaced_more}
 use Rattle.nts_theory.specs.Affirming.{IsDenied, SaysOfTwo, outlives_it, is_its_type, is_well_formed}
 use Rattle.nts_theory.specs.Outliving.{region_outlives, type_outlives}
 use Rattle.nts_theory.specs.Aliasing.{alias_relation}
@@ -40,7 +41,12 @@ module _ (h : Handler) (truth : Truth) (Proves : Tree → Tree → Type 0) (theo
       inl (rw (left, right) t.proved)
 
   turned_granted : (e g : Tree) → IsGranted Proves e g → IsGranted Later e g
-  turned_granted e g x = record { ground = x.ground; proved = λ s. inl (x.proved s) }
+  turned_granted e g x =
+      record {
+        ground = x.ground;
+        proved = λ s. inl (x.proved s);
+        with_values = λ n. (let y = x.with_values n in record { goal = y.goal; bare = y.bare; values = replaced_more (λ a v c. (c.0, inl c.1)) y.values; proved = inl y.proved });
+      }
 
   -- uses of clauses
   turned_equal : (e a b : Tree) → EqualsBy (IsEqualAlias (IsGranted Proves) e) a b → EqualsBy (IsEqualAlias (IsGranted Later) e) a b

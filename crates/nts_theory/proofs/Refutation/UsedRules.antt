@@ -18,15 +18,17 @@ use Rattle.nts_model.specs.Terms.Substitutions.{leaf_tree, put, replace}
 use Rattle.nts_model.specs.Derivations.Related.{Constraint, pair, unbound, value, alias, alias_goal, IsAlias}
 use Rattle.nts_model.specs.Lists.{Among}
 use Rattle.nts_model.specs.Derivations.Sequents.{Premise, Hidden}
-use Rattle.nts_model.specs.Derivations.Rules.{coherence, Equation, related, alike, Application, Meaning, GoalKind, IsTerm, goal_kind, Replaced, choice, Stands, opened, opened_at, relating, IsHandlers, HoldsEquation, IsApplied, AreFresh, HasConstType, of_value, of_alias, of_constant, IsConstResult, const_error, IsBuiltIn, IsPlainRule, bound, IsRule}
+use Rattle.nts_model.specs.Derivations.Rules.{coherence, Equation, related, alike, Application, Meaning, GoalKind, IsTerm, goal_kind, Replaced, choice, Stands, opened, opened_at, relating, IsHandlers, KeepsAliases, statement_of, HoldsEquation, IsApplied, AreFresh, HasConstType, of_value, of_alias, of_constant, IsConstResult, const_error, IsBuiltIn, IsPlainRule, bound, IsRule}
 use Rattle.nts_model.specs.Derivations.Rules.{region_lives, type_lives, subtyped, coerced, const_typed, error_typed, allowed, dyn_compatible, formed, constant_evaluated, value_evaluated, error_evaluated, alias_evaluated, aliases_relate}
 use Rattle.nts_model.specs.Refutation.Choosing.{left_of, right_of}
 use Rattle.nts_model.specs.Derivations.Handlers.{Handler}
 use Rattle.nts_model.specs.Refutation.Containing.{IsAliasFree, Truth, IsTrueBy, IsGroundLabel, AreGround}
-use Rattle.nts_theory.specs.Refutation.Refutation.{HasNoAlias, StandsAsIs, HasPlainSides, IsGranted, IsEqualAlias, AreEqualSides, UsesClause, UsesOpened, binding}
+use Rattle.nts_theory.specs.Refutation.Refutation.{HasNoAlias, StandsAsIs, HasPlainSides, HasBareLeaves, IsProvedWithValues, IsGranted, IsEqualAlias, AreEqualSides, UsesClause, UsesOpened, binding}
 use Rattle.nts_theory.specs.Affirming.{has_type, is_well_formed, SaysOfTwo, outlives_it, is_its_type}
 use Rattle.nts_theory.proofs.Derivations.ClosedStatements.{opened_closed}
 use Rattle.nts_theory.proofs.Refutation.Outliving.{built_in_holds}
+use Rattle.nts_theory.proofs.Derivations.Monotone.{replaced_more}
+use Rattle.nts_theory.proofs.Refutation.WithValues.{bare_formed, bare_replaced}
 use Rattle.nts_theory.proofs.Refutation.Covering.{related_equal, related_by_left, related_by_right, related_other, related_apart, alike_equal, predicate_with, unreplaced_goal, replaced_labels, not_built_in, applied_by_rule}
 
 -- statements of a handler, by their labels
@@ -165,8 +167,26 @@ module _ (h : Handler) (m : Meaning) (truth : Truth) (Proves : Tree → Tree →
       let one = unreplaced_goal (Chosen k p) (choice_fits k p) x.sorts x.statement (subst IsFormed x.is f.1.0) p.predicate none (subst (Replaced (Chosen k p) p.predicate) x.is r) in
       subst (Proves p.environment) (x.is ∙ sym one) here
 
+  choice_bare : (k : GoalKind) (p : Premise) (a v : Tree) → Chosen k p a v → HasBareLeaves a
+  choice_bare k p a v c = (let f = ground.formed p.environment (alias_goal variance.Invariant a v) (premised (choice k p a v) c.1) in bare_formed a f.1.0.1.1.0.1.0)
+
+  choice_some : (k : GoalKind) (p : Premise) (v a : Tree) → Chosen k p a v → v ≡ empty → ⊥
+  choice_some k p v a c e = (let fits = choice_fits k p a v c in subst (λ z. FitsPlace any_term (kind_of z)) e fits)
+
+  stands_with : (k : GoalKind) (p : Premise) → Stands G P k p → (KeepsAliases (statement_of p.predicate) → ⊥) → IsProvedWithValues Proves p.environment p.predicate
+  stands_with k p (inl (i, q)) n = absurd (n i)
+  stands_with k p (inr (m, (u, r, q))) n =
+      let here = premised (record p { predicate = u }) q in
+      let f = ground.formed p.environment u here in
+      record {
+        goal = u;
+        bare = bare_replaced (Chosen k p) (choice_bare k p) (choice_some k p) p.predicate u r (bare_formed u f.1.0);
+        values = replaced_more (λ a v c. (unaliased v c.0, premised (choice k p a v) c.1)) r;
+        proved = here;
+      }
+
   stands_granted : (k : GoalKind) (p : Premise) → Stands G P k p → IsGranted Proves p.environment p.predicate
-  stands_granted k p s = record { ground = stands_ground k p s; proved = stands_proved k p s }
+  stands_granted k p s = record { ground = stands_ground k p s; proved = stands_proved k p s; with_values = stands_with k p s }
 
   stands_fits : (k : GoalKind) (e a b : Tree) → Stands G P k (relating e (alias_goal variance.Invariant a b)) → FitsPlace any_term (kind_of b)
   stands_fits k e a b s = alias_fits e a b (stands_proved k (relating e (alias_goal variance.Invariant a b)) s (inr tt))

@@ -31,10 +31,11 @@ use Rattle.nts_theory.proofs.Refutation.Opening.{CanBegin, added}
 use Rattle.nts_theory.proofs.Refutation.Recording.{recorded_true}
 use Rattle.nts_theory.proofs.Refutation.Readying.{some_begins, says_trait, says_alias}
 use Rattle.nts_theory.proofs.Refutation.AskedGoals.{granted_weakly, begun_asked}
+use Rattle.nts_theory.proofs.Refutation.Posed.{posed_begun}
 use Rattle.nts_theory.proofs.Refutation.Affirming.{denied_inst, denied_before, denied_plain}
 use Rattle.nts_theory.proofs.Refutation.Stating.{own_begins}
 use Rattle.nts_theory.proofs.Refutation.Equating.{equality_begins, equality_no_lesser}
-use Rattle.nts_theory.specs.Telling.{Verdict, Queries, AreTermsOfKinds, StandsForAll, SaysOf, IsFound, without_constraints, IsPlainResponse, Tells, tells_nothing, says_nothing, tells_one, tells_outlives, tells_affirmed, tells_own, tells_subtype, tells_alias, tells_normal, Refutes, all_fail, is_denied, own_fails, is_no_subtype, subtype_refused, aliases_fail, normal_refused, by_lesser, by_one, Outcomes, no_outcome, then_fails, then_replies, Replies, replies, Fails, is_unmet, has_types_apart, is_unrelated, is_refused, is_leaky, Reaches, asks_nothing, then_asks, RefusesOne, refuses_one, cuts_one, Asked, asked_by, Refused, by_query, by_response}
+use Rattle.nts_theory.specs.Telling.{Verdict, Queries, kind_for, AreTermsOfKinds, StandsForAll, SaysOf, IsFound, without_constraints, IsPlainResponse, Tells, tells_nothing, says_nothing, tells_one, tells_outlives, tells_affirmed, tells_own, tells_subtype, tells_alias, tells_normal, Refutes, all_fail, is_denied, own_fails, is_no_subtype, subtype_refused, aliases_fail, normal_refused, by_lesser, by_one, Outcomes, no_outcome, then_fails, then_replies, Replies, replies, Fails, is_unmet, has_types_apart, is_unrelated, is_refused, is_leaky, Reaches, asks_nothing, then_asks, RefusesOne, refuses_one, cuts_one, Asked, asked_by, Refused, by_query, by_response}
 use Rattle.nts_theory.proofs.Refutation.Queried.{BeginsEach, Leads, Reached, IsSolved, IsQuery, first_query, IsTried, tried, tried_knows, found_table, solution_without, plain_without, entered_solution, entered_plain, says_contains, says_long}
 use Rattle.nts_theory.proofs.Refutation.Begun.{asked_from, originals_plain, BegunAt, asks_more, goal_known, goal_plain, goal_there}
 use Rattle.nts_theory.proofs.Refutation.OneSided.{never_unrelated, begun_with}
@@ -49,7 +50,7 @@ reply_long c found qs v (inr (y, inr r)) = says_long (without_constraints c) qs 
 pub outcome_long : {Q : Queries} {h : Handler} {mode : Mode} {c : Content} {e g : Tree} {qs : List Tree} {xs : List Candidate} {vs : List Verdict} → Outcomes Q h mode c e g qs xs vs → (v : Verdict) → Among vs v → (let r = v.response in let x = r.findings in length x.values ≡ length qs)
 outcome_long no_outcome v i = absurd i
 outcome_long (then_fails before fails) v i = outcome_long before v i
-outcome_long {c = c} {qs = qs} (then_replies {vs = vs} {v = u} before (replies ps met found begun reach is says)) v i =
+outcome_long {c = c} {qs = qs} (then_replies {vs = vs} {v = u} before (replies ps gs met posed found begun poses reach is says)) v i =
     elim (among_split vs (u ∷ []) v i) [
       | inl j ↦ outcome_long before v j
       | inr j ↦ (elim j [ inl e ↦ subst (λ (z : Verdict). (let r = z.response in let x = r.findings in length x.values ≡ length qs)) (sym e) (reply_long c found qs u says) | inr k ↦ absurd k ])
@@ -177,19 +178,23 @@ module _ (Q : Queries) (begins : BeginsEach Q) (h : Handler) (truth : Truth) (Pr
 
     replies_contain : {ks : List PositionKind} {c : Content} {e g : Tree} {qs : List Tree} {x : Candidate} {v : Verdict} → Replies Q h coherence c e g qs x v → IsTried ks c e g qs
         → (w : World) → IsSolution truth 0 c w → IsPlainWorld c w → CanBegin truth Weakly c w e x → ContainsSolution truth v.response (map (inst w) qs)
-    replies_contain {ks} {c} {e} {g} {qs} {x} {v} (replies ps met found begun reach is says) t w s f k =
-        let b = begun_asked truth Proves c met w ps (begun_with h truth Proves theory fair turns Q.variances c w e x f k met ps begun) in
-        some_says ks c met found w e g qs v (asked_in coherence ps) t is s f b (reaches_keep reach b.terms) says
+    replies_contain {ks} {c} {e} {g} {qs} {x} {v} (replies ps gs met posed found begun poses reach is says) t w s f k =
+        let first = begun_with h truth Proves theory fair turns Q.variances c w e x f k met ps begun in
+        let b = begun_asked truth Proves c posed w gs (posed_begun h truth Proves theory (kind_for h g) c met posed w ps gs f first poses) in
+        some_says ks c posed found w e g qs v (asked_in coherence gs) t is s f b (reaches_keep reach b.terms) says
 
     fails_never : {k : GoalKind} {c : Content} {e : Tree} {x : Candidate} → Fails Q h coherence k c e x → (w : World) → IsSolution truth 0 c w → IsPlainWorld c w → CanBegin truth Weakly c w e x → ⊥
     fails_never {c = c} {x = x} (is_unmet n) w s f k = n k.is_met
     fails_never {c = c} {x = x} (has_types_apart y) w s f k = k.apart y
     fails_never (is_unrelated (inl outside) n) w s f k = outside refl
     fails_never {c = c} {e = e} {x = x} (is_unrelated (inr sides) n) w s f k = never_unrelated h truth Proves theory fair turns Q.variances c w e x f k sides n
-    fails_never {c = c} {e = e} {x = x} (is_refused ps met begun refused) w s f k =
-        let b = begun_asked truth Proves c met w ps (begun_with h truth Proves theory fair turns Q.variances c w e x f k met ps begun) in refuses_goals refused b.terms b.reaches.world b.goals
-    fails_never {c = c} {e = e} {x = x} (is_leaky ps met found begun reach leaks) w s f k =
-        let b = begun_asked truth Proves c met w ps (begun_with h truth Proves theory fair turns Q.variances c w e x f k met ps begun) in
+    fails_never {k = z} {c = c} {e = e} {x = x} (is_refused ps gs met posed begun poses refused) w s f k =
+        let first = begun_with h truth Proves theory fair turns Q.variances c w e x f k met ps begun in
+        let b = begun_asked truth Proves c posed w gs (posed_begun h truth Proves theory z c met posed w ps gs f first poses) in
+        refuses_goals refused b.terms b.reaches.world b.goals
+    fails_never {k = z} {c = c} {e = e} {x = x} (is_leaky ps gs met posed found begun poses reach leaks) w s f k =
+        let first = begun_with h truth Proves theory fair turns Q.variances c w e x f k met ps begun in
+        let b = begun_asked truth Proves c posed w gs (posed_begun h truth Proves theory z c met posed w ps gs f first poses) in
         let r = reaches_keep reach b.terms in
         let there = r.solutions.each b.reaches.world b.goals in
         respects.none found 0 there.world leaks there.solves.solution

@@ -35,7 +35,7 @@ says_none c found qs v unsure (inr (n, inr r)) = plain_leaves_none c qs v r
 outcome_leaves_none : {Q : Queries} {h : Handler} {mode : Mode} {c : Content} {e g : Tree} {qs : List Tree} {xs : List Candidate} {vs : List Verdict} → Outcomes Q h mode c e g qs xs vs → (v : Verdict) → Among vs v → v.is_yes ≡ false → LeavesNone v
 outcome_leaves_none no_outcome v i unsure = absurd i
 outcome_leaves_none (then_fails before fails) v i unsure = outcome_leaves_none before v i unsure
-outcome_leaves_none {c = c} {qs = qs} (then_replies {vs = vs} {v = u} before (replies ps met found begun reach is says)) v i unsure =
+outcome_leaves_none {c = c} {qs = qs} (then_replies {vs = vs} {v = u} before (replies ps gs met posed found begun poses reach is says)) v i unsure =
     elim (among_split vs (u ∷ []) v i) [
       | inl j ↦ outcome_leaves_none before v j unsure
       | inr j ↦ (elim j [ inl e ↦ subst LeavesNone (sym e) (says_none c found qs u (sym (ap (λ (z : Verdict). z.is_yes) e) ∙ unsure) says) | inr k ↦ absurd k ])
@@ -48,7 +48,7 @@ doubt_leaves_none {v = v} (tells_one vs ready all (i, inl same)) n = (let z : tr
 doubt_leaves_none {v = v} (tells_one vs ready all (i, inr same)) n = outcome_leaves_none all v i n
 doubt_leaves_none (tells_outlives x is none r) n = (let z : true ≡ false = sym r.sure ∙ n in cc z)
 doubt_leaves_none (tells_affirmed is sure says) n = (let z : true ≡ false = sym sure ∙ n in cc z)
-doubt_leaves_none {c = c} {g = g} {qs = qs} {v = v} (tells_own x own plain (replies ps met found begun reach is says)) n = says_none (entered_table c g) found qs v n says
+doubt_leaves_none {c = c} {g = g} {qs = qs} {v = v} (tells_own x own plain (replies ps gs met posed found begun poses reach is says)) n = says_none (entered_table c g) found qs v n says
 doubt_leaves_none {c = c} {g = g} {qs = qs} {v = v} (tells_subtype ps met found outside related reach is says) n = says_none (entered_table c g) found qs v n says
 doubt_leaves_none {v = v} (tells_alias vs ready all (i, inl same)) n = (let z : true ≡ false = sym same.certain ∙ n in cc z)
 doubt_leaves_none {v = v} (tells_alias vs ready all (i, inr same)) n = outcome_leaves_none all v i n

@@ -15,7 +15,7 @@ use Rattle.nts_model.specs.Derivations.Related.{Constraint, pair, unbound, IsAli
 use Rattle.nts_theory.specs.Aliasing.{alias_relation}
 use Rattle.nts_model.specs.Lists.{Among}
 use Rattle.nts_model.specs.Derivations.Sequents.{Premise, constraint_under}
-use Rattle.nts_model.specs.Derivations.Rules.{coherence, Meaning, strictly, statement_of, AreFresh, Equation, related, alike, Application, KeepsAliases, IsHandlers, IsRule, opened, bound, normalization_goal}
+use Rattle.nts_model.specs.Derivations.Rules.{coherence, Meaning, strictly, statement_of, AreFresh, Equation, related, alike, Application, KeepsAliases, IsHandlers, IsRule, Replaced, opened, bound, normalization_goal}
 use Rattle.nts_model.specs.Derivations.Proofs.{Node, IsRankedProof}
 use Rattle.nts_model.specs.Refutation.Opening.{placeholder_in}
 use Rattle.nts_model.specs.Refutation.Choosing.{left_of, right_of}
@@ -56,8 +56,32 @@ abbrev pub HasPlainSides : Equation → Type 0
 HasPlainSides (related a b) = (may_be_argument (kind_of b) ≡ false) ⊎ HasNoAlias a × HasNoAlias b
 HasPlainSides (alike a b) = Unit {0}
 
--- what is granted of a goal: it has no region variables, and is proved if it is asked as it stands. Of another one nothing is known
+-- nothing stands below leaves
+abbrev pub IfBare : Label → Tree → Type 0 → Type 0
+IfBare (label.Leaf x) c T = c ≡ empty
+IfBare l c T = T
+
+abbrev pub HasBareLeaves : Tree → Type 0
+HasBareLeaves empty = Unit {0}
+HasBareLeaves (more a b) = HasBareLeaves a × HasBareLeaves b
+HasBareLeaves (node l c) = IfBare l c (HasBareLeaves c)
+
+-- a goal is proved with terms without aliases in the places of its outermost aliases, each of which is proved to be equal to its alias
+pub record IsProvedWithValues (Proves : Tree → Tree → Type 0) (e g : Tree) : Type 0 where
+  pub goal : Tree
+  pub bare : HasBareLeaves g
+  pub values : Replaced (λ a v. IsAliasFree v × Proves e (alias_relation direction.Equate a v)) g goal
+  pub proved : Proves e goal
+
+-- what is granted of a goal: it has no region variables; it is proved if it is asked as it stands; and if its aliases don't stay, it is
+-- proved with values in their places
 pub record IsGranted (Proves : Tree → Tree → Type 0) (e g : Tree) : Type 0 where
+  pub ground : AllLabels IsGroundLabel (pair e g)
+  pub proved : StandsAsIs g → Proves e g
+  pub with_values : (KeepsAliases (statement_of g) → ⊥) → IsProvedWithValues Proves e g
+
+-- .. where nothing is known of one that is not asked as it stands
+pub record IsGrantedAsIs (Proves : Tree → Tree → Type 0) (e g : Tree) : Type 0 where
   pub ground : AllLabels IsGroundLabel (pair e g)
   pub proved : StandsAsIs g → Proves e g
 

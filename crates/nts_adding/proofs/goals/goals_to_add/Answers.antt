@@ -15,23 +15,23 @@ loop-goal-init c =
     let none = c.new-added.ensures.items in
     record { runs = Runs-refl c.requires.table; adds = (refl, refl, none); posed = rw none (All-nil P) }
 
-pub add_one-requires : goal.add_one-requires
-add_one-requires c = record { posed = IsPosed-later c.loop-goal.invariant.runs.goes (c.requires.posed c.loop-goal.goal-index _ c.loop-goal-test.true) }
+pub add_goal-requires : goal.add_goal-requires
+add_goal-requires c = record { posed = IsPosed-later c.loop-goal.invariant.runs.goes (c.requires.posed c.loop-goal.goal-index _ c.loop-goal-test.true) }
 
 pub loop-goal-preserved : goal.loop-goal-preserved
 loop-goal-preserved c =
     let i = c.loop-goal.invariant in
-    let a = c.in_ok-add_one.ensures.adds in
-    let runs = c.add_one.ensures.runs in
+    let a = c.in_ok-add_goal.ensures.adds in
+    let runs = c.add_goal.ensures.runs in
     let gs = c.args.goals.now in
     let n = c.loop-goal.goal-index in
     let g : Goal = get_or gs n _ in
-    let more = adds_more c.args.cx.now.nodes c.loop-goal.cx.nodes c.add_one.new.cx.nodes c.args.table.now.entries c.loop-goal.table.entries c.add_one.new.table.entries c.args.kind c.args.source (take n gs) g c.loop-goal.added.items a.more i.adds a.adds in
+    let more = adds_more c.args.cx.now.nodes c.loop-goal.cx.nodes c.add_goal.new.cx.nodes c.args.table.now.entries c.loop-goal.table.entries c.add_goal.new.table.entries c.args.kind c.args.source (take n gs) g c.loop-goal.added.items a.more i.adds a.adds in
     record {
       runs = Runs-trans i.runs runs;
-      adds = rw a.behind (subst (λ hs. AddsEach c.args.cx.now.nodes c.add_one.new.cx.nodes c.args.table.now.entries c.add_one.new.table.entries c.args.kind c.args.source hs (c.loop-goal.added.items ++ a.more)) (sym (take_more gs n _ c.loop-goal-test.true)) more);
+      adds = rw a.behind (subst (λ hs. AddsEach c.args.cx.now.nodes c.add_goal.new.cx.nodes c.args.table.now.entries c.add_goal.new.table.entries c.args.kind c.args.source hs (c.loop-goal.added.items ++ a.more)) (sym (take_more gs n _ c.loop-goal-test.true)) more);
       posed = rw a.behind (posed_more c.loop-goal.added.items a.more runs.goes i.posed a.posed);
     }
 
-pub returns-in_err-add_one-clause-runs : goal.returns-in_err-add_one-clause-runs
-returns-in_err-add_one-clause-runs c = Runs-trans c.loop-goal.invariant.runs c.add_one.ensures.runs
+pub returns-in_err-add_goal-clause-runs : goal.returns-in_err-add_goal-clause-runs
+returns-in_err-add_goal-clause-runs c = Runs-trans c.loop-goal.invariant.runs c.add_goal.ensures.runs

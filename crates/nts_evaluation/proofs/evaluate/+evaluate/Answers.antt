@@ -829,14 +829,17 @@ try_candidate-returns-then-not-may_relate = relating.try_candidate-returns-then-
 pub try_candidate-try_relating-requires : goal.try_candidate-try_relating-requires
 try_candidate-try_relating-requires g t c = λ κs k. (omega (arith, c.decreases), (k, (c.requires.posed, (c.requires.ready, (c.requires.candidate, (rw c.typing_mode.ensures at (c.may_relate.ensures.yes c.if-not-may_relate.false), (c.needs_relating.ensures.yes c.if-needs_relating.true, c.requires.search)))))))
 
-pub try_candidate-keep_asked-requires : goal.try_candidate-keep_asked-requires
-try_candidate-keep_asked-requires = candidates.try_candidate-keep_asked-requires
+pub try_candidate-pose_asked-requires : goal.try_candidate-pose_asked-requires
+try_candidate-pose_asked-requires = candidates.try_candidate-pose_asked-requires
 
 pub try_candidate-try_evaluate_goals-requires : goal.try_candidate-try_evaluate_goals-requires
 try_candidate-try_evaluate_goals-requires = candidates.try_candidate-try_evaluate_goals-requires
 
 pub try_candidate-returns-in_err-kept : goal.try_candidate-returns-in_err-kept
 try_candidate-returns-in_err-kept = candidates.try_candidate-returns-in_err-kept
+
+pub try_relating-pose_asked-requires : goal.try_relating-pose_asked-requires
+try_relating-pose_asked-requires = relating.try_relating-pose_asked-requires
 
 pub try_relating-try_evaluate_goals-requires : goal.try_relating-try_evaluate_goals-requires
 try_relating-try_evaluate_goals-requires = relating.try_relating-try_evaluate_goals-requires

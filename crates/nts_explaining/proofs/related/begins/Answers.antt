@@ -1,6 +1,4 @@
-use Rattle.std.proofs.Common.{◌≡◌, inl, inr, Ok, Err, true, false, sym, ap, ◌∙◌}
-use Rattle.std.specs.Prelude.{Result, Bool}
-use Rattle.nts_store.specs.declared.fault.EvalError.{EvalError}
+use Rattle.std.proofs.Common.{◌≡◌, inl, inr, Err, sym, ap, ◌∙◌}
 use Rattle.nts_store.specs.declared.fault.EvalError.TheVariants as error
 use Rattle.nts_evaluation.specs.nts_trying.proofs.Trying.{some_meets}
 use Rattle.nts_explaining.proofs.RelatedParts.{unmet_unbegun}

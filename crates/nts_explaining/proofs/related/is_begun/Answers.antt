@@ -1,11 +1,11 @@
-use Rattle.std.proofs.Common.{◌≡◌, subst}
+use Rattle.std.proofs.Common.{subst}
 use Rattle.nts_model.specs.Derivations.Handlers.{Candidate}
 use Rattle.nts_unify.specs.Entries.{Entries}
 use Rattle.nts_candidates.specs.Offered.{candidate_of}
 use Rattle.nts_store.specs.Growth.{tree_at}
 use Rattle.nts_terms.specs.Signatures.{variances_in}
 use Rattle.nts_unify.specs.Reading.{content_of}
-use Rattle.nts_evaluation.specs.nts_meaning.proofs.Evaluating.{rolled_back, IsPosed-opened}
+use Rattle.nts_evaluation.specs.nts_meaning.proofs.Evaluating.{IsPosed-opened}
 use Rattle.nts_explaining.specs.Explaining.{CannotBegin, IsBegunSo, first_part}
 use Rattle.nts_explaining.proofs.RelatedParts.{related_fits, part_is}
 use Rattle.nts_explaining.proofs.related.is_begun.Goals as goal

@@ -1,4 +1,4 @@
-use Rattle.std.proofs.Common.{◌≡◌, inl, inr, rules}
+use Rattle.std.proofs.Common.{inl, inr, rules}
 use Rattle.nts_trying.proofs.aliases.is_open_to_normalizing.Goals as goal
 
 pub returns-then-is_outside : goal.returns-then-is_outside

@@ -1,8 +1,5 @@
-use Rattle.std.proofs.Common.{◌≡◌, ◌∙◌, arith, get_or, sym, subst, true, false}
+use Rattle.std.proofs.Common.{◌∙◌, arith, sym}
 use Rattle.std.proofs.lemmas.List.{take_all, take_more}
-use Rattle.nts_certainty.specs.declared.sources.GoalSource.{GoalSource}
-use Rattle.nts_terms.specs.declared.handles.Goal.{Goal}
-use Rattle.nts_trying.proofs.OneSidedEquations.{get_or-any}
 use Rattle.nts_trying.proofs.AskedData.{data_asked, data_not}
 use Rattle.nts_trying.proofs.asked.asked_of.Goals.{then-is_asked+in_ok-push, else-is_asked}
 use Rattle.nts_trying.proofs.asked.asked_of.Goals as goal

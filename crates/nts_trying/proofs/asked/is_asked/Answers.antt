@@ -1,4 +1,4 @@
-use Rattle.std.proofs.Common.{◌≡◌, ap, ◌∙◌, sym, true, false}
+use Rattle.std.proofs.Common.{◌≡◌, ap, ◌∙◌, sym}
 use Rattle.nts_model.specs.Derivations.Rules.{statement_of}
 use Rattle.nts_store.specs.Growth.{tree_at}
 use Rattle.nts_store.specs.declared.type_flags.TypeFlags.{TypeFlags}

@@ -1,4 +1,4 @@
-use Rattle.std.proofs.Common.{◌≡◌, inl, inr, refl}
+use Rattle.std.proofs.Common.{inl, inr, refl}
 use Rattle.nts_trying.proofs.asked.keep_asked.Goals as goal
 
 pub returns-then-asks_all : goal.returns-then-asks_all

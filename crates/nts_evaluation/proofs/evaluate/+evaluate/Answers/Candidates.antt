@@ -1,5 +1,5 @@
 -- Longer answers for the functions that answer a goal by its candidates.
-use Rattle.std.proofs.Common.{◌≡◌, Err, Ok, arith, rules, ◌+◌, map, length, get_or, refl, ap, sym, ◌∙◌, subst, ◌∷◌, true}
+use Rattle.std.proofs.Common.{◌≡◌, ◌⊎◌, inl, inr, Err, Ok, arith, rules, ◌+◌, map, length, get_or, refl, ap, sym, ◌∙◌, subst, ◌∷◌, true}
 use Rattle.nts_model.specs.Derivations.Handlers.{meaning}
 use Rattle.nts_model.proofs.Tables.Bringing.{only-trans}
 use Rattle.nts_store.specs.Growth.{tree_at, AllIn}
@@ -8,20 +8,27 @@ use Rattle.nts_terms.specs.Modes.{mode_of}
 use Rattle.nts_terms.proofs.Moved.{KeepsRest-trans, KeepsRest-refl}
 use Rattle.nts_unify.specs.Reading.{content_of}
 use Rattle.nts_unify.specs.Lawful.{content_of-extended}
-use Rattle.nts_table.specs.TableLaws.{IsTable-extended}
 use Rattle.nts_delegate.specs.Candidates.{IsCandidate}
 use Rattle.nts_candidates.specs.Offered.{certainty_of, candidate_of, premise_of, candidates_of}
 use Rattle.nts_candidates.proofs.Results.{IfOk-map}
 use Rattle.nts_canonical.specs.Forms.{trees_of}
 use Rattle.nts_meaning.specs.Meant.{ruling_since, Since, rules_of}
-use Rattle.nts_evaluation.proofs.AskedSteps.{joined, joined_fails, steps_asked, posed_kept}
+use Rattle.nts_evaluation.proofs.AskedSteps.{joined, joined_fails}
+use Rattle.nts_evaluation.proofs.PosedSteps.{posed_steps, kept_posed}
+use Rattle.nts_evaluation.proofs.PutCandidates.{either_run}
+use Rattle.nts_model.specs.Lists.{Among}
+use Rattle.nts_model.specs.Derivations.Sequents.{Premise}
+use Rattle.nts_model.specs.Derivations.Rules.{statement_of, IsHandlers}
+use Rattle.nts_theory.specs.RelatingCandidates.{goals_with}
+use Rattle.nts_meaning.specs.Running.{EachStays, PremiseHolds}
+use Rattle.nts_trying.specs.Asking.{IsProvedAsked}
 use Rattle.nts_evaluation.proofs.Leaking.{checked}
 use Rattle.nts_meaning.proofs.AskedGoals.{trees_kept}
 use Rattle.nts_meaning.proofs.AnsweredQueries.{args_later}
 use Rattle.nts_trying.proofs.Labels.{only_earlier, only_back}
 use Rattle.nts_meaning.proofs.Evaluating.{Goes-trans, Goes-extends, Runs-trans, Runs-extends, rolled_back, Since-later, offers-kept, IsPosed-later, AreValues-later, IsCandidate-extended, candidate_at, goes-back, HoldsGoal-extended}
 use Rattle.nts_trying.proofs.Stepping.{among_get}
-use Rattle.nts_meaning.proofs.Running.{term_table, HasRun, has_run, both_sure, constraints-kept, offered_there, Equates-later, Constrains-later}
+use Rattle.nts_meaning.proofs.Running.{term_table, both_sure, constraints-kept, offered_there, Equates-later, Constrains-later}
 use Rattle.nts_canonical.specs.declared.types.Canonical.{Canonical}
 use Rattle.nts_response.specs.declared.types.Response.{Response}
 use Rattle.nts_store.specs.Kept.{map-kept, AllIn-kept}
@@ -353,7 +360,9 @@ try_candidate-returns g t c =
     let v = c.in_ok-values.ensures in
     let k = c.in_ok-record_constraints.ensures in
     let n = c.in_ok-goals.ensures in
-    let e = steps_asked _ _ _ _ _ _ _ _ _ _ _ _ _ _ c.terms_are_formed.ensures n.added.posed _ (rw c.typing_mode-2.ensures at c.in_ok-kept.ensures) c.in_ok-certainty.ensures in
+    let grow = grown (ran c.in_ok-values.ensures.runs) (grown (ran c.in_ok-record_constraints.ensures.runs) c.in_ok-goals.ensures.grows) in
+    let into = Runs-trans v.runs k.runs in
+    let e = posed_steps (rules_of g.H.GoalHandler.ready g.H.GoalHandler.handler c.args.handler.now) c.added_goals.new.cx c.pose_asked.new.cx c.try_evaluate_goals.new.cx _ _ c.record_constraints.new.table c.pose_asked.new.table c.try_evaluate_goals.new.table c.args.table.now.mode _ c.in_ok-goals.goals.items _ _ _ _ _ _ _ into.goes.mode c.pose_asked.ensures.runs c.in_ok-kept.ensures.asks (search_grows c.args.depth c.args.depth (omega arith) c.requires.search grow) c.terms_are_formed.ensures c.terms_are_formed-2.ensures n.added.posed c.in_ok-certainty.ensures in
     let brought = added_only c.in_ok-goals.goals.items n.added e.labels (content_of-extended n.grows.extends k.runs.goes.table.now) in
     let there = Runs-trans v.runs k.runs in
     let upto = Runs-trans there (Runs-extends k.runs.goes.table n.grows.extends n.grows.rest) in
@@ -381,27 +390,30 @@ try_candidate-returns g t c =
           let since = Since-later (grown (ran there) n.grows) s in
           let sure = both_sure _ _ (sym c.and-2.ensures ∙ ok_inside y) in
           let kind = goal_kind (meaning (g.H.GoalHandler.handler s.base c.args.handler.now) s.variances) (tree_at c.args.cx.now.nodes c.args.goal.predicate.node) in
-          let settled = rw (upto.goes.mode, c.goal_kind-kind.ensures.kind s.base s.variances) at (e.proved since (ap Ok (sym c.and.ensures ∙ sure.1))) in
-          let run : HasRun (meaning (g.H.GoalHandler.handler s.base c.args.handler.now) s.variances) (mode_of c.args.table.now.mode) (goal_kind (meaning (g.H.GoalHandler.handler s.base c.args.handler.now) s.variances) (tree_at c.args.cx.now.nodes c.args.goal.predicate.node)) (assumed_in c.try_evaluate_goals.new.cx.nodes c.try_evaluate_goals.new.graph) (content_of c.try_evaluate_goals.new.cx.nodes c.try_evaluate_goals.new.table.entries) (candidate_of c.args.cx.now.nodes c.args.candidate.now) (map (tree_at c.try_evaluate_goals.new.cx.nodes) c.deref-2.result.now) = record {
-            sure = ap certainty_of sure.0;
-            values = rw c.deref-2.ensures.value later.values;
-            known = rw c.deref-2.ensures.value later.known;
-            equations = rw c.deref-2.ensures.value (Equates-later c.args.cx.now.nodes c.in_ok-values.values.items x.equations.items (Runs-trans k.runs steps).goes v.values.within v.equal);
-            constraints = Constrains-later c.args.cx.now.nodes vs x.region_constraints.items steps.goes (AllIn-kept c.equate.new.cx.nodes c.record_constraints.new.cx.nodes vs within k.runs.goes.extends) (rw (c.deref-3.ensures.value, constraints) at k.held);
-            goals = all_proved (meaning (g.H.GoalHandler.handler s.base c.args.handler.now) s.variances) (mode_of mode) kind A (map (tree_at z) vs) (map (premise_of c.args.cx.now.nodes) x.goals.items) gs goals (all_posed gs n.added.posed) e.runs.goes c.terms_are_formed-2.ensures settled;
-          } in
-          has_run (meaning h s.variances) (mode_of mode) A here seen (map (tree_at z) vs) (tree_at c.args.cx.now.nodes c.args.goal.param_env.node) (tree_at c.args.cx.now.nodes c.args.goal.predicate.node) (term_table c.terms_are_formed-2.ensures e.runs.goes.table) run;
+          let settled = rw (c.goal_kind-kind.ensures.kind s.base s.variances) at (e.proved since c.terms_are_formed-3.ensures (ap Ok (sym c.and.ensures ∙ sure.1))) in
+          let m = meaning h s.variances in
+          let values = map (tree_at z) vs in
+          let says = tree_at c.args.cx.now.nodes c.args.goal.predicate.node in
+          let its = map (premise_of c.args.cx.now.nodes) x.goals.items in
+          let own : EachStays here (PremiseHolds m (mode_of mode) kind A values) its ⊎ IsHandlers (statement_of says) × ((p : Premise) → Among (goals_with values its) p → IsProvedAsked m (mode_of mode) A here kind p) =
+          elim settled [
+            | inl w ↦ inl (all_proved m (mode_of mode) kind A values its gs goals (all_posed gs n.added.posed) e.runs.goes c.terms_are_formed-3.ensures w)
+            | inr w ↦ inr (subst (λ o. IsHandlers (statement_of o)) (upto.goes.extends.kept c.args.goal.predicate.node c.requires.posed.holds.predicate.within) w.0, λ p i. w.1 p (subst (λ ps. Among ps p) (sym goals) i))
+          ] in
+          either_run m (mode_of mode) A here seen values (tree_at c.args.cx.now.nodes c.args.goal.param_env.node) says (term_table c.terms_are_formed-3.ensures e.runs.goes.table) (ap certainty_of sure.0) (rw c.deref-2.ensures.value later.values) (rw c.deref-2.ensures.value later.known)
+          (rw c.deref-2.ensures.value (Equates-later c.args.cx.now.nodes c.in_ok-values.values.items x.equations.items (Runs-trans k.runs steps).goes v.values.within v.equal))
+          (Constrains-later c.args.cx.now.nodes vs x.region_constraints.items steps.goes (AllIn-kept c.equate.new.cx.nodes c.record_constraints.new.cx.nodes vs within k.runs.goes.extends) (rw (c.deref-3.ensures.value, constraints) at k.held)) own;
       told = λ s tells.
           let h = ruling_since (λ ts. g.H.GoalHandler.handler ts c.args.handler.now) s in
           let since = Since-later (grown (ran there) n.grows) s in
-          ran_to {t = c.args.table.now} {u = c.equate.new.table} {v = c.record_constraints.new.table} h mode c.args.goal x vs gs (rw c.deref-2.ensures.value v.equated) (rw (c.deref-3.ensures.value) at k.added) constraints c.requires.candidate.goals v.runs.goes.extends k.runs.goes.extends there.goes.extends n.grows.extends k.runs.goes.table within (rw c.deref-4.ensures.value at n.added.goals) (c.needs_relating.ensures.no c.if-needs_relating.false) c.try_evaluate_goals.new.cx.nodes c.try_evaluate_goals.new.table (rw upto.goes.mode at (e.told since (tell_grown h c.args.depth c.requires.search (grown (ran c.in_ok-values.ensures.runs) (grown (ran c.in_ok-record_constraints.ensures.runs) c.in_ok-goals.ensures.grows)) tells)));
+          ran_to {t = c.args.table.now} {u = c.equate.new.table} {v = c.record_constraints.new.table} h mode c.args.goal x vs gs (rw c.deref-2.ensures.value v.equated) (rw (c.deref-3.ensures.value) at k.added) constraints c.requires.candidate.goals v.runs.goes.extends k.runs.goes.extends there.goes.extends n.grows.extends k.runs.goes.table within (rw c.deref-4.ensures.value at n.added.goals) (c.needs_relating.ensures.no c.if-needs_relating.false) c.try_evaluate_goals.new.cx.nodes c.try_evaluate_goals.new.table (rw (c.goal_kind-kind.ensures.kind s.base s.variances) at (e.told since (tell_grown h c.args.depth c.requires.search (grown (ran c.in_ok-values.ensures.runs) (grown (ran c.in_ok-record_constraints.ensures.runs) c.in_ok-goals.ensures.grows)) tells)));
       refuted = search rules;
       decided = λ s i b d can.
           let h = g.H.GoalHandler.handler s.base c.args.handler.now in
           let since = Since-later (grown (ran there) n.grows) s in
           let up = grown (ran c.in_ok-values.ensures.runs) (grown (ran c.in_ok-record_constraints.ensures.runs) c.in_ok-goals.ensures.grows) in
           let settled = its_decided {t = c.args.table.now} {u = c.equate.new.table} {v = c.record_constraints.new.table} h mode i b c.args.goal x vs gs (rw c.deref-2.ensures.value v.equated) (rw (c.deref-3.ensures.value) at k.added) constraints c.requires.candidate.goals v.runs.goes.extends k.runs.goes.extends there.goes.extends n.grows.extends k.runs.goes.table within (rw c.deref-4.ensures.value at n.added.goals) c.terms_are_formed.ensures v.runs.goes.table n.added.posed c.requires.posed c.requires.candidate (c.needs_relating.ensures.no c.if-needs_relating.false) d c.record_constraints.new.table refl in
-          let y = e.decided since i b (rw upto.goes.mode settled) (decides_grown c.requires.search up can) in
+          let y = e.decided since i b settled (decides_grown c.requires.search up can) in
           record { answer = (y.answer.0, c.and-2.ensures ∙ rw (sure_yes x.certainty d.sure, c.and.ensures ∙ y.answer.1) refl); search = y.search };
     }
 
@@ -414,7 +426,9 @@ try_candidate-returns-in_err-certainty g t c =
     let upto = Runs-trans there (Runs-extends k.runs.goes.table n.grows.extends n.grows.rest) in
     let x = c.args.candidate.now in
     let gs = c.in_ok-goals.goals.items in
-    let e = steps_asked _ _ _ _ _ _ _ _ _ _ _ _ _ _ c.terms_are_formed.ensures n.added.posed _ (rw c.typing_mode-2.ensures at c.in_ok-kept.ensures) c.try_evaluate_goals.ensures in
+    let grow = grown (ran c.in_ok-values.ensures.runs) (grown (ran c.in_ok-record_constraints.ensures.runs) c.in_ok-goals.ensures.grows) in
+    let into = Runs-trans v.runs k.runs in
+    let e = posed_steps (rules_of g.H.GoalHandler.ready g.H.GoalHandler.handler c.args.handler.now) c.added_goals.new.cx c.pose_asked.new.cx c.try_evaluate_goals.new.cx _ _ c.record_constraints.new.table c.pose_asked.new.table c.try_evaluate_goals.new.table c.args.table.now.mode _ c.in_ok-goals.goals.items _ _ _ _ _ _ _ into.goes.mode c.pose_asked.ensures.runs c.in_ok-kept.ensures.asks (search_grows c.args.depth c.args.depth (omega arith) c.requires.search grow) c.terms_are_formed.ensures c.terms_are_formed-2.ensures n.added.posed c.try_evaluate_goals.ensures in
     let vs = c.deref-2.result.now in
     let within : AllIn c.equate.new.cx.nodes c.deref-2.result.now = rw c.deref-2.ensures.value v.values.within in
     let constraints = constraints-kept c.args.cx.now.nodes c.equate.new.cx.nodes x.fresh.items c.args.goal x.region_constraints.items v.runs.goes.extends c.requires.candidate.constraints in
@@ -429,14 +443,14 @@ try_candidate-returns-in_err-certainty g t c =
           let h = ruling_since (λ ts. g.H.GoalHandler.handler ts c.args.handler.now) s in
           let since = Since-later (grown (ran there) n.grows) s in
           let refused : c.try_evaluate_goals.result ≡ Err EvalError.NoSolution = search rules in
-          ran_refused {t = c.args.table.now} {u = c.equate.new.table} {v = c.record_constraints.new.table} h mode c.args.goal x vs gs (rw c.deref-2.ensures.value v.equated) (rw (c.deref-3.ensures.value) at k.added) constraints c.requires.candidate.goals v.runs.goes.extends k.runs.goes.extends there.goes.extends n.grows.extends k.runs.goes.table within (rw c.deref-4.ensures.value at n.added.goals) (c.needs_relating.ensures.no c.if-needs_relating.false) (rw (upto.goes.mode, c.goal_kind-kind.ensures.kind s.base s.variances) at (e.refuted since (tell_grown h c.args.depth c.requires.search (grown (ran c.in_ok-values.ensures.runs) (grown (ran c.in_ok-record_constraints.ensures.runs) c.in_ok-goals.ensures.grows)) tells) (joined_fails _ c.in_ok-kept.kept refused)));
+          ran_refused {t = c.args.table.now} {u = c.equate.new.table} {v = c.record_constraints.new.table} h mode c.args.goal x vs gs (rw c.deref-2.ensures.value v.equated) (rw (c.deref-3.ensures.value) at k.added) constraints c.requires.candidate.goals v.runs.goes.extends k.runs.goes.extends there.goes.extends n.grows.extends k.runs.goes.table within (rw c.deref-4.ensures.value at n.added.goals) (c.needs_relating.ensures.no c.if-needs_relating.false) (rw (c.goal_kind-kind.ensures.kind s.base s.variances) at (e.refuted since (tell_grown h c.args.depth c.requires.search (grown (ran c.in_ok-values.ensures.runs) (grown (ran c.in_ok-record_constraints.ensures.runs) c.in_ok-goals.ensures.grows)) tells) (joined_fails _ c.in_ok-kept.kept refused)));
       decided = λ s i b d can.
           let h = g.H.GoalHandler.handler s.base c.args.handler.now in
           let since = Since-later (grown (ran there) n.grows) s in
           let up = grown (ran c.in_ok-values.ensures.runs) (grown (ran c.in_ok-record_constraints.ensures.runs) c.in_ok-goals.ensures.grows) in
           let settled = its_decided {t = c.args.table.now} {u = c.equate.new.table} {v = c.record_constraints.new.table} h mode i b c.args.goal x vs gs (rw c.deref-2.ensures.value v.equated) (rw (c.deref-3.ensures.value) at k.added) constraints c.requires.candidate.goals v.runs.goes.extends k.runs.goes.extends there.goes.extends n.grows.extends k.runs.goes.table within (rw c.deref-4.ensures.value at n.added.goals) c.terms_are_formed.ensures v.runs.goes.table n.added.posed c.requires.posed c.requires.candidate (c.needs_relating.ensures.no c.if-needs_relating.false) d c.record_constraints.new.table refl in
           let fails : is_err c.from_residual-in_err-certainty.result ≡ true = search rules in
-          decides_error (joined c.try_evaluate_goals.result c.in_ok-kept.kept) c.from_residual-in_err-certainty.result fails (λ no. (let refused : c.try_evaluate_goals.result ≡ Err EvalError.NoSolution = search rules in joined_fails _ c.in_ok-kept.kept refused)) (λ no. no) (e.decided since i b (rw upto.goes.mode settled) (decides_grown c.requires.search up can));
+          decides_error (joined c.try_evaluate_goals.result c.in_ok-kept.kept) c.from_residual-in_err-certainty.result fails (λ no. (let refused : c.try_evaluate_goals.result ≡ Err EvalError.NoSolution = search rules in joined_fails _ c.in_ok-kept.kept refused)) (λ no. no) (e.decided since i b settled (decides_grown c.requires.search up can));
     }
 
 pub try_candidate-try_evaluate_goals-requires : goal.try_candidate-try_evaluate_goals-requires
@@ -449,22 +463,27 @@ try_candidate-try_evaluate_goals-requires g t c = λ κs k-1.
       (
         k-1,
         (
-          IsTable-extended n.grows.extends k.runs.goes.table,
+          c.pose_asked.ensures.runs.goes.table,
           (
-            posed_kept _ _ _ _ _ _ c.in_ok-kept.ensures n.added.posed,
+            kept_posed c.in_ok-kept.ensures.asks,
             (
-              g.met.H.GoalHandler.ready_kept _ _ _ c.requires.ready (Extends-trans there.goes.extends n.grows.extends),
-              search_grows c.args.depth c.args.depth (omega arith) c.requires.search (grown (ran c.in_ok-values.ensures.runs) (grown (ran c.in_ok-record_constraints.ensures.runs) c.in_ok-goals.ensures.grows)),
+              g.met.H.GoalHandler.ready_kept _ _ _ c.requires.ready (Extends-trans (Extends-trans there.goes.extends n.grows.extends) c.pose_asked.ensures.runs.goes.extends),
+              search_grows c.args.depth c.args.depth (omega arith) c.requires.search (grown (grown (ran c.in_ok-values.ensures.runs) (grown (ran c.in_ok-record_constraints.ensures.runs) c.in_ok-goals.ensures.grows)) (ran c.pose_asked.ensures.runs)),
             ),
           ),
         ),
       ),
     )
 
-pub try_candidate-keep_asked-requires : goal.try_candidate-keep_asked-requires
-try_candidate-keep_asked-requires g t c =
+pub try_candidate-pose_asked-requires : goal.try_candidate-pose_asked-requires
+try_candidate-pose_asked-requires g t c =
+    let v = c.in_ok-values.ensures in
+    let k = c.in_ok-record_constraints.ensures in
+    let there = Runs-trans v.runs k.runs in
     let n = c.in_ok-goals.ensures in
-    λ k d l. (let p = n.added.posed k d l in p.holds)
+    let upto = Runs-trans there (Runs-extends k.runs.goes.table n.grows.extends n.grows.rest) in
+    let goal = IsPosed-later upto.goes c.requires.posed in
+    record { goal = goal.holds.predicate; table = upto.goes.table; posed = n.added.posed }
 
 pub try_candidate-returns-in_err-kept : goal.try_candidate-returns-in_err-kept
 try_candidate-returns-in_err-kept g t c =
@@ -472,10 +491,11 @@ try_candidate-returns-in_err-kept g t c =
     let k = c.in_ok-record_constraints.ensures in
     let there = Runs-trans v.runs k.runs in
     let n = c.in_ok-goals.ensures in
+    let upto = Runs-trans there (Runs-extends k.runs.goes.table n.grows.extends n.grows.rest) in
     let fails : is_err c.from_residual-in_err-kept.result ≡ true = search rules in
     record {
-      runs = Runs-trans there (Runs-extends k.runs.goes.table n.grows.extends n.grows.rest);
-      searches = Searches-refl c.args.depth c.requires.search (grown (ran c.in_ok-values.ensures.runs) (grown (ran c.in_ok-record_constraints.ensures.runs) c.in_ok-goals.ensures.grows));
+      runs = Runs-trans upto c.pose_asked.ensures.runs;
+      searches = Searches-refl c.args.depth c.requires.search (grown (grown (ran c.in_ok-values.ensures.runs) (grown (ran c.in_ok-record_constraints.ensures.runs) c.in_ok-goals.ensures.grows)) (ran c.pose_asked.ensures.runs));
       labels = IfOk-from_err c.from_residual-in_err-kept.result _ fails;
       proved = search rules;
       told = λ s tells. IfOk-from_err c.from_residual-in_err-kept.result _ fails;

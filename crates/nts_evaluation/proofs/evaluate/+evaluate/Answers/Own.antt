@@ -4,6 +4,8 @@ use Rattle.std.proofs.Common.{inl, inr, ⊎_elim, arith, rules, refl, ap, subst}
 use Rattle.nts_model.specs.Derivations.Handlers.{meaning}
 use Rattle.nts_model.specs.Derivations.Rules.{statement_of}
 use Rattle.nts_model.specs.Searching.Stacks.{HoldsCandidateFrom}
+use Rattle.nts_theory.proofs.Refutation.Affirming.{way_no_handlers}
+use Rattle.nts_model.specs.Derivations.Rules.{statement_of, IsHandlers}
 use Rattle.nts_theory.specs.Affirming.{SaysAffirmed, IsDenied, HasOwnWay}
 use Rattle.nts_theory.specs.Telling.{IsPlainResponse, IsResponseOf}
 use Rattle.nts_store.proofs.Growing.{Extends-trans}
@@ -247,7 +249,7 @@ evaluate_own-returns-in-Way g t c =
           inr (
             x,
             judged_before (λ z e p. HasOwnWay z e p x) same up holds known.0,
-            subst (λ z. HoldsCandidateFrom (meaning (g.H.GoalHandler.handler s.base c.args.handler.now) s.variances) (mode_of c.args.table.now.mode) (assumed_in c.probe_candidate-response.new.cx.nodes c.probe_candidate-response.new.graph) (content_of b u.entries) z x) predicate (let ran = run (Since-later j.grows s) in held_plain known.2 ran.holds),
+            subst (λ z. HoldsCandidateFrom (meaning (g.H.GoalHandler.handler s.base c.args.handler.now) s.variances) (mode_of c.args.table.now.mode) (assumed_in c.probe_candidate-response.new.cx.nodes c.probe_candidate-response.new.graph) (content_of b u.entries) z x) predicate (let ran = run (Since-later j.grows s) in held_plain known.2 (λ i. (let y = known.0 in way_no_handlers _ _ y.statement x y.way (subst (λ z. IsHandlers (statement_of z)) y.binds_nothing i))) ran.holds),
           )) f)
           (rw c.deref.ensures at r.found);
       told = λ s tells.

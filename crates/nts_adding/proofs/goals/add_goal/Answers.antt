@@ -5,7 +5,7 @@ use Rattle.nts_terms.specs.declared.handles.Goal.{Goal}
 use Rattle.nts_certainty.specs.declared.sources.GoalSource.{GoalSource}
 use Rattle.nts_certainty.specs.declared.sources.GoalSource.TheVariants as source
 use Rattle.nts_meaning.specs.Evaluation.{IsPosed}
-use Rattle.nts_adding.proofs.goals.add_one.Goals as goal
+use Rattle.nts_adding.proofs.goals.add_goal.Goals as goal
 
 pub returns-clause-adds : goal.returns-clause-adds
 returns-clause-adds c =

@@ -1,0 +1,2 @@
+pub mod NewPosed
+pub mod PosedMore
