@@ -38,7 +38,7 @@ use Rattle.nts_store.specs.declared.fault.EvalError.TheVariants as EvalError
 use Rattle.std.specs.Result.{is_err}
 use Rattle.std.proofs.lemmas.Result.{IfOk-from_err}
 use Rattle.nts_evaluation.proofs.Failing.{query_failed, goal_failed, try_failed}
-use Rattle.nts_evaluation.proofs.evaluate.+evaluate.Goals.{search-then-graph, search-else-graph}
+use Rattle.nts_evaluation.proofs.evaluate.+evaluate.Goals.{queries::search-then-graph, queries::search-else-graph}
 use Rattle.nts_evaluation.proofs.Deciding.{decides_fault, decides_error, decides_refused, decides_then, decides_grown, same_search}
 use Rattle.nts_evaluation.proofs.DecidedCandidates.{all_merged, facts_merged}
 use Rattle.nts_meaning.proofs.Searching.{nothing_stands}
@@ -65,27 +65,27 @@ mod Aliases
 mod Equated
 mod Relating
 
-pub compute_goal-evaluate_candidates-response-requires : goal.compute_goal-evaluate_candidates-response-requires
-compute_goal-evaluate_candidates-response-requires = candidates.compute_goal-evaluate_candidates-response-requires
+pub rows::compute_goal-evaluate_candidates-response-requires : goal.rows::compute_goal-evaluate_candidates-response-requires
+rows::compute_goal-evaluate_candidates-response-requires = candidates.compute_goal-evaluate_candidates-response-requires
 
-pub compute_goal-goal_row-requires : goal.compute_goal-goal_row-requires
-compute_goal-goal_row-requires g t c = opened_holds _ _ c.in_ok-opened.opened c.in_ok-opened.ensures.posed
+pub rows::compute_goal-goal_row-requires : goal.rows::compute_goal-goal_row-requires
+rows::compute_goal-goal_row-requires g t c = opened_holds _ _ c.in_ok-opened.opened c.in_ok-opened.ensures.posed
 
-pub compute_goal-boxed_response-requires-clause-values : goal.compute_goal-boxed_response-requires-clause-values
-compute_goal-boxed_response-requires-clause-values g t c =
+pub rows::compute_goal-boxed_response-requires-clause-values : goal.rows::compute_goal-boxed_response-requires-clause-values
+rows::compute_goal-boxed_response-requires-clause-values g t c =
     let o = c.in_ok-opened.ensures in
     args_later c.args.cx.now.nodes c.enter_forall.new.cx.nodes c.args.table.now.entries c.enter_forall.new.table.entries c.args.values.now o.goes.extends o.goes.continues c.requires.values
 
-pub compute_goal-boxed_response-requires-in-Unanswered-clause-values : goal.compute_goal-boxed_response-requires-in-Unanswered-clause-values
-compute_goal-boxed_response-requires-in-Unanswered-clause-values g t c =
+pub rows::compute_goal-boxed_response-requires-in-Unanswered-clause-values : goal.rows::compute_goal-boxed_response-requires-in-Unanswered-clause-values
+rows::compute_goal-boxed_response-requires-in-Unanswered-clause-values g t c =
     let o = c.in_ok-opened.ensures in
     args_later c.args.cx.now.nodes c.enter_forall.new.cx.nodes c.args.table.now.entries c.enter_forall.new.table.entries c.args.values.now o.goes.extends o.goes.continues c.requires.values
 
-pub compute_goal-returns : goal.compute_goal-returns
-compute_goal-returns = candidates.compute_goal-returns
+pub rows::compute_goal-returns : goal.rows::compute_goal-returns
+rows::compute_goal-returns = candidates.compute_goal-returns
 
-pub compute_goal-returns-in-Unopened : goal.compute_goal-returns-in-Unopened
-compute_goal-returns-in-Unopened g t c =
+pub rows::compute_goal-returns-in-Unopened : goal.rows::compute_goal-returns-in-Unopened
+rows::compute_goal-returns-in-Unopened g t c =
     let o = c.in_ok-opened.ensures in
     let r = c.in_ok-response-in-Unopened.ensures in
     let trees = trees_kept c.args.cx.now.nodes c.enter_forall.new.cx.nodes c.args.table.now.entries c.args.values.now o.grows.extends c.requires.values in
@@ -101,24 +101,24 @@ compute_goal-returns-in-Unopened g t c =
       facts = λ s tells f can. absurd (let shut = o.unopened (ap is_some c.in-Unopened.ensures) in let settled = f.settled in let some = shut.binds_some in let none = settled.binds_nothing in cc (some, none));
     }
 
-pub compute_goal-returns-in_err-candidates : goal.compute_goal-returns-in_err-candidates
-compute_goal-returns-in_err-candidates g t c =
+pub rows::compute_goal-returns-in_err-candidates : goal.rows::compute_goal-returns-in_err-candidates
+rows::compute_goal-returns-in_err-candidates g t c =
     goal_failed c.from_residual-in_err-candidates.result (search rules) (search rules) (search rules) (Searches-refl c.args.depth c.requires.search (grown c.in_ok-opened.ensures.grows c.relevant_candidates.ensures.grows))
 
-pub compute_goal-returns-in_err-opened : goal.compute_goal-returns-in_err-opened
-compute_goal-returns-in_err-opened g t c =
+pub rows::compute_goal-returns-in_err-opened : goal.rows::compute_goal-returns-in_err-opened
+rows::compute_goal-returns-in_err-opened g t c =
     goal_failed c.from_residual.result (search rules) (search rules) (search rules) (Searches-refl c.args.depth c.requires.search c.enter_forall.ensures.grows)
 
-pub compute_goal-returns-in_err-response-in-Unopened : goal.compute_goal-returns-in_err-response-in-Unopened
-compute_goal-returns-in_err-response-in-Unopened g t c =
+pub rows::compute_goal-returns-in_err-response-in-Unopened : goal.rows::compute_goal-returns-in_err-response-in-Unopened
+rows::compute_goal-returns-in_err-response-in-Unopened g t c =
     goal_failed c.from_residual-in_err-response-in-Unopened.result (search rules) (search rules) (search rules) (Searches-refl c.args.depth c.requires.search (grown c.in_ok-opened.ensures.grows c.boxed_response.ensures.grows))
 
-pub compute_goal-returns-in_err-response-in-Unanswered : goal.compute_goal-returns-in_err-response-in-Unanswered
-compute_goal-returns-in_err-response-in-Unanswered g t c =
+pub rows::compute_goal-returns-in_err-response-in-Unanswered : goal.rows::compute_goal-returns-in_err-response-in-Unanswered
+rows::compute_goal-returns-in_err-response-in-Unanswered g t c =
     goal_failed c.from_residual-in_err-response-in-Unanswered.result (search rules) (search rules) (search rules) (Searches-refl c.args.depth c.requires.search (grown c.in_ok-opened.ensures.grows c.boxed_response-in-Unanswered.ensures.grows))
 
-pub compute_goal-returns-in-Unanswered : goal.compute_goal-returns-in-Unanswered
-compute_goal-returns-in-Unanswered g t c =
+pub rows::compute_goal-returns-in-Unanswered : goal.rows::compute_goal-returns-in-Unanswered
+rows::compute_goal-returns-in-Unanswered g t c =
     let o = c.in_ok-opened.ensures in
     let r = c.in_ok-response-in-Unanswered.ensures in
     let trees = trees_kept c.args.cx.now.nodes c.enter_forall.new.cx.nodes c.args.table.now.entries c.args.values.now o.grows.extends c.requires.values in
@@ -139,23 +139,23 @@ compute_goal-returns-in-Unanswered g t c =
           absurd (c.in-Unanswered.ensures.1.not_asked (fact_asked (g.H.GoalHandler.handler s.base c.args.handler.now) (mode_of c.args.table.now.mode) c.args.cx.now.nodes c.enter_forall.new.cx.nodes c.args.table.now c.enter_forall.new.table c.args.goal _ (rw c.in-Unanswered.ensures.0 at o.opened) settled c.requires.posed (rw c.in-Unanswered.ensures.0 at o.posed) o.grows.extends));
     }
 
-pub compute_goal-answer_outlives-requires-clause-posed : goal.compute_goal-answer_outlives-requires-clause-posed
-compute_goal-answer_outlives-requires-clause-posed g t c = rw c.in-Outlives.ensures.0 at c.in_ok-opened.ensures.posed
+pub rows::compute_goal-answer_outlives-requires-clause-posed : goal.rows::compute_goal-answer_outlives-requires-clause-posed
+rows::compute_goal-answer_outlives-requires-clause-posed g t c = rw c.in-Outlives.ensures.0 at c.in_ok-opened.ensures.posed
 
-pub compute_goal-answer_outlives-requires-clause-outlives : goal.compute_goal-answer_outlives-requires-clause-outlives
-compute_goal-answer_outlives-requires-clause-outlives g t c = c.in-Outlives.ensures.1
+pub rows::compute_goal-answer_outlives-requires-clause-outlives : goal.rows::compute_goal-answer_outlives-requires-clause-outlives
+rows::compute_goal-answer_outlives-requires-clause-outlives g t c = c.in-Outlives.ensures.1
 
-pub compute_goal-answer_outlives-requires-clause-values : goal.compute_goal-answer_outlives-requires-clause-values
-compute_goal-answer_outlives-requires-clause-values g t c =
+pub rows::compute_goal-answer_outlives-requires-clause-values : goal.rows::compute_goal-answer_outlives-requires-clause-values
+rows::compute_goal-answer_outlives-requires-clause-values g t c =
     let o = c.in_ok-opened.ensures in
     args_later c.args.cx.now.nodes c.enter_forall.new.cx.nodes c.args.table.now.entries c.enter_forall.new.table.entries c.args.values.now o.goes.extends o.goes.continues c.requires.values
 
-pub compute_goal-returns-in_err-response-in-Outlives : goal.compute_goal-returns-in_err-response-in-Outlives
-compute_goal-returns-in_err-response-in-Outlives g t c =
+pub rows::compute_goal-returns-in_err-response-in-Outlives : goal.rows::compute_goal-returns-in_err-response-in-Outlives
+rows::compute_goal-returns-in_err-response-in-Outlives g t c =
     goal_failed c.from_residual-in_err-response-in-Outlives.result (search rules) (search rules) (search rules) (Searches-refl c.args.depth c.requires.search (grown c.in_ok-opened.ensures.grows c.answer_outlives.ensures.grows))
 
-pub compute_goal-returns-in-Outlives : goal.compute_goal-returns-in-Outlives
-compute_goal-returns-in-Outlives g t c =
+pub rows::compute_goal-returns-in-Outlives : goal.rows::compute_goal-returns-in-Outlives
+rows::compute_goal-returns-in-Outlives g t c =
     let o = c.in_ok-opened.ensures in
     let r = c.in_ok-response-in-Outlives.ensures in
     let f = r.found in
@@ -191,209 +191,209 @@ compute_goal-returns-in-Outlives g t c =
           absurd (trait_outlives_nothing _ _ (let z = asked.trait_goal in z.statement) (let z = says.is in z.says));
     }
 
-pub compute_goal-evaluate_subtype-response-requires : goal.compute_goal-evaluate_subtype-response-requires
-compute_goal-evaluate_subtype-response-requires = subtypes.compute_goal-evaluate_subtype-response-requires
+pub rows::compute_goal-evaluate_subtype-response-requires : goal.rows::compute_goal-evaluate_subtype-response-requires
+rows::compute_goal-evaluate_subtype-response-requires = subtypes.compute_goal-evaluate_subtype-response-requires
 
-pub compute_goal-returns-in-Subtype : goal.compute_goal-returns-in-Subtype
-compute_goal-returns-in-Subtype = subtypes.compute_goal-returns-in-Subtype
+pub rows::compute_goal-returns-in-Subtype : goal.rows::compute_goal-returns-in-Subtype
+rows::compute_goal-returns-in-Subtype = subtypes.compute_goal-returns-in-Subtype
 
-pub evaluate_subtype-returns-in_err-snapshot : goal.evaluate_subtype-returns-in_err-snapshot
-evaluate_subtype-returns-in_err-snapshot = subtypes.evaluate_subtype-returns-in_err-snapshot
+pub rows::evaluate_subtype-returns-in_err-snapshot : goal.rows::evaluate_subtype-returns-in_err-snapshot
+rows::evaluate_subtype-returns-in_err-snapshot = subtypes.evaluate_subtype-returns-in_err-snapshot
 
-pub evaluate_subtype-returns-in_err-left : goal.evaluate_subtype-returns-in_err-left
-evaluate_subtype-returns-in_err-left = subtypes.evaluate_subtype-returns-in_err-left
+pub rows::evaluate_subtype-returns-in_err-left : goal.rows::evaluate_subtype-returns-in_err-left
+rows::evaluate_subtype-returns-in_err-left = subtypes.evaluate_subtype-returns-in_err-left
 
-pub evaluate_subtype-boxed_response-requires-clause-values : goal.evaluate_subtype-boxed_response-requires-clause-values
-evaluate_subtype-boxed_response-requires-clause-values = subtypes.evaluate_subtype-boxed_response-requires-clause-values
+pub rows::evaluate_subtype-boxed_response-requires-clause-values : goal.rows::evaluate_subtype-boxed_response-requires-clause-values
+rows::evaluate_subtype-boxed_response-requires-clause-values = subtypes.evaluate_subtype-boxed_response-requires-clause-values
 
-pub evaluate_subtype-returns-in_err-joined : goal.evaluate_subtype-returns-in_err-joined
-evaluate_subtype-returns-in_err-joined = subtypes.evaluate_subtype-returns-in_err-joined
+pub rows::evaluate_subtype-returns-in_err-joined : goal.rows::evaluate_subtype-returns-in_err-joined
+rows::evaluate_subtype-returns-in_err-joined = subtypes.evaluate_subtype-returns-in_err-joined
 
-pub evaluate_subtype-returns-in_default : goal.evaluate_subtype-returns-in_default
-evaluate_subtype-returns-in_default = subtypes.evaluate_subtype-returns-in_default
+pub rows::evaluate_subtype-returns-in_default : goal.rows::evaluate_subtype-returns-in_default
+rows::evaluate_subtype-returns-in_default = subtypes.evaluate_subtype-returns-in_default
 
-pub evaluate_subtype-try_evaluate_goals-requires : goal.evaluate_subtype-try_evaluate_goals-requires
-evaluate_subtype-try_evaluate_goals-requires = subtypes.evaluate_subtype-try_evaluate_goals-requires
+pub rows::evaluate_subtype-try_evaluate_goals-requires : goal.rows::evaluate_subtype-try_evaluate_goals-requires
+rows::evaluate_subtype-try_evaluate_goals-requires = subtypes.evaluate_subtype-try_evaluate_goals-requires
 
-pub evaluate_subtype-returns-in_err-certainty : goal.evaluate_subtype-returns-in_err-certainty
-evaluate_subtype-returns-in_err-certainty = subtypes.evaluate_subtype-returns-in_err-certainty
+pub rows::evaluate_subtype-returns-in_err-certainty : goal.rows::evaluate_subtype-returns-in_err-certainty
+rows::evaluate_subtype-returns-in_err-certainty = subtypes.evaluate_subtype-returns-in_err-certainty
 
-pub evaluate_subtype-boxed_response-requires-then-keeps_constraints-clause-values : goal.evaluate_subtype-boxed_response-requires-then-keeps_constraints-clause-values
-evaluate_subtype-boxed_response-requires-then-keeps_constraints-clause-values = subtypes.evaluate_subtype-boxed_response-requires-then-keeps_constraints-clause-values
+pub rows::evaluate_subtype-boxed_response-requires-then-keeps_constraints-clause-values : goal.rows::evaluate_subtype-boxed_response-requires-then-keeps_constraints-clause-values
+rows::evaluate_subtype-boxed_response-requires-then-keeps_constraints-clause-values = subtypes.evaluate_subtype-boxed_response-requires-then-keeps_constraints-clause-values
 
-pub evaluate_subtype-returns-in_err-response : goal.evaluate_subtype-returns-in_err-response
-evaluate_subtype-returns-in_err-response = subtypes.evaluate_subtype-returns-in_err-response
+pub rows::evaluate_subtype-returns-in_err-response : goal.rows::evaluate_subtype-returns-in_err-response
+rows::evaluate_subtype-returns-in_err-response = subtypes.evaluate_subtype-returns-in_err-response
 
-pub evaluate_subtype-returns-then-keeps_constraints : goal.evaluate_subtype-returns-then-keeps_constraints
-evaluate_subtype-returns-then-keeps_constraints = subtypes.evaluate_subtype-returns-then-keeps_constraints
+pub rows::evaluate_subtype-returns-then-keeps_constraints : goal.rows::evaluate_subtype-returns-then-keeps_constraints
+rows::evaluate_subtype-returns-then-keeps_constraints = subtypes.evaluate_subtype-returns-then-keeps_constraints
 
-pub evaluate_subtype-boxed_response-requires-2-clause-values : goal.evaluate_subtype-boxed_response-requires-2-clause-values
-evaluate_subtype-boxed_response-requires-2-clause-values = subtypes.evaluate_subtype-boxed_response-requires-2-clause-values
+pub rows::evaluate_subtype-boxed_response-requires-2-clause-values : goal.rows::evaluate_subtype-boxed_response-requires-2-clause-values
+rows::evaluate_subtype-boxed_response-requires-2-clause-values = subtypes.evaluate_subtype-boxed_response-requires-2-clause-values
 
-pub evaluate_subtype-returns-in_err-response-2 : goal.evaluate_subtype-returns-in_err-response-2
-evaluate_subtype-returns-in_err-response-2 = subtypes.evaluate_subtype-returns-in_err-response-2
+pub rows::evaluate_subtype-returns-in_err-response-2 : goal.rows::evaluate_subtype-returns-in_err-response-2
+rows::evaluate_subtype-returns-in_err-response-2 = subtypes.evaluate_subtype-returns-in_err-response-2
 
-pub evaluate_subtype-returns : goal.evaluate_subtype-returns
-evaluate_subtype-returns = subtypes.evaluate_subtype-returns
+pub rows::evaluate_subtype-returns : goal.rows::evaluate_subtype-returns
+rows::evaluate_subtype-returns = subtypes.evaluate_subtype-returns
 
-pub compute_goal-evaluate_alias-response-requires : goal.compute_goal-evaluate_alias-response-requires
-compute_goal-evaluate_alias-response-requires = aliases.compute_goal-evaluate_alias-response-requires
+pub rows::compute_goal-evaluate_alias-response-requires : goal.rows::compute_goal-evaluate_alias-response-requires
+rows::compute_goal-evaluate_alias-response-requires = aliases.compute_goal-evaluate_alias-response-requires
 
-pub compute_goal-returns-in-Alias : goal.compute_goal-returns-in-Alias
-compute_goal-returns-in-Alias = aliases.compute_goal-returns-in-Alias
+pub rows::compute_goal-returns-in-Alias : goal.rows::compute_goal-returns-in-Alias
+rows::compute_goal-returns-in-Alias = aliases.compute_goal-returns-in-Alias
 
-pub evaluate_alias-evaluate_candidates-requires : goal.evaluate_alias-evaluate_candidates-requires
-evaluate_alias-evaluate_candidates-requires = aliases.evaluate_alias-evaluate_candidates-requires
+pub rows::evaluate_alias-evaluate_candidates-requires : goal.rows::evaluate_alias-evaluate_candidates-requires
+rows::evaluate_alias-evaluate_candidates-requires = aliases.evaluate_alias-evaluate_candidates-requires
 
-pub evaluate_alias-returns : goal.evaluate_alias-returns
-evaluate_alias-returns = aliases.evaluate_alias-returns
+pub rows::evaluate_alias-returns : goal.rows::evaluate_alias-returns
+rows::evaluate_alias-returns = aliases.evaluate_alias-returns
 
-pub evaluate_alias-returns-in_err-candidates : goal.evaluate_alias-returns-in_err-candidates
-evaluate_alias-returns-in_err-candidates = aliases.evaluate_alias-returns-in_err-candidates
+pub rows::evaluate_alias-returns-in_err-candidates : goal.rows::evaluate_alias-returns-in_err-candidates
+rows::evaluate_alias-returns-in_err-candidates = aliases.evaluate_alias-returns-in_err-candidates
 
-pub compute_goal-evaluate_equated-response-requires : goal.compute_goal-evaluate_equated-response-requires
-compute_goal-evaluate_equated-response-requires = equated.compute_goal-evaluate_equated-response-requires
+pub rows::compute_goal-evaluate_equated-response-requires : goal.rows::compute_goal-evaluate_equated-response-requires
+rows::compute_goal-evaluate_equated-response-requires = equated.compute_goal-evaluate_equated-response-requires
 
-pub compute_goal-returns-in-Equated : goal.compute_goal-returns-in-Equated
-compute_goal-returns-in-Equated = equated.compute_goal-returns-in-Equated
+pub rows::compute_goal-returns-in-Equated : goal.rows::compute_goal-returns-in-Equated
+rows::compute_goal-returns-in-Equated = equated.compute_goal-returns-in-Equated
 
-pub compute_goal-returns-in_err-doubt-in-Equated : goal.compute_goal-returns-in_err-doubt-in-Equated
-compute_goal-returns-in_err-doubt-in-Equated = equated.compute_goal-returns-in_err-doubt-in-Equated
+pub rows::compute_goal-returns-in_err-doubt-in-Equated : goal.rows::compute_goal-returns-in_err-doubt-in-Equated
+rows::compute_goal-returns-in_err-doubt-in-Equated = equated.compute_goal-returns-in_err-doubt-in-Equated
 
-pub compute_goal-boxed_response-requires-then-not-is_open_to_normalizing-clause-values : goal.compute_goal-boxed_response-requires-then-not-is_open_to_normalizing-clause-values
-compute_goal-boxed_response-requires-then-not-is_open_to_normalizing-clause-values = equated.compute_goal-boxed_response-requires-then-not-is_open_to_normalizing-clause-values
+pub rows::compute_goal-boxed_response-requires-then-not-is_open_to_normalizing-clause-values : goal.rows::compute_goal-boxed_response-requires-then-not-is_open_to_normalizing-clause-values
+rows::compute_goal-boxed_response-requires-then-not-is_open_to_normalizing-clause-values = equated.compute_goal-boxed_response-requires-then-not-is_open_to_normalizing-clause-values
 
-pub compute_goal-returns-then-not-is_open_to_normalizing : goal.compute_goal-returns-then-not-is_open_to_normalizing
-compute_goal-returns-then-not-is_open_to_normalizing = equated.compute_goal-returns-then-not-is_open_to_normalizing
+pub rows::compute_goal-returns-then-not-is_open_to_normalizing : goal.rows::compute_goal-returns-then-not-is_open_to_normalizing
+rows::compute_goal-returns-then-not-is_open_to_normalizing = equated.compute_goal-returns-then-not-is_open_to_normalizing
 
-pub evaluate_equated-returns-then-not-matches : goal.evaluate_equated-returns-then-not-matches
-evaluate_equated-returns-then-not-matches = equated.evaluate_equated-returns-then-not-matches
+pub equated::evaluate_equated-returns-then-not-matches : goal.equated::evaluate_equated-returns-then-not-matches
+equated::evaluate_equated-returns-then-not-matches = equated.evaluate_equated-returns-then-not-matches
 
-pub evaluate_equated-evaluate_way-requires : goal.evaluate_equated-evaluate_way-requires
-evaluate_equated-evaluate_way-requires = equated.evaluate_equated-evaluate_way-requires
+pub equated::evaluate_equated-evaluate_way-requires : goal.equated::evaluate_equated-evaluate_way-requires
+equated::evaluate_equated-evaluate_way-requires = equated.evaluate_equated-evaluate_way-requires
 
-pub evaluate_equated-returns-in-Some : goal.evaluate_equated-returns-in-Some
-evaluate_equated-returns-in-Some = equated.evaluate_equated-returns-in-Some
+pub equated::evaluate_equated-returns-in-Some : goal.equated::evaluate_equated-returns-in-Some
+equated::evaluate_equated-returns-in-Some = equated.evaluate_equated-returns-in-Some
 
-pub evaluate_equated-returns : goal.evaluate_equated-returns
-evaluate_equated-returns = equated.evaluate_equated-returns
+pub equated::evaluate_equated-returns : goal.equated::evaluate_equated-returns
+equated::evaluate_equated-returns = equated.evaluate_equated-returns
 
-pub evaluate_way-returns-in_err-snapshot : goal.evaluate_way-returns-in_err-snapshot
-evaluate_way-returns-in_err-snapshot = equated.evaluate_way-returns-in_err-snapshot
+pub equated::evaluate_way-returns-in_err-snapshot : goal.equated::evaluate_way-returns-in_err-snapshot
+equated::evaluate_way-returns-in_err-snapshot = equated.evaluate_way-returns-in_err-snapshot
 
-pub evaluate_way-returns-in-Err : goal.evaluate_way-returns-in-Err
-evaluate_way-returns-in-Err = equated.evaluate_way-returns-in-Err
+pub equated::evaluate_way-returns-in-Err : goal.equated::evaluate_way-returns-in-Err
+equated::evaluate_way-returns-in-Err = equated.evaluate_way-returns-in-Err
 
-pub evaluate_way-boxed_response-response-requires-clause-values : goal.evaluate_way-boxed_response-response-requires-clause-values
-evaluate_way-boxed_response-response-requires-clause-values = equated.evaluate_way-boxed_response-response-requires-clause-values
+pub equated::evaluate_way-boxed_response-response-requires-clause-values : goal.equated::evaluate_way-boxed_response-response-requires-clause-values
+equated::evaluate_way-boxed_response-response-requires-clause-values = equated.evaluate_way-boxed_response-response-requires-clause-values
 
-pub evaluate_way-returns-in_err-response : goal.evaluate_way-returns-in_err-response
-evaluate_way-returns-in_err-response = equated.evaluate_way-returns-in_err-response
+pub equated::evaluate_way-returns-in_err-response : goal.equated::evaluate_way-returns-in_err-response
+equated::evaluate_way-returns-in_err-response = equated.evaluate_way-returns-in_err-response
 
-pub evaluate_way-returns-then-keeps_constraints : goal.evaluate_way-returns-then-keeps_constraints
-evaluate_way-returns-then-keeps_constraints = equated.evaluate_way-returns-then-keeps_constraints
+pub equated::evaluate_way-returns-then-keeps_constraints : goal.equated::evaluate_way-returns-then-keeps_constraints
+equated::evaluate_way-returns-then-keeps_constraints = equated.evaluate_way-returns-then-keeps_constraints
 
-pub evaluate_way-boxed_response-requires-clause-values : goal.evaluate_way-boxed_response-requires-clause-values
-evaluate_way-boxed_response-requires-clause-values = equated.evaluate_way-boxed_response-requires-clause-values
+pub equated::evaluate_way-boxed_response-requires-clause-values : goal.equated::evaluate_way-boxed_response-requires-clause-values
+equated::evaluate_way-boxed_response-requires-clause-values = equated.evaluate_way-boxed_response-requires-clause-values
 
-pub evaluate_way-returns-in_err-response-2 : goal.evaluate_way-returns-in_err-response-2
-evaluate_way-returns-in_err-response-2 = equated.evaluate_way-returns-in_err-response-2
+pub equated::evaluate_way-returns-in_err-response-2 : goal.equated::evaluate_way-returns-in_err-response-2
+equated::evaluate_way-returns-in_err-response-2 = equated.evaluate_way-returns-in_err-response-2
 
-pub evaluate_way-returns : goal.evaluate_way-returns
-evaluate_way-returns = equated.evaluate_way-returns
+pub equated::evaluate_way-returns : goal.equated::evaluate_way-returns
+equated::evaluate_way-returns = equated.evaluate_way-returns
 
-pub try_way-returns-in_err-goals : goal.try_way-returns-in_err-goals
-try_way-returns-in_err-goals = equated.try_way-returns-in_err-goals
+pub equated::try_way-returns-in_err-goals : goal.equated::try_way-returns-in_err-goals
+equated::try_way-returns-in_err-goals = equated.try_way-returns-in_err-goals
 
-pub try_way-try_evaluate_goals-requires : goal.try_way-try_evaluate_goals-requires
-try_way-try_evaluate_goals-requires = equated.try_way-try_evaluate_goals-requires
+pub equated::try_way-try_evaluate_goals-requires : goal.equated::try_way-try_evaluate_goals-requires
+equated::try_way-try_evaluate_goals-requires = equated.try_way-try_evaluate_goals-requires
 
-pub try_way-returns-in_err-certainty : goal.try_way-returns-in_err-certainty
-try_way-returns-in_err-certainty = equated.try_way-returns-in_err-certainty
+pub equated::try_way-returns-in_err-certainty : goal.equated::try_way-returns-in_err-certainty
+equated::try_way-returns-in_err-certainty = equated.try_way-returns-in_err-certainty
 
-pub try_way-returns : goal.try_way-returns
-try_way-returns = equated.try_way-returns
+pub equated::try_way-returns : goal.equated::try_way-returns
+equated::try_way-returns = equated.try_way-returns
 
-pub compute_goal-evaluate_own-response-requires : goal.compute_goal-evaluate_own-response-requires
-compute_goal-evaluate_own-response-requires = own.compute_goal-evaluate_own-response-requires
+pub rows::compute_goal-evaluate_own-response-requires : goal.rows::compute_goal-evaluate_own-response-requires
+rows::compute_goal-evaluate_own-response-requires = own.compute_goal-evaluate_own-response-requires
 
-pub compute_goal-returns-in-Own : goal.compute_goal-returns-in-Own
-compute_goal-returns-in-Own = own.compute_goal-returns-in-Own
+pub rows::compute_goal-returns-in-Own : goal.rows::compute_goal-returns-in-Own
+rows::compute_goal-returns-in-Own = own.compute_goal-returns-in-Own
 
-pub evaluate_own-judge-requires-clause-plain : goal.evaluate_own-judge-requires-clause-plain
-evaluate_own-judge-requires-clause-plain = own.evaluate_own-judge-requires-clause-plain
+pub rows::evaluate_own-judge-requires-clause-plain : goal.rows::evaluate_own-judge-requires-clause-plain
+rows::evaluate_own-judge-requires-clause-plain = own.evaluate_own-judge-requires-clause-plain
 
-pub evaluate_own-returns-in_err-judged : goal.evaluate_own-returns-in_err-judged
-evaluate_own-returns-in_err-judged = own.evaluate_own-returns-in_err-judged
+pub rows::evaluate_own-returns-in_err-judged : goal.rows::evaluate_own-returns-in_err-judged
+rows::evaluate_own-returns-in_err-judged = own.evaluate_own-returns-in_err-judged
 
-pub evaluate_own-boxed_response-requires-clause-table : goal.evaluate_own-boxed_response-requires-clause-table
-evaluate_own-boxed_response-requires-clause-table = own.evaluate_own-boxed_response-requires-clause-table
+pub rows::evaluate_own-boxed_response-requires-clause-table : goal.rows::evaluate_own-boxed_response-requires-clause-table
+rows::evaluate_own-boxed_response-requires-clause-table = own.evaluate_own-boxed_response-requires-clause-table
 
-pub evaluate_own-boxed_response-requires-clause-values : goal.evaluate_own-boxed_response-requires-clause-values
-evaluate_own-boxed_response-requires-clause-values = own.evaluate_own-boxed_response-requires-clause-values
+pub rows::evaluate_own-boxed_response-requires-clause-values : goal.rows::evaluate_own-boxed_response-requires-clause-values
+rows::evaluate_own-boxed_response-requires-clause-values = own.evaluate_own-boxed_response-requires-clause-values
 
-pub evaluate_own-returns-in_err-response-in-Yes : goal.evaluate_own-returns-in_err-response-in-Yes
-evaluate_own-returns-in_err-response-in-Yes = own.evaluate_own-returns-in_err-response-in-Yes
+pub rows::evaluate_own-returns-in_err-response-in-Yes : goal.rows::evaluate_own-returns-in_err-response-in-Yes
+rows::evaluate_own-returns-in_err-response-in-Yes = own.evaluate_own-returns-in_err-response-in-Yes
 
-pub evaluate_own-boxed_response-requires-in-Unknown-clause-table : goal.evaluate_own-boxed_response-requires-in-Unknown-clause-table
-evaluate_own-boxed_response-requires-in-Unknown-clause-table = own.evaluate_own-boxed_response-requires-in-Unknown-clause-table
+pub rows::evaluate_own-boxed_response-requires-in-Unknown-clause-table : goal.rows::evaluate_own-boxed_response-requires-in-Unknown-clause-table
+rows::evaluate_own-boxed_response-requires-in-Unknown-clause-table = own.evaluate_own-boxed_response-requires-in-Unknown-clause-table
 
-pub evaluate_own-boxed_response-requires-in-Unknown-clause-values : goal.evaluate_own-boxed_response-requires-in-Unknown-clause-values
-evaluate_own-boxed_response-requires-in-Unknown-clause-values = own.evaluate_own-boxed_response-requires-in-Unknown-clause-values
+pub rows::evaluate_own-boxed_response-requires-in-Unknown-clause-values : goal.rows::evaluate_own-boxed_response-requires-in-Unknown-clause-values
+rows::evaluate_own-boxed_response-requires-in-Unknown-clause-values = own.evaluate_own-boxed_response-requires-in-Unknown-clause-values
 
-pub evaluate_own-returns-in_err-response-in-Unknown : goal.evaluate_own-returns-in_err-response-in-Unknown
-evaluate_own-returns-in_err-response-in-Unknown = own.evaluate_own-returns-in_err-response-in-Unknown
+pub rows::evaluate_own-returns-in_err-response-in-Unknown : goal.rows::evaluate_own-returns-in_err-response-in-Unknown
+rows::evaluate_own-returns-in_err-response-in-Unknown = own.evaluate_own-returns-in_err-response-in-Unknown
 
-pub evaluate_own-probe_candidate-response-requires : goal.evaluate_own-probe_candidate-response-requires
-evaluate_own-probe_candidate-response-requires = own.evaluate_own-probe_candidate-response-requires
+pub rows::evaluate_own-probe_candidate-response-requires : goal.rows::evaluate_own-probe_candidate-response-requires
+rows::evaluate_own-probe_candidate-response-requires = own.evaluate_own-probe_candidate-response-requires
 
-pub evaluate_own-returns-in-No : goal.evaluate_own-returns-in-No
-evaluate_own-returns-in-No = own.evaluate_own-returns-in-No
+pub rows::evaluate_own-returns-in-No : goal.rows::evaluate_own-returns-in-No
+rows::evaluate_own-returns-in-No = own.evaluate_own-returns-in-No
 
-pub evaluate_own-returns-in_ok-response-in-Yes : goal.evaluate_own-returns-in_ok-response-in-Yes
-evaluate_own-returns-in_ok-response-in-Yes = own.evaluate_own-returns-in_ok-response-in-Yes
+pub rows::evaluate_own-returns-in_ok-response-in-Yes : goal.rows::evaluate_own-returns-in_ok-response-in-Yes
+rows::evaluate_own-returns-in_ok-response-in-Yes = own.evaluate_own-returns-in_ok-response-in-Yes
 
-pub evaluate_own-returns-in_ok-response-in-Unknown : goal.evaluate_own-returns-in_ok-response-in-Unknown
-evaluate_own-returns-in_ok-response-in-Unknown = own.evaluate_own-returns-in_ok-response-in-Unknown
+pub rows::evaluate_own-returns-in_ok-response-in-Unknown : goal.rows::evaluate_own-returns-in_ok-response-in-Unknown
+rows::evaluate_own-returns-in_ok-response-in-Unknown = own.evaluate_own-returns-in_ok-response-in-Unknown
 
-pub evaluate_own-returns-in-Way : goal.evaluate_own-returns-in-Way
-evaluate_own-returns-in-Way = own.evaluate_own-returns-in-Way
+pub rows::evaluate_own-returns-in-Way : goal.rows::evaluate_own-returns-in-Way
+rows::evaluate_own-returns-in-Way = own.evaluate_own-returns-in-Way
 
-pub evaluate_added-evaluate_goal-requires : goal.evaluate_added-evaluate_goal-requires
-evaluate_added-evaluate_goal-requires = steps.evaluate_added-evaluate_goal-requires
+pub steps::evaluate_added-evaluate_goal-requires : goal.steps::evaluate_added-evaluate_goal-requires
+steps::evaluate_added-evaluate_goal-requires = steps.evaluate_added-evaluate_goal-requires
 
-pub evaluate_added-returns-in_err-asked : goal.evaluate_added-returns-in_err-asked
-evaluate_added-returns-in_err-asked = steps.evaluate_added-returns-in_err-asked
+pub steps::evaluate_added-returns-in_err-asked : goal.steps::evaluate_added-returns-in_err-asked
+steps::evaluate_added-returns-in_err-asked = steps.evaluate_added-returns-in_err-asked
 
-pub evaluate_added-returns-in-Some : goal.evaluate_added-returns-in-Some
-evaluate_added-returns-in-Some = steps.evaluate_added-returns-in-Some
+pub steps::evaluate_added-returns-in-Some : goal.steps::evaluate_added-returns-in-Some
+steps::evaluate_added-returns-in-Some = steps.evaluate_added-returns-in-Some
 
-pub evaluate_added-returns-in-None : goal.evaluate_added-returns-in-None
-evaluate_added-returns-in-None = steps.evaluate_added-returns-in-None
+pub steps::evaluate_added-returns-in-None : goal.steps::evaluate_added-returns-in-None
+steps::evaluate_added-returns-in-None = steps.evaluate_added-returns-in-None
 
-pub evaluate_added-returns-in-Some-next : goal.evaluate_added-returns-in-Some-next
-evaluate_added-returns-in-Some-next = steps.evaluate_added-returns-in-Some-next
+pub steps::evaluate_added-returns-in-Some-next : goal.steps::evaluate_added-returns-in-Some-next
+steps::evaluate_added-returns-in-Some-next = steps.evaluate_added-returns-in-Some-next
 
-pub evaluate_candidates-loop-candidate-init : goal.evaluate_candidates-loop-candidate-init
-evaluate_candidates-loop-candidate-init = candidates.evaluate_candidates-loop-candidate-init
+pub candidates::evaluate_candidates-loop-candidate-init : goal.candidates::evaluate_candidates-loop-candidate-init
+candidates::evaluate_candidates-loop-candidate-init = candidates.evaluate_candidates-loop-candidate-init
 
-pub evaluate_candidates-loop-candidate-preserved : goal.evaluate_candidates-loop-candidate-preserved
-evaluate_candidates-loop-candidate-preserved = candidates.evaluate_candidates-loop-candidate-preserved
+pub candidates::evaluate_candidates-loop-candidate-preserved : goal.candidates::evaluate_candidates-loop-candidate-preserved
+candidates::evaluate_candidates-loop-candidate-preserved = candidates.evaluate_candidates-loop-candidate-preserved
 
-pub evaluate_candidates-merge_responses-requires-clause-table : goal.evaluate_candidates-merge_responses-requires-clause-table
-evaluate_candidates-merge_responses-requires-clause-table g t c = (let i = c.loop-candidate.invariant in let goes = goes-back c.requires.posed.table i.grows.extends i.same in goes.table)
+pub candidates::evaluate_candidates-merge_responses-requires-clause-table : goal.candidates::evaluate_candidates-merge_responses-requires-clause-table
+candidates::evaluate_candidates-merge_responses-requires-clause-table g t c = (let i = c.loop-candidate.invariant in let goes = goes-back c.requires.posed.table i.grows.extends i.same in goes.table)
 
-pub evaluate_candidates-merge_responses-requires-clause-values : goal.evaluate_candidates-merge_responses-requires-clause-values
-evaluate_candidates-merge_responses-requires-clause-values g t c =
+pub candidates::evaluate_candidates-merge_responses-requires-clause-values : goal.candidates::evaluate_candidates-merge_responses-requires-clause-values
+candidates::evaluate_candidates-merge_responses-requires-clause-values g t c =
     let i = c.loop-candidate.invariant in
     let goes = goes-back c.requires.posed.table i.grows.extends i.same in
     args_later c.args.cx.now.nodes c.loop-candidate.cx.nodes c.args.table.now.entries c.loop-candidate.table.entries c.args.values.now goes.extends goes.continues c.requires.values
 
-pub evaluate_candidates-probe_candidate-answer-requires : goal.evaluate_candidates-probe_candidate-answer-requires
-evaluate_candidates-probe_candidate-answer-requires = candidates.evaluate_candidates-probe_candidate-answer-requires
+pub candidates::evaluate_candidates-probe_candidate-answer-requires : goal.candidates::evaluate_candidates-probe_candidate-answer-requires
+candidates::evaluate_candidates-probe_candidate-answer-requires = candidates.evaluate_candidates-probe_candidate-answer-requires
 
-pub evaluate_candidates-returns : goal.evaluate_candidates-returns
-evaluate_candidates-returns g t c =
+pub candidates::evaluate_candidates-returns : goal.candidates::evaluate_candidates-returns
+candidates::evaluate_candidates-returns g t c =
     let i = c.loop-candidate.invariant in
     let k = c.merge_responses.ensures in
     let now = search_later c.args.depth c.args.depth (omega arith) c.requires.search i.searches in
@@ -419,29 +419,29 @@ evaluate_candidates-returns g t c =
           (facts_merged (g.H.GoalHandler.handler s.base c.args.handler.now) c.args.table.now.mode c.args.cx.now.nodes c.args.table.now c.args.candidates.now c.loop-candidate.candidate-index c.loop-candidate.cx.nodes c.merge_responses.new.cx.nodes c.loop-candidate.table c.args.values.now (omega (arith, c.loop-candidate-test.false)) trees c.merge_responses.result so_far.0 k.merged k.no);
     }
 
-pub evaluate_candidates-returns-in_err-keep_response : goal.evaluate_candidates-returns-in_err-keep_response
-evaluate_candidates-returns-in_err-keep_response g t c =
+pub candidates::evaluate_candidates-returns-in_err-keep_response : goal.candidates::evaluate_candidates-returns-in_err-keep_response
+candidates::evaluate_candidates-returns-in_err-keep_response g t c =
     let fails : is_err c.from_residual.result ≡ true = search rules in
     try_failed c.from_residual.result fails (search rules) (λ m q settled plain can. decides_fault c.from_residual.result fails (search rules)) (search rules) (search rules) (Searches-trans c.loop-candidate.invariant.searches c.probe_candidate-answer.ensures.searches)
 
-pub evaluate_goal-apply_answer-evaluated-requires-clause-fits : goal.evaluate_goal-apply_answer-evaluated-requires-clause-fits
-evaluate_goal-apply_answer-evaluated-requires-clause-fits g t c =
+pub queries::evaluate_goal-apply_answer-evaluated-requires-clause-fits : goal.queries::evaluate_goal-apply_answer-evaluated-requires-clause-fits
+queries::evaluate_goal-apply_answer-evaluated-requires-clause-fits g t c =
     let q = c.in_ok-originals.ensures in
     rw (c.deref.ensures.value, c.deref-2.ensures) (applicable c.requires.posed q.query q.grows.extends c.in_ok-answer.ensures.grows.extends c.in_ok-answer.answer.value c.in_ok-answer.ensures.fits)
 
-pub evaluate_goal-apply_answer-evaluated-requires-clause-originals : goal.evaluate_goal-apply_answer-evaluated-requires-clause-originals
-evaluate_goal-apply_answer-evaluated-requires-clause-originals g t c =
+pub queries::evaluate_goal-apply_answer-evaluated-requires-clause-originals : goal.queries::evaluate_goal-apply_answer-evaluated-requires-clause-originals
+queries::evaluate_goal-apply_answer-evaluated-requires-clause-originals g t c =
     let q = c.in_ok-originals.ensures in
     rw c.deref.ensures.value (args_there c.requires.posed q.query q.grows.extends c.in_ok-answer.ensures.grows.extends)
 
-pub evaluate_goal-apply_answer-evaluated-requires-clause-table : goal.evaluate_goal-apply_answer-evaluated-requires-clause-table
-evaluate_goal-apply_answer-evaluated-requires-clause-table g t c = IsTable-extended (Extends-trans c.in_ok-originals.ensures.grows.extends c.in_ok-answer.ensures.grows.extends) c.requires.posed.table
+pub queries::evaluate_goal-apply_answer-evaluated-requires-clause-table : goal.queries::evaluate_goal-apply_answer-evaluated-requires-clause-table
+queries::evaluate_goal-apply_answer-evaluated-requires-clause-table g t c = IsTable-extended (Extends-trans c.in_ok-originals.ensures.grows.extends c.in_ok-answer.ensures.grows.extends) c.requires.posed.table
 
-pub evaluate_goal-returns : goal.evaluate_goal-returns
-evaluate_goal-returns = queries.evaluate_goal-returns
+pub queries::evaluate_goal-returns : goal.queries::evaluate_goal-returns
+queries::evaluate_goal-returns = queries.evaluate_goal-returns
 
-pub evaluate_goal-returns-in_err-answer : goal.evaluate_goal-returns-in_err-answer
-evaluate_goal-returns-in_err-answer g t c =
+pub queries::evaluate_goal-returns-in_err-answer : goal.queries::evaluate_goal-returns-in_err-answer
+queries::evaluate_goal-returns-in_err-answer g t c =
     let q = c.in_ok-originals.ensures in
     let k = c.search.ensures in
     let fails : is_err c.from_residual-in_err-answer.result ≡ true = search rules in
@@ -464,8 +464,8 @@ evaluate_goal-returns-in_err-answer g t c =
           (c.search.ensures.facts (Since-later q.grows s) (tell_grown (ruling_since (λ ts. g.H.GoalHandler.handler ts c.args.handler.now) s) (c.args.depth + 1) c.requires.search q.grows tells) (fact_query c.args.goal c.in_ok-originals.input.value q.query f) (nothing_stands _ c.args.graph.now c.in_ok-originals.input.value empty) (decides_grown c.requires.search q.grows can));
     }
 
-pub evaluate_goal-returns-in_err-originals : goal.evaluate_goal-returns-in_err-originals
-evaluate_goal-returns-in_err-originals g t c =
+pub queries::evaluate_goal-returns-in_err-originals : goal.queries::evaluate_goal-returns-in_err-originals
+queries::evaluate_goal-returns-in_err-originals g t c =
     let fails : is_err c.from_residual.result ≡ true = search rules in
     record {
       runs = Runs-extends c.requires.posed.table c.boxed_query.ensures.grows.extends c.boxed_query.ensures.grows.rest;
@@ -479,25 +479,25 @@ evaluate_goal-returns-in_err-originals g t c =
       facts = λ s tells f never empty can. decides_fault c.from_residual.result fails (search rules);
     }
 
-pub evaluate_goal-search-requires : goal.evaluate_goal-search-requires
-evaluate_goal-search-requires = queries.evaluate_goal-search-requires
+pub queries::evaluate_goal-search-requires : goal.queries::evaluate_goal-search-requires
+queries::evaluate_goal-search-requires = queries.evaluate_goal-search-requires
 
-pub evaluate_round-compute_goal-response-requires : goal.evaluate_round-compute_goal-response-requires
-evaluate_round-compute_goal-response-requires = queries.evaluate_round-compute_goal-response-requires
+pub queries::evaluate_round-compute_goal-response-requires : goal.queries::evaluate_round-compute_goal-response-requires
+queries::evaluate_round-compute_goal-response-requires = queries.evaluate_round-compute_goal-response-requires
 
-pub evaluate_round-end_round-requires : goal.evaluate_round-end_round-requires
-evaluate_round-end_round-requires g t c =
+pub queries::evaluate_round-end_round-requires : goal.queries::evaluate_round-end_round-requires
+queries::evaluate_round-end_round-requires g t c =
     let m = c.compute_goal-response.ensures in
     let long = later_long c.push_query.new.graph.stack.items c.compute_goal-response.new.graph.stack.items m.searches.later in
     let new = ap (length {A = StackEntry}) c.in_ok-push_query.ensures.pushed.1 in
     let more = length-append c.args.graph.now.stack.items (entry_of c.args.asked.value.input c.args.step c.args.asked.value.provisional c.in_ok-push_query.ensures.pushed.0 ∷ []) in
     omega (arith, long, new, more)
 
-pub evaluate_round-returns : goal.evaluate_round-returns
-evaluate_round-returns = queries.evaluate_round-returns
+pub queries::evaluate_round-returns : goal.queries::evaluate_round-returns
+queries::evaluate_round-returns = queries.evaluate_round-returns
 
-pub evaluate_round-returns-in_err-push_query : goal.evaluate_round-returns-in_err-push_query
-evaluate_round-returns-in_err-push_query g t c =
+pub queries::evaluate_round-returns-in_err-push_query : goal.queries::evaluate_round-returns-in_err-push_query
+queries::evaluate_round-returns-in_err-push_query g t c =
     let fails : is_err c.from_residual-in_err-push_query.result ≡ true = search rules in
     record {
       grows = search rules;
@@ -512,8 +512,8 @@ evaluate_round-returns-in_err-push_query g t c =
       no = search rules;
     }
 
-pub evaluate_round-returns-in_err-table : goal.evaluate_round-returns-in_err-table
-evaluate_round-returns-in_err-table g t c =
+pub queries::evaluate_round-returns-in_err-table : goal.queries::evaluate_round-returns-in_err-table
+queries::evaluate_round-returns-in_err-table g t c =
     let fails : is_err c.from_residual.result ≡ true = search rules in
     record {
       grows = search rules;
@@ -528,17 +528,17 @@ evaluate_round-returns-in_err-table g t c =
       no = search rules;
     }
 
-pub evaluate_rounds-evaluate_round-requires : goal.evaluate_rounds-evaluate_round-requires
-evaluate_rounds-evaluate_round-requires = queries.evaluate_rounds-evaluate_round-requires
+pub queries::evaluate_rounds-evaluate_round-requires : goal.queries::evaluate_rounds-evaluate_round-requires
+queries::evaluate_rounds-evaluate_round-requires = queries.evaluate_rounds-evaluate_round-requires
 
-pub evaluate_rounds-loop-round-init : goal.evaluate_rounds-loop-round-init
-evaluate_rounds-loop-round-init = queries.evaluate_rounds-loop-round-init
+pub queries::evaluate_rounds-loop-round-init : goal.queries::evaluate_rounds-loop-round-init
+queries::evaluate_rounds-loop-round-init = queries.evaluate_rounds-loop-round-init
 
-pub evaluate_rounds-loop-round-preserved : goal.evaluate_rounds-loop-round-preserved
-evaluate_rounds-loop-round-preserved = queries.evaluate_rounds-loop-round-preserved
+pub queries::evaluate_rounds-loop-round-preserved : goal.queries::evaluate_rounds-loop-round-preserved
+queries::evaluate_rounds-loop-round-preserved = queries.evaluate_rounds-loop-round-preserved
 
-pub evaluate_rounds-returns : goal.evaluate_rounds-returns
-evaluate_rounds-returns g t c =
+pub queries::evaluate_rounds-returns : goal.queries::evaluate_rounds-returns
+queries::evaluate_rounds-returns g t c =
     record {
       grows = search rules;
       searches = let i = c.loop-round.invariant in search_grown (c.args.depth + 1) c.requires.search i.searches c.unchanged_answer.ensures.grows;
@@ -562,143 +562,143 @@ evaluate_rounds-returns g t c =
           absurd (omega (arith, first, can.rounds, grown_first, c.loop-round-test.false, c.round_limit-round-end.ensures));
     }
 
-pub evaluate_rounds-returns-in_err-answer : goal.evaluate_rounds-returns-in_err-answer
-evaluate_rounds-returns-in_err-answer g t c =
+pub queries::evaluate_rounds-returns-in_err-answer : goal.queries::evaluate_rounds-returns-in_err-answer
+queries::evaluate_rounds-returns-in_err-answer g t c =
     query_failed c.from_residual-in_err-answer.result (search rules) (search rules) (search rules) (search_grown (c.args.depth + 1) c.requires.search c.loop-round.invariant.searches c.unchanged_answer.ensures.grows)
 
-pub evaluate_rounds-returns-in_err-ended : goal.evaluate_rounds-returns-in_err-ended
-evaluate_rounds-returns-in_err-ended g t c =
+pub queries::evaluate_rounds-returns-in_err-ended : goal.queries::evaluate_rounds-returns-in_err-ended
+queries::evaluate_rounds-returns-in_err-ended g t c =
     let i = c.loop-round.invariant in
     let limit : c.loop-round.round + 1 ≤ c.loop-round.cx.round_limit = rw i.grows.rest.rounds (omega (arith, c.loop-round-test.true, c.round_limit-round-end.ensures)) in
     let noted = search_noted {a = c.args.cx.now} {b = c.loop-round.cx} {g = c.args.graph.now} {h = c.loop-round.graph} {i = c.note_round.new.self} (c.args.depth + 1) (c.loop-round.round + 1) c.requires.search i.searches limit c.note_round.ensures in
     query_failed c.from_residual-in_err-ended.result (search rules) (search rules) (grown c.loop-round.invariant.grows c.evaluate_round.ensures.grows) (Searches-trans noted c.evaluate_round.ensures.searches)
 
-pub evaluate_rounds-returns-in_err-asked-2 : goal.evaluate_rounds-returns-in_err-asked-2
-evaluate_rounds-returns-in_err-asked-2 g t c =
+pub queries::evaluate_rounds-returns-in_err-asked-2 : goal.queries::evaluate_rounds-returns-in_err-asked-2
+queries::evaluate_rounds-returns-in_err-asked-2 g t c =
     let i = c.loop-round.invariant in
     let limit : c.loop-round.round + 1 ≤ c.loop-round.cx.round_limit = rw i.grows.rest.rounds (omega (arith, c.loop-round-test.true, c.round_limit-round-end.ensures)) in
     let noted = search_noted {a = c.args.cx.now} {b = c.loop-round.cx} {g = c.args.graph.now} {h = c.loop-round.graph} {i = c.note_round.new.self} (c.args.depth + 1) (c.loop-round.round + 1) c.requires.search i.searches limit c.note_round.ensures in
     query_failed c.from_residual-in_err-asked-2.result (search rules) (search rules) (search rules) (Searches-trans noted c.in_ok-ended.ensures.searches)
 
-pub evaluate_rounds-returns-then-round_is_last : goal.evaluate_rounds-returns-then-round_is_last
-evaluate_rounds-returns-then-round_is_last = queries.evaluate_rounds-returns-then-round_is_last
+pub queries::evaluate_rounds-returns-then-round_is_last : goal.queries::evaluate_rounds-returns-then-round_is_last
+queries::evaluate_rounds-returns-then-round_is_last = queries.evaluate_rounds-returns-then-round_is_last
 
-pub evaluate_rounds-round_is_last-requires-clause-answer : goal.evaluate_rounds-round_is_last-requires-clause-answer
-evaluate_rounds-round_is_last-requires-clause-answer = queries.evaluate_rounds-round_is_last-requires-clause-answer
+pub queries::evaluate_rounds-round_is_last-requires-clause-answer : goal.queries::evaluate_rounds-round_is_last-requires-clause-answer
+queries::evaluate_rounds-round_is_last-requires-clause-answer = queries.evaluate_rounds-round_is_last-requires-clause-answer
 
-pub evaluate_rounds-round_is_last-requires-clause-entry : goal.evaluate_rounds-round_is_last-requires-clause-entry
-evaluate_rounds-round_is_last-requires-clause-entry g t c =
+pub queries::evaluate_rounds-round_is_last-requires-clause-entry : goal.queries::evaluate_rounds-round_is_last-requires-clause-entry
+queries::evaluate_rounds-round_is_last-requires-clause-entry g t c =
     let i = c.loop-round.invariant in
     let limit : c.loop-round.round + 1 ≤ c.loop-round.cx.round_limit = rw i.grows.rest.rounds (omega (arith, c.loop-round-test.true, c.round_limit-round-end.ensures)) in
     let noted = search_noted {a = c.args.cx.now} {b = c.loop-round.cx} {g = c.args.graph.now} {h = c.loop-round.graph} {i = c.note_round.new.self} (c.args.depth + 1) (c.loop-round.round + 1) c.requires.search i.searches limit c.note_round.ensures in
     let e = c.in_ok-ended.ensures in
     rw c.deref.ensures (entry_held c.args.cx.now.nodes c.loop-round.cx.nodes c.evaluate_round.new.cx.nodes c.args.input.value c.loop-round.asked.value.input c.loop-round.asked.value.provisional c.in_ok-ended.ended.value.entry (Extends-trans i.grows.extends e.grows.extends) e.grows.extends i.input c.requires.input i.fits e.entry.0 e.entry.2)
 
-pub evaluate_rounds-returns-in_err-asked : goal.evaluate_rounds-returns-in_err-asked
-evaluate_rounds-returns-in_err-asked g t c =
+pub queries::evaluate_rounds-returns-in_err-asked : goal.queries::evaluate_rounds-returns-in_err-asked
+queries::evaluate_rounds-returns-in_err-asked g t c =
     query_failed c.from_residual.result (search rules) (search rules) (search rules) (Searches-refl (c.args.depth + 1) c.requires.search c.first_round.ensures.grows)
 
-pub evaluate_step-evaluate_added-requires : goal.evaluate_step-evaluate_added-requires
-evaluate_step-evaluate_added-requires = steps.evaluate_step-evaluate_added-requires
+pub steps::evaluate_step-evaluate_added-requires : goal.steps::evaluate_step-evaluate_added-requires
+steps::evaluate_step-evaluate_added-requires = steps.evaluate_step-evaluate_added-requires
 
-pub evaluate_step-loop-added-init : goal.evaluate_step-loop-added-init
-evaluate_step-loop-added-init = steps.evaluate_step-loop-added-init
+pub steps::evaluate_step-loop-added-init : goal.steps::evaluate_step-loop-added-init
+steps::evaluate_step-loop-added-init = steps.evaluate_step-loop-added-init
 
-pub evaluate_step-loop-added-preserved : goal.evaluate_step-loop-added-preserved
-evaluate_step-loop-added-preserved = steps.evaluate_step-loop-added-preserved
+pub steps::evaluate_step-loop-added-preserved : goal.steps::evaluate_step-loop-added-preserved
+steps::evaluate_step-loop-added-preserved = steps.evaluate_step-loop-added-preserved
 
-pub evaluate_step-returns : goal.evaluate_step-returns
-evaluate_step-returns = steps.evaluate_step-returns
+pub steps::evaluate_step-returns : goal.steps::evaluate_step-returns
+steps::evaluate_step-returns = steps.evaluate_step-returns
 
-pub evaluate_step-returns-in_err-answer : goal.evaluate_step-returns-in_err-answer
-evaluate_step-returns-in_err-answer = steps.evaluate_step-returns-in_err-answer
+pub steps::evaluate_step-returns-in_err-answer : goal.steps::evaluate_step-returns-in_err-answer
+steps::evaluate_step-returns-in_err-answer = steps.evaluate_step-returns-in_err-answer
 
-pub evaluate_step-returns-in_err-note : goal.evaluate_step-returns-in_err-note
-evaluate_step-returns-in_err-note = steps.evaluate_step-returns-in_err-note
+pub steps::evaluate_step-returns-in_err-note : goal.steps::evaluate_step-returns-in_err-note
+steps::evaluate_step-returns-in_err-note = steps.evaluate_step-returns-in_err-note
 
-pub probe_candidate-boxed_response-requires-clause-values : goal.probe_candidate-boxed_response-requires-clause-values
-probe_candidate-boxed_response-requires-clause-values = candidates.probe_candidate-boxed_response-requires-clause-values
+pub candidates::probe_candidate-boxed_response-requires-clause-values : goal.candidates::probe_candidate-boxed_response-requires-clause-values
+candidates::probe_candidate-boxed_response-requires-clause-values = candidates.probe_candidate-boxed_response-requires-clause-values
 
-pub probe_candidate-boxed_response-response-requires-clause-values : goal.probe_candidate-boxed_response-response-requires-clause-values
-probe_candidate-boxed_response-response-requires-clause-values g t c =
+pub candidates::probe_candidate-boxed_response-response-requires-clause-values : goal.candidates::probe_candidate-boxed_response-response-requires-clause-values
+candidates::probe_candidate-boxed_response-response-requires-clause-values g t c =
     let p = c.requires.posed in
     let o = c.in_ok-snapshot.ensures in
     let r = c.in-Ok.ensures in
     let went = went_in p.table o.entries o.saved o.mode r.runs.goes in
     args_later c.args.cx.now.nodes c.run_candidate.new.cx.nodes c.args.table.now.entries c.run_candidate.new.table.entries c.args.values.now went.extends went.continues c.requires.values
 
-pub probe_candidate-returns : goal.probe_candidate-returns
-probe_candidate-returns = candidates.probe_candidate-returns
+pub candidates::probe_candidate-returns : goal.candidates::probe_candidate-returns
+candidates::probe_candidate-returns = candidates.probe_candidate-returns
 
-pub probe_candidate-returns-in_err-response-2 : goal.probe_candidate-returns-in_err-response-2
-probe_candidate-returns-in_err-response-2 g t c =
+pub candidates::probe_candidate-returns-in_err-response-2 : goal.candidates::probe_candidate-returns-in_err-response-2
+candidates::probe_candidate-returns-in_err-response-2 g t c =
     let fails : is_err c.from_residual-in_err-response-2.result ≡ true = search rules in
     try_failed c.from_residual-in_err-response-2.result fails (search rules) (λ m q plain. IfOk-from_err c.from_residual-in_err-response-2.result _ fails) (rolled_back c.in_ok-snapshot.ensures.saved c.in-Ok.ensures.runs.goes c.rollback_to-2.ensures.saved c.in_ok-snapshot.ensures.mode c.rollback_to-2.ensures.mode) (search rules) (search_grown c.args.depth c.requires.search c.in-Ok.ensures.searches c.boxed_response.ensures.grows)
 
-pub probe_candidate-returns-in_err-response : goal.probe_candidate-returns-in_err-response
-probe_candidate-returns-in_err-response g t c =
+pub candidates::probe_candidate-returns-in_err-response : goal.candidates::probe_candidate-returns-in_err-response
+candidates::probe_candidate-returns-in_err-response g t c =
     let fails : is_err c.from_residual-in_err-response.result ≡ true = search rules in
     try_failed c.from_residual-in_err-response.result fails (search rules) (λ m q plain. IfOk-from_err c.from_residual-in_err-response.result _ fails) (rolled_back c.in_ok-snapshot.ensures.saved c.in-Ok.ensures.runs.goes c.rollback_to-then-keeps_constraints.ensures.saved c.in_ok-snapshot.ensures.mode c.rollback_to-then-keeps_constraints.ensures.mode) (search rules) (search_grown c.args.depth c.requires.search c.in-Ok.ensures.searches c.boxed_response-response.ensures.grows)
 
-pub probe_candidate-returns-in_err-snapshot : goal.probe_candidate-returns-in_err-snapshot
-probe_candidate-returns-in_err-snapshot g t c =
+pub candidates::probe_candidate-returns-in_err-snapshot : goal.candidates::probe_candidate-returns-in_err-snapshot
+candidates::probe_candidate-returns-in_err-snapshot g t c =
     let fails : is_err c.from_residual.result ≡ true = search rules in
     try_failed c.from_residual.result fails (search rules) (λ m q plain. IfOk-from_err c.from_residual.result _ fails) (search rules) (search rules) (Searches-refl c.args.depth c.requires.search (record { extends = Extends-refl _; rest = KeepsRest-refl _ }))
 
-pub probe_candidate-returns-then-keeps_constraints : goal.probe_candidate-returns-then-keeps_constraints
-probe_candidate-returns-then-keeps_constraints = candidates.probe_candidate-returns-then-keeps_constraints
+pub candidates::probe_candidate-returns-then-keeps_constraints : goal.candidates::probe_candidate-returns-then-keeps_constraints
+candidates::probe_candidate-returns-then-keeps_constraints = candidates.probe_candidate-returns-then-keeps_constraints
 
-pub run_candidate-check_leaks-requires-clause-table : goal.run_candidate-check_leaks-requires-clause-table
-run_candidate-check_leaks-requires-clause-table g t c = (let e = c.try_candidate-tried.ensures in e.runs.goes.table)
+pub candidates::run_candidate-check_leaks-requires-clause-table : goal.candidates::run_candidate-check_leaks-requires-clause-table
+candidates::run_candidate-check_leaks-requires-clause-table g t c = (let e = c.try_candidate-tried.ensures in e.runs.goes.table)
 
-pub run_candidate-check_leaks-requires-clause-ready : goal.run_candidate-check_leaks-requires-clause-ready
-run_candidate-check_leaks-requires-clause-ready g t c =
+pub candidates::run_candidate-check_leaks-requires-clause-ready : goal.candidates::run_candidate-check_leaks-requires-clause-ready
+candidates::run_candidate-check_leaks-requires-clause-ready g t c =
     let e = c.try_candidate-tried.ensures in
     g.met.H.GoalHandler.ready_kept _ _ _ c.requires.ready e.runs.goes.extends
 
-pub run_candidate-returns : goal.run_candidate-returns
-run_candidate-returns = candidates.run_candidate-returns
+pub candidates::run_candidate-returns : goal.candidates::run_candidate-returns
+candidates::run_candidate-returns = candidates.run_candidate-returns
 
-pub run_candidate-try_candidate-tried-requires : goal.run_candidate-try_candidate-tried-requires
-run_candidate-try_candidate-tried-requires g t c = λ κs k. (omega (arith, c.decreases), (k, (c.requires.posed, (c.requires.ready, (c.requires.candidate, c.requires.search)))))
+pub candidates::run_candidate-try_candidate-tried-requires : goal.candidates::run_candidate-try_candidate-tried-requires
+candidates::run_candidate-try_candidate-tried-requires g t c = λ κs k. (omega (arith, c.decreases), (k, (c.requires.posed, (c.requires.ready, (c.requires.candidate, c.requires.search)))))
 
-pub try_candidate-added_goals-requires-clause-nested : goal.try_candidate-added_goals-requires-clause-nested
-try_candidate-added_goals-requires-clause-nested g t c =
+pub candidates::try_candidate-added_goals-requires-clause-nested : goal.candidates::try_candidate-added_goals-requires-clause-nested
+candidates::try_candidate-added_goals-requires-clause-nested g t c =
     let v = c.in_ok-values.ensures in
     let k = c.in_ok-record_constraints.ensures in
     let there = Runs-trans v.runs k.runs in
     let n = IsCandidate-extended there.goes.extends c.requires.posed.holds c.requires.candidate in
     rw (c.deref.ensures.value, c.deref-4.ensures.value) n.goals
 
-pub try_candidate-added_goals-requires-clause-posed : goal.try_candidate-added_goals-requires-clause-posed
-try_candidate-added_goals-requires-clause-posed g t c =
+pub candidates::try_candidate-added_goals-requires-clause-posed : goal.candidates::try_candidate-added_goals-requires-clause-posed
+candidates::try_candidate-added_goals-requires-clause-posed g t c =
     let v = c.in_ok-values.ensures in
     let k = c.in_ok-record_constraints.ensures in
     let there = Runs-trans v.runs k.runs in
     IsPosed-later there.goes c.requires.posed
 
-pub try_candidate-added_goals-requires-clause-values : goal.try_candidate-added_goals-requires-clause-values
-try_candidate-added_goals-requires-clause-values g t c =
+pub candidates::try_candidate-added_goals-requires-clause-values : goal.candidates::try_candidate-added_goals-requires-clause-values
+candidates::try_candidate-added_goals-requires-clause-values g t c =
     let v = c.in_ok-values.ensures in
     let k = c.in_ok-record_constraints.ensures in
     rw (c.deref.ensures.value, c.deref-2.ensures.value) (AreValues-later k.runs.goes v.values)
 
-pub try_candidate-record_constraints-requires-clause-constraints : goal.try_candidate-record_constraints-requires-clause-constraints
-try_candidate-record_constraints-requires-clause-constraints g t c =
+pub candidates::try_candidate-record_constraints-requires-clause-constraints : goal.candidates::try_candidate-record_constraints-requires-clause-constraints
+candidates::try_candidate-record_constraints-requires-clause-constraints g t c =
     let k = IsCandidate-extended c.in_ok-values.ensures.runs.goes.extends c.requires.posed.holds c.requires.candidate in
     rw (c.deref.ensures.value, c.deref-3.ensures.value) k.constraints
 
-pub try_candidate-record_constraints-requires-clause-posed : goal.try_candidate-record_constraints-requires-clause-posed
-try_candidate-record_constraints-requires-clause-posed g t c = IsPosed-later c.in_ok-values.ensures.runs.goes c.requires.posed
+pub candidates::try_candidate-record_constraints-requires-clause-posed : goal.candidates::try_candidate-record_constraints-requires-clause-posed
+candidates::try_candidate-record_constraints-requires-clause-posed g t c = IsPosed-later c.in_ok-values.ensures.runs.goes c.requires.posed
 
-pub try_candidate-returns : goal.try_candidate-returns
-try_candidate-returns = candidates.try_candidate-returns
+pub candidates::try_candidate-returns : goal.candidates::try_candidate-returns
+candidates::try_candidate-returns = candidates.try_candidate-returns
 
-pub try_candidate-returns-in_err-certainty : goal.try_candidate-returns-in_err-certainty
-try_candidate-returns-in_err-certainty = candidates.try_candidate-returns-in_err-certainty
+pub candidates::try_candidate-returns-in_err-certainty : goal.candidates::try_candidate-returns-in_err-certainty
+candidates::try_candidate-returns-in_err-certainty = candidates.try_candidate-returns-in_err-certainty
 
-pub try_candidate-returns-in_err-goals : goal.try_candidate-returns-in_err-goals
-try_candidate-returns-in_err-goals g t c =
+pub candidates::try_candidate-returns-in_err-goals : goal.candidates::try_candidate-returns-in_err-goals
+candidates::try_candidate-returns-in_err-goals g t c =
     let v = c.in_ok-values.ensures in
     let k = c.in_ok-record_constraints.ensures in
     let there = Runs-trans v.runs k.runs in
@@ -714,8 +714,8 @@ try_candidate-returns-in_err-goals g t c =
       decided = λ s n b d can. decides_fault c.from_residual-in_err-goals.result fails (search rules);
     }
 
-pub try_candidate-returns-in_err-record_constraints : goal.try_candidate-returns-in_err-record_constraints
-try_candidate-returns-in_err-record_constraints g t c =
+pub candidates::try_candidate-returns-in_err-record_constraints : goal.candidates::try_candidate-returns-in_err-record_constraints
+candidates::try_candidate-returns-in_err-record_constraints g t c =
     let v = c.in_ok-values.ensures in
     let constraints = constraints-kept c.args.cx.now.nodes c.equate.new.cx.nodes c.args.candidate.now.fresh.items c.args.goal c.args.candidate.now.region_constraints.items v.runs.goes.extends c.requires.candidate.constraints in
     let fails : is_err c.from_residual-in_err-record_constraints.result ≡ true = search rules in
@@ -729,8 +729,8 @@ try_candidate-returns-in_err-record_constraints g t c =
       decided = λ s n b d can. decides_fault c.from_residual-in_err-record_constraints.result fails (search rules);
     }
 
-pub try_candidate-returns-in_err-values : goal.try_candidate-returns-in_err-values
-try_candidate-returns-in_err-values g t c =
+pub candidates::try_candidate-returns-in_err-values : goal.candidates::try_candidate-returns-in_err-values
+candidates::try_candidate-returns-in_err-values g t c =
     let fails : is_err c.from_residual.result ≡ true = search rules in
     record {
       runs = search rules;
@@ -748,11 +748,11 @@ try_candidate-returns-in_err-values g t c =
           refused_no d (c.equate.ensures.unmet refused)) (same_search _);
     }
 
-pub search-evaluate_rounds-answer-requires : goal.search-evaluate_rounds-answer-requires
-search-evaluate_rounds-answer-requires = queries.search-evaluate_rounds-answer-requires
+pub queries::search-evaluate_rounds-answer-requires : goal.queries::search-evaluate_rounds-answer-requires
+queries::search-evaluate_rounds-answer-requires = queries.search-evaluate_rounds-answer-requires
 
-pub search-returns : goal.search-returns
-search-returns g t c =
+pub queries::search-returns : goal.queries::search-returns
+queries::search-returns g t c =
     let e = c.evaluate_rounds-answer.ensures in
     record {
       grows = e.grows;
@@ -779,8 +779,8 @@ search-returns g t c =
           };
     }
 
-pub search-returns-in-Some : goal.search-returns-in-Some
-search-returns-in-Some g t c =
+pub queries::search-returns-in-Some : goal.queries::search-returns-in-Some
+queries::search-returns-in-Some g t c =
     record {
       grows = search rules;
       searches = search rules;
@@ -793,56 +793,56 @@ search-returns-in-Some g t c =
       facts = λ s tells f none can. absurd (input_stands c.args.cx.now.nodes c.args.graph.now c.args.input.value c.in-Some.head none (rw c.deref.ensures at c.in-Some.ensures.found));
     }
 
-pub try_evaluate_goals-evaluate_step-requires : goal.try_evaluate_goals-evaluate_step-requires
-try_evaluate_goals-evaluate_step-requires = steps.try_evaluate_goals-evaluate_step-requires
+pub steps::try_evaluate_goals-evaluate_step-requires : goal.steps::try_evaluate_goals-evaluate_step-requires
+steps::try_evaluate_goals-evaluate_step-requires = steps.try_evaluate_goals-evaluate_step-requires
 
-pub try_evaluate_goals-loop-step-init : goal.try_evaluate_goals-loop-step-init
-try_evaluate_goals-loop-step-init = steps.try_evaluate_goals-loop-step-init
+pub steps::try_evaluate_goals-loop-step-init : goal.steps::try_evaluate_goals-loop-step-init
+steps::try_evaluate_goals-loop-step-init = steps.try_evaluate_goals-loop-step-init
 
-pub try_evaluate_goals-loop-step-preserved : goal.try_evaluate_goals-loop-step-preserved
-try_evaluate_goals-loop-step-preserved = steps.try_evaluate_goals-loop-step-preserved
+pub steps::try_evaluate_goals-loop-step-preserved : goal.steps::try_evaluate_goals-loop-step-preserved
+steps::try_evaluate_goals-loop-step-preserved = steps.try_evaluate_goals-loop-step-preserved
 
-pub try_evaluate_goals-returns : goal.try_evaluate_goals-returns
-try_evaluate_goals-returns = steps.try_evaluate_goals-returns
+pub steps::try_evaluate_goals-returns : goal.steps::try_evaluate_goals-returns
+steps::try_evaluate_goals-returns = steps.try_evaluate_goals-returns
 
-pub try_evaluate_goals-returns-in_err-stepped : goal.try_evaluate_goals-returns-in_err-stepped
-try_evaluate_goals-returns-in_err-stepped = steps.try_evaluate_goals-returns-in_err-stepped
+pub steps::try_evaluate_goals-returns-in_err-stepped : goal.steps::try_evaluate_goals-returns-in_err-stepped
+steps::try_evaluate_goals-returns-in_err-stepped = steps.try_evaluate_goals-returns-in_err-stepped
 
-pub try_evaluate_goals-returns-then-not-stepped : goal.try_evaluate_goals-returns-then-not-stepped
-try_evaluate_goals-returns-then-not-stepped = steps.try_evaluate_goals-returns-then-not-stepped
+pub steps::try_evaluate_goals-returns-then-not-stepped : goal.steps::try_evaluate_goals-returns-then-not-stepped
+steps::try_evaluate_goals-returns-then-not-stepped = steps.try_evaluate_goals-returns-then-not-stepped
 
-pub try_relating-returns-in_err-begun : goal.try_relating-returns-in_err-begun
-try_relating-returns-in_err-begun = relating.try_relating-returns-in_err-begun
+pub candidates::try_relating-returns-in_err-begun : goal.candidates::try_relating-returns-in_err-begun
+candidates::try_relating-returns-in_err-begun = relating.try_relating-returns-in_err-begun
 
-pub try_relating-returns-in_err-certainty : goal.try_relating-returns-in_err-certainty
-try_relating-returns-in_err-certainty = relating.try_relating-returns-in_err-certainty
+pub candidates::try_relating-returns-in_err-certainty : goal.candidates::try_relating-returns-in_err-certainty
+candidates::try_relating-returns-in_err-certainty = relating.try_relating-returns-in_err-certainty
 
-pub try_relating-returns : goal.try_relating-returns
-try_relating-returns = relating.try_relating-returns
+pub candidates::try_relating-returns : goal.candidates::try_relating-returns
+candidates::try_relating-returns = relating.try_relating-returns
 
-pub try_relating-returns-then-not-may_ask : goal.try_relating-returns-then-not-may_ask
-try_relating-returns-then-not-may_ask = relating.try_relating-returns-then-not-may_ask
+pub candidates::try_relating-returns-then-not-may_ask : goal.candidates::try_relating-returns-then-not-may_ask
+candidates::try_relating-returns-then-not-may_ask = relating.try_relating-returns-then-not-may_ask
 
-pub try_candidate-returns-then-not-may_relate : goal.try_candidate-returns-then-not-may_relate
-try_candidate-returns-then-not-may_relate = relating.try_candidate-returns-then-not-may_relate
+pub candidates::try_candidate-returns-then-not-may_relate : goal.candidates::try_candidate-returns-then-not-may_relate
+candidates::try_candidate-returns-then-not-may_relate = relating.try_candidate-returns-then-not-may_relate
 
-pub try_candidate-try_relating-requires : goal.try_candidate-try_relating-requires
-try_candidate-try_relating-requires g t c = λ κs k. (omega (arith, c.decreases), (k, (c.requires.posed, (c.requires.ready, (c.requires.candidate, (rw c.typing_mode.ensures at (c.may_relate.ensures.yes c.if-not-may_relate.false), (c.needs_relating.ensures.yes c.if-needs_relating.true, c.requires.search)))))))
+pub candidates::try_candidate-try_relating-requires : goal.candidates::try_candidate-try_relating-requires
+candidates::try_candidate-try_relating-requires g t c = λ κs k. (omega (arith, c.decreases), (k, (c.requires.posed, (c.requires.ready, (c.requires.candidate, (rw c.typing_mode.ensures at (c.may_relate.ensures.yes c.if-not-may_relate.false), (c.needs_relating.ensures.yes c.if-needs_relating.true, c.requires.search)))))))
 
-pub try_candidate-pose_asked-requires : goal.try_candidate-pose_asked-requires
-try_candidate-pose_asked-requires = candidates.try_candidate-pose_asked-requires
+pub candidates::try_candidate-pose_asked-requires : goal.candidates::try_candidate-pose_asked-requires
+candidates::try_candidate-pose_asked-requires = candidates.try_candidate-pose_asked-requires
 
-pub try_candidate-try_evaluate_goals-requires : goal.try_candidate-try_evaluate_goals-requires
-try_candidate-try_evaluate_goals-requires = candidates.try_candidate-try_evaluate_goals-requires
+pub candidates::try_candidate-try_evaluate_goals-requires : goal.candidates::try_candidate-try_evaluate_goals-requires
+candidates::try_candidate-try_evaluate_goals-requires = candidates.try_candidate-try_evaluate_goals-requires
 
-pub try_candidate-returns-in_err-kept : goal.try_candidate-returns-in_err-kept
-try_candidate-returns-in_err-kept = candidates.try_candidate-returns-in_err-kept
+pub candidates::try_candidate-returns-in_err-kept : goal.candidates::try_candidate-returns-in_err-kept
+candidates::try_candidate-returns-in_err-kept = candidates.try_candidate-returns-in_err-kept
 
-pub try_relating-pose_asked-requires : goal.try_relating-pose_asked-requires
-try_relating-pose_asked-requires = relating.try_relating-pose_asked-requires
+pub candidates::try_relating-pose_asked-requires : goal.candidates::try_relating-pose_asked-requires
+candidates::try_relating-pose_asked-requires = relating.try_relating-pose_asked-requires
 
-pub try_relating-try_evaluate_goals-requires : goal.try_relating-try_evaluate_goals-requires
-try_relating-try_evaluate_goals-requires = relating.try_relating-try_evaluate_goals-requires
+pub candidates::try_relating-try_evaluate_goals-requires : goal.candidates::try_relating-try_evaluate_goals-requires
+candidates::try_relating-try_evaluate_goals-requires = relating.try_relating-try_evaluate_goals-requires
 
-pub try_relating-returns-in_err-kept : goal.try_relating-returns-in_err-kept
-try_relating-returns-in_err-kept = relating.try_relating-returns-in_err-kept
+pub candidates::try_relating-returns-in_err-kept : goal.candidates::try_relating-returns-in_err-kept
+candidates::try_relating-returns-in_err-kept = relating.try_relating-returns-in_err-kept

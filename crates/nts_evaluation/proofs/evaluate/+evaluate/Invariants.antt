@@ -22,66 +22,66 @@ use Rattle.nts_meaning.specs.Meant.{rules_of, Always}
 use Rattle.nts_evaluation.proofs.evaluate.+evaluate.Given as goal
 use Rattle.nts_meaning.specs.Answering.{verdict_at}
 
-abbrev pub decreases-evaluate_goal : goal.decreases-evaluate_goal
-decreases-evaluate_goal g l = 20 * l.depth + 19
+abbrev pub decreases-queries::evaluate_goal : goal.decreases-queries::evaluate_goal
+decreases-queries::evaluate_goal g l = 20 * l.depth + 19
 
-abbrev pub decreases-search : goal.decreases-search
-decreases-search g l = 20 * l.depth + 18
+abbrev pub decreases-queries::search : goal.decreases-queries::search
+decreases-queries::search g l = 20 * l.depth + 18
 
-abbrev pub decreases-evaluate_rounds : goal.decreases-evaluate_rounds
-decreases-evaluate_rounds g l = 20 * l.depth + 17
+abbrev pub decreases-queries::evaluate_rounds : goal.decreases-queries::evaluate_rounds
+decreases-queries::evaluate_rounds g l = 20 * l.depth + 17
 
-abbrev pub decreases-evaluate_round : goal.decreases-evaluate_round
-decreases-evaluate_round g l = 20 * l.depth + 16
+abbrev pub decreases-queries::evaluate_round : goal.decreases-queries::evaluate_round
+decreases-queries::evaluate_round g l = 20 * l.depth + 16
 
-abbrev pub decreases-compute_goal : goal.decreases-compute_goal
-decreases-compute_goal g l = 20 * l.depth + 15
+abbrev pub decreases-rows::compute_goal : goal.decreases-rows::compute_goal
+decreases-rows::compute_goal g l = 20 * l.depth + 15
 
-abbrev pub decreases-evaluate_own : goal.decreases-evaluate_own
-decreases-evaluate_own g l = 20 * l.depth + 13
+abbrev pub decreases-rows::evaluate_own : goal.decreases-rows::evaluate_own
+decreases-rows::evaluate_own g l = 20 * l.depth + 13
 
-abbrev pub decreases-evaluate_subtype : goal.decreases-evaluate_subtype
-decreases-evaluate_subtype g l = 20 * l.depth + 13
+abbrev pub decreases-rows::evaluate_subtype : goal.decreases-rows::evaluate_subtype
+decreases-rows::evaluate_subtype g l = 20 * l.depth + 13
 
-abbrev pub decreases-evaluate_alias : goal.decreases-evaluate_alias
-decreases-evaluate_alias g l = 20 * l.depth + 14
+abbrev pub decreases-rows::evaluate_alias : goal.decreases-rows::evaluate_alias
+decreases-rows::evaluate_alias g l = 20 * l.depth + 14
 
-abbrev pub decreases-evaluate_equated : goal.decreases-evaluate_equated
-decreases-evaluate_equated g l = 20 * l.depth + 14
+abbrev pub decreases-equated::evaluate_equated : goal.decreases-equated::evaluate_equated
+decreases-equated::evaluate_equated g l = 20 * l.depth + 14
 
-abbrev pub decreases-evaluate_way : goal.decreases-evaluate_way
-decreases-evaluate_way g l = 20 * l.depth + 13
+abbrev pub decreases-equated::evaluate_way : goal.decreases-equated::evaluate_way
+decreases-equated::evaluate_way g l = 20 * l.depth + 13
 
-abbrev pub decreases-try_way : goal.decreases-try_way
-decreases-try_way g l = 20 * l.depth + 12
+abbrev pub decreases-equated::try_way : goal.decreases-equated::try_way
+decreases-equated::try_way g l = 20 * l.depth + 12
 
-abbrev pub decreases-evaluate_candidates : goal.decreases-evaluate_candidates
-decreases-evaluate_candidates g l = 20 * l.depth + 13
+abbrev pub decreases-candidates::evaluate_candidates : goal.decreases-candidates::evaluate_candidates
+decreases-candidates::evaluate_candidates g l = 20 * l.depth + 13
 
-abbrev pub decreases-probe_candidate : goal.decreases-probe_candidate
-decreases-probe_candidate g l = 20 * l.depth + 12
+abbrev pub decreases-candidates::probe_candidate : goal.decreases-candidates::probe_candidate
+decreases-candidates::probe_candidate g l = 20 * l.depth + 12
 
-abbrev pub decreases-run_candidate : goal.decreases-run_candidate
-decreases-run_candidate g l = 20 * l.depth + 11
+abbrev pub decreases-candidates::run_candidate : goal.decreases-candidates::run_candidate
+decreases-candidates::run_candidate g l = 20 * l.depth + 11
 
-abbrev pub decreases-try_candidate : goal.decreases-try_candidate
-decreases-try_candidate g l = 20 * l.depth + 10
+abbrev pub decreases-candidates::try_candidate : goal.decreases-candidates::try_candidate
+decreases-candidates::try_candidate g l = 20 * l.depth + 10
 
-abbrev pub decreases-try_relating : goal.decreases-try_relating
-decreases-try_relating g l = 20 * l.depth + 9
+abbrev pub decreases-candidates::try_relating : goal.decreases-candidates::try_relating
+decreases-candidates::try_relating g l = 20 * l.depth + 9
 
-abbrev pub decreases-try_evaluate_goals : goal.decreases-try_evaluate_goals
-decreases-try_evaluate_goals g l = 20 * bound_of l.depth + 2
+abbrev pub decreases-steps::try_evaluate_goals : goal.decreases-steps::try_evaluate_goals
+decreases-steps::try_evaluate_goals g l = 20 * bound_of l.depth + 2
 
-abbrev pub decreases-evaluate_step : goal.decreases-evaluate_step
-decreases-evaluate_step g l = 20 * bound_of l.depth + 1
+abbrev pub decreases-steps::evaluate_step : goal.decreases-steps::evaluate_step
+decreases-steps::evaluate_step g l = 20 * bound_of l.depth + 1
 
-abbrev pub decreases-evaluate_added : goal.decreases-evaluate_added
-decreases-evaluate_added g l = 20 * bound_of l.depth
+abbrev pub decreases-steps::evaluate_added : goal.decreases-steps::evaluate_added
+decreases-steps::evaluate_added g l = 20 * bound_of l.depth
 
 -- the query's input is kept, and its provisional answer can be applied
-abbrev pub invariant-evaluate_rounds-loop-round : goal.invariant-evaluate_rounds-loop-round
-invariant-evaluate_rounds-loop-round g l = record {
+abbrev pub invariant-queries::evaluate_rounds-loop-round : goal.invariant-queries::evaluate_rounds-loop-round
+invariant-queries::evaluate_rounds-loop-round g l = record {
   grows : Grows l.fn.cx l.cx;
   searches : Searches l.fn.cx l.cx l.fn.graph l.graph;
   counted : 0 < l.round → (0 < l.graph.most_rounds) × (length l.fn.graph.stack.items < l.graph.most_inputs);
@@ -95,8 +95,8 @@ invariant-evaluate_rounds-loop-round g l = record {
 }
 
 -- the first candidates have these responses, and the table is as before
-abbrev pub invariant-evaluate_candidates-loop-candidate : goal.invariant-evaluate_candidates-loop-candidate
-invariant-evaluate_candidates-loop-candidate g l = record {
+abbrev pub invariant-candidates::evaluate_candidates-loop-candidate : goal.invariant-candidates::evaluate_candidates-loop-candidate
+invariant-candidates::evaluate_candidates-loop-candidate g l = record {
   same : l.table ≡ l.fn.table;
   grows : Grows l.fn.cx l.cx;
   searches : Searches l.fn.cx l.cx l.fn.graph l.graph;
@@ -111,8 +111,8 @@ invariant-evaluate_candidates-loop-candidate g l = record {
 }
 
 -- the goals that are left, after the first steps
-abbrev pub invariant-try_evaluate_goals-loop-step : goal.invariant-try_evaluate_goals-loop-step
-invariant-try_evaluate_goals-loop-step g l = record {
+abbrev pub invariant-steps::try_evaluate_goals-loop-step : goal.invariant-steps::try_evaluate_goals-loop-step
+invariant-steps::try_evaluate_goals-loop-step g l = record {
   runs : Runs l.fn.cx l.cx l.fn.table l.table;
   searches : Searches l.fn.cx l.cx l.fn.graph l.graph;
   steps : l.last_steps ≤ l.fn.cx.step_limit;
@@ -129,8 +129,8 @@ invariant-try_evaluate_goals-loop-step g l = record {
 }
 
 -- the first goals were asked in this step
-abbrev pub invariant-evaluate_step-loop-added : goal.invariant-evaluate_step-loop-added
-invariant-evaluate_step-loop-added g l = record {
+abbrev pub invariant-steps::evaluate_step-loop-added : goal.invariant-steps::evaluate_step-loop-added
+invariant-steps::evaluate_step-loop-added g l = record {
   runs : Runs l.fn.cx l.cx l.fn.table l.table;
   searches : Searches l.fn.cx l.cx l.fn.graph l.graph;
   left : AreLeft (take l.added-index l.goals) l.step.left.items;

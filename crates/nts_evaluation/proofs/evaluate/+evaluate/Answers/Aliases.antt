@@ -25,8 +25,8 @@ use Rattle.nts_evaluation.proofs.DecidedGoals.{is_asked_here, outlives_in, state
 use Rattle.nts_evaluation.proofs.FactTrials.{fact_asked}
 use Rattle.nts_evaluation.proofs.evaluate.+evaluate.Goals as goal
 
-pub compute_goal-evaluate_alias-response-requires : goal.compute_goal-evaluate_alias-response-requires
-compute_goal-evaluate_alias-response-requires g t c = λ κs k.
+pub rows::compute_goal-evaluate_alias-response-requires : goal.rows::compute_goal-evaluate_alias-response-requires
+rows::compute_goal-evaluate_alias-response-requires g t c = λ κs k.
     let o = c.in_ok-opened.ensures in
     let posed = rw c.in-Alias.ensures.0 at o.posed in (
       omega (arith, c.decreases),
@@ -48,8 +48,8 @@ compute_goal-evaluate_alias-response-requires g t c = λ κs k.
       ),
     )
 
-pub compute_goal-returns-in-Alias : goal.compute_goal-returns-in-Alias
-compute_goal-returns-in-Alias g t c =
+pub rows::compute_goal-returns-in-Alias : goal.rows::compute_goal-returns-in-Alias
+rows::compute_goal-returns-in-Alias g t c =
     let o = c.in_ok-opened.ensures in
     let r = c.evaluate_alias-response.ensures in
     let opened = rw c.in-Alias.ensures.0 at o.opened in
@@ -97,8 +97,8 @@ compute_goal-returns-in-Alias g t c =
           absurd (before.not_asked asked);
     }
 
-pub evaluate_alias-evaluate_candidates-requires : goal.evaluate_alias-evaluate_candidates-requires
-evaluate_alias-evaluate_candidates-requires g t c = λ κs k.
+pub rows::evaluate_alias-evaluate_candidates-requires : goal.rows::evaluate_alias-evaluate_candidates-requires
+rows::evaluate_alias-evaluate_candidates-requires g t c = λ κs k.
     let e = c.in_ok-candidates.ensures in
     let goes = Goes-extends c.requires.posed.table e.grows.extends in (
       omega (arith, c.decreases),
@@ -120,8 +120,8 @@ evaluate_alias-evaluate_candidates-requires g t c = λ κs k.
       ),
     )
 
-pub evaluate_alias-returns : goal.evaluate_alias-returns
-evaluate_alias-returns g t c =
+pub rows::evaluate_alias-returns : goal.rows::evaluate_alias-returns
+rows::evaluate_alias-returns g t c =
     let e = c.in_ok-candidates.ensures in
     let r = c.evaluate_candidates.ensures in
     let posed = c.requires.posed in
@@ -175,6 +175,6 @@ evaluate_alias-returns g t c =
           };
     }
 
-pub evaluate_alias-returns-in_err-candidates : goal.evaluate_alias-returns-in_err-candidates
-evaluate_alias-returns-in_err-candidates g t c =
+pub rows::evaluate_alias-returns-in_err-candidates : goal.rows::evaluate_alias-returns-in_err-candidates
+rows::evaluate_alias-returns-in_err-candidates g t c =
     alias_failed c.from_residual.result (search rules) (search rules) (search rules) (Searches-refl c.args.depth c.requires.search c.relevant_candidates.ensures.grows)

@@ -67,8 +67,8 @@ use Rattle.nts_evaluation.proofs.DecidedTrials.{its_decided}
 use Rattle.nts_evaluation.proofs.DecidedGoals.{opened_decided, by_offers, kept_settled}
 use Rattle.nts_evaluation.proofs.evaluate.+evaluate.Goals as goal
 
-pub compute_goal-evaluate_candidates-response-requires : goal.compute_goal-evaluate_candidates-response-requires
-compute_goal-evaluate_candidates-response-requires g t c = λ κs k.
+pub rows::compute_goal-evaluate_candidates-response-requires : goal.rows::compute_goal-evaluate_candidates-response-requires
+rows::compute_goal-evaluate_candidates-response-requires g t c = λ κs k.
     let o = c.in_ok-opened.ensures in
     let e = c.in_ok-candidates.ensures in
     let posed = rw c.in-Candidates.ensures.0 at o.posed in
@@ -94,8 +94,8 @@ compute_goal-evaluate_candidates-response-requires g t c = λ κs k.
       ),
     )
 
-pub compute_goal-returns : goal.compute_goal-returns
-compute_goal-returns g t c =
+pub rows::compute_goal-returns : goal.rows::compute_goal-returns
+rows::compute_goal-returns g t c =
     let o = c.in_ok-opened.ensures in
     let e = c.in_ok-candidates.ensures in
     let more = e.grows.extends in
@@ -180,8 +180,8 @@ compute_goal-returns g t c =
           c.evaluate_candidates-response.ensures.facts (Since-later (grown o.grows e.grows) s) (tell_grown ruled c.args.depth c.requires.search (grown o.grows e.grows) tells) query (rw c.deref.ensures.value (subst (λ m. CandidatesSettled h m 0 c.relevant_candidates.new.cx.nodes c.enter_forall.new.table c.in_ok-candidates.candidates.items true) (sym o.goes.mode) kept.0)) (rw c.deref.ensures.value kept.1) (decides_grown c.requires.search (grown o.grows e.grows) can);
     }
 
-pub evaluate_candidates-loop-candidate-init : goal.evaluate_candidates-loop-candidate-init
-evaluate_candidates-loop-candidate-init g t c = record {
+pub candidates::evaluate_candidates-loop-candidate-init : goal.candidates::evaluate_candidates-loop-candidate-init
+candidates::evaluate_candidates-loop-candidate-init g t c = record {
   same = refl;
   grows = record { extends = Extends-refl _; rest = KeepsRest-refl _ };
   searches = Searches-refl c.args.depth c.requires.search (record { extends = Extends-refl _; rest = KeepsRest-refl _ });
@@ -191,8 +191,8 @@ evaluate_candidates-loop-candidate-init g t c = record {
   facts = λ s tells q settled plain can. (subst (AreSoFar (IsOverIfSilent c.args.cx.now.nodes (trees_of c.args.cx.now.nodes c.args.values.now)) (g.H.GoalHandler.handler s.base c.args.handler.now) c.args.table.now.mode 0 c.args.cx.now.nodes c.args.table.now c.args.candidates.now true) (sym c.new-responses.ensures.items) (none_held settled.fares), same_search _);
 }
 
-pub evaluate_candidates-loop-candidate-preserved : goal.evaluate_candidates-loop-candidate-preserved
-evaluate_candidates-loop-candidate-preserved g t c =
+pub candidates::evaluate_candidates-loop-candidate-preserved : goal.candidates::evaluate_candidates-loop-candidate-preserved
+candidates::evaluate_candidates-loop-candidate-preserved g t c =
     let i = c.loop-candidate.invariant in
     let p = c.probe_candidate-answer.ensures in
     let m = c.in_ok-keep_response.ensures in
@@ -258,8 +258,8 @@ evaluate_candidates-loop-candidate-preserved g t c =
           (next.0, then_same so_far.1 next.1);
     }
 
-pub evaluate_candidates-probe_candidate-answer-requires : goal.evaluate_candidates-probe_candidate-answer-requires
-evaluate_candidates-probe_candidate-answer-requires g t c = λ κs k.
+pub candidates::evaluate_candidates-probe_candidate-answer-requires : goal.candidates::evaluate_candidates-probe_candidate-answer-requires
+candidates::evaluate_candidates-probe_candidate-answer-requires g t c = λ κs k.
     let i = c.loop-candidate.invariant in
     let goes = goes-back c.requires.posed.table i.grows.extends i.same in (
       omega (arith, c.decreases),
@@ -281,8 +281,8 @@ evaluate_candidates-probe_candidate-answer-requires g t c = λ κs k.
       ),
     )
 
-pub probe_candidate-boxed_response-requires-clause-values : goal.probe_candidate-boxed_response-requires-clause-values
-probe_candidate-boxed_response-requires-clause-values g t c =
+pub candidates::probe_candidate-boxed_response-requires-clause-values : goal.candidates::probe_candidate-boxed_response-requires-clause-values
+candidates::probe_candidate-boxed_response-requires-clause-values g t c =
     let p = c.requires.posed in
     let o = c.in_ok-snapshot.ensures in
     let r = c.in-Ok.ensures in
@@ -290,8 +290,8 @@ probe_candidate-boxed_response-requires-clause-values g t c =
     let goes = goes-back p.table r.runs.goes.extends back in
     args_later c.args.cx.now.nodes c.run_candidate.new.cx.nodes c.args.table.now.entries c.rollback_to-2.new.self.entries c.args.values.now goes.extends goes.continues c.requires.values
 
-pub probe_candidate-returns : goal.probe_candidate-returns
-probe_candidate-returns g t c =
+pub candidates::probe_candidate-returns : goal.candidates::probe_candidate-returns
+candidates::probe_candidate-returns g t c =
     let p = c.requires.posed in
     let o = c.in_ok-snapshot.ensures in
     let r = c.in-Ok.ensures in
@@ -317,8 +317,8 @@ probe_candidate-returns g t c =
       facts = λ s tells q plain ts up silent. absurd (unsure (sym m.certainty ∙ silent.0));
     }
 
-pub probe_candidate-returns-then-keeps_constraints : goal.probe_candidate-returns-then-keeps_constraints
-probe_candidate-returns-then-keeps_constraints g t c =
+pub candidates::probe_candidate-returns-then-keeps_constraints : goal.candidates::probe_candidate-returns-then-keeps_constraints
+candidates::probe_candidate-returns-then-keeps_constraints g t c =
     let p = c.requires.posed in
     let o = c.in_ok-snapshot.ensures in
     let r = c.in-Ok.ensures in
@@ -348,15 +348,15 @@ probe_candidate-returns-then-keeps_constraints g t c =
           (rw trees at (subst (λ z. IsResponseOf (told_in z (content_of c.run_candidate.new.cx.nodes c.run_candidate.new.table.entries)) (trees_of c.run_candidate.new.cx.nodes c.args.values.now) (response_at c.boxed_response-response.new.cx.nodes c.in_ok-response.field-0.value)) (sym m.certainty ∙ silent.0) m.says)) m.holds ts up silent;
     }
 
-pub run_candidate-returns : goal.run_candidate-returns
-run_candidate-returns g t c =
+pub candidates::run_candidate-returns : goal.candidates::run_candidate-returns
+candidates::run_candidate-returns g t c =
     let e = c.try_candidate-tried.ensures in
     let k = c.check_leaks.ensures in
     checked {R = rules_of g.H.GoalHandler.ready g.H.GoalHandler.handler c.args.handler.now} c.args.depth c.try_candidate-tried.result c.check_leaks.result c.requires.search c.requires.posed.holds e k.grows k.ok k.err k.leaks
     (λ z. g.met.H.GoalHandler.handler_kept z.base c.try_candidate-tried.new.cx.nodes c.args.handler.now z.is_ready (Extends-trans z.extends e.runs.goes.extends))
 
-pub try_candidate-returns : goal.try_candidate-returns
-try_candidate-returns g t c =
+pub candidates::try_candidate-returns : goal.candidates::try_candidate-returns
+candidates::try_candidate-returns g t c =
     let v = c.in_ok-values.ensures in
     let k = c.in_ok-record_constraints.ensures in
     let n = c.in_ok-goals.ensures in
@@ -417,8 +417,8 @@ try_candidate-returns g t c =
           record { answer = (y.answer.0, c.and-2.ensures ∙ rw (sure_yes x.certainty d.sure, c.and.ensures ∙ y.answer.1) refl); search = y.search };
     }
 
-pub try_candidate-returns-in_err-certainty : goal.try_candidate-returns-in_err-certainty
-try_candidate-returns-in_err-certainty g t c =
+pub candidates::try_candidate-returns-in_err-certainty : goal.candidates::try_candidate-returns-in_err-certainty
+candidates::try_candidate-returns-in_err-certainty g t c =
     let v = c.in_ok-values.ensures in
     let k = c.in_ok-record_constraints.ensures in
     let there = Runs-trans v.runs k.runs in
@@ -453,8 +453,8 @@ try_candidate-returns-in_err-certainty g t c =
           decides_error (joined c.try_evaluate_goals.result c.in_ok-kept.kept) c.from_residual-in_err-certainty.result fails (λ no. (let refused : c.try_evaluate_goals.result ≡ Err EvalError.NoSolution = search rules in joined_fails _ c.in_ok-kept.kept refused)) (λ no. no) (e.decided since i b settled (decides_grown c.requires.search up can));
     }
 
-pub try_candidate-try_evaluate_goals-requires : goal.try_candidate-try_evaluate_goals-requires
-try_candidate-try_evaluate_goals-requires g t c = λ κs k-1.
+pub candidates::try_candidate-try_evaluate_goals-requires : goal.candidates::try_candidate-try_evaluate_goals-requires
+candidates::try_candidate-try_evaluate_goals-requires g t c = λ κs k-1.
     let v = c.in_ok-values.ensures in
     let k = c.in_ok-record_constraints.ensures in
     let there = Runs-trans v.runs k.runs in
@@ -475,8 +475,8 @@ try_candidate-try_evaluate_goals-requires g t c = λ κs k-1.
       ),
     )
 
-pub try_candidate-pose_asked-requires : goal.try_candidate-pose_asked-requires
-try_candidate-pose_asked-requires g t c =
+pub candidates::try_candidate-pose_asked-requires : goal.candidates::try_candidate-pose_asked-requires
+candidates::try_candidate-pose_asked-requires g t c =
     let v = c.in_ok-values.ensures in
     let k = c.in_ok-record_constraints.ensures in
     let there = Runs-trans v.runs k.runs in
@@ -485,8 +485,8 @@ try_candidate-pose_asked-requires g t c =
     let goal = IsPosed-later upto.goes c.requires.posed in
     record { goal = goal.holds.predicate; table = upto.goes.table; posed = n.added.posed }
 
-pub try_candidate-returns-in_err-kept : goal.try_candidate-returns-in_err-kept
-try_candidate-returns-in_err-kept g t c =
+pub candidates::try_candidate-returns-in_err-kept : goal.candidates::try_candidate-returns-in_err-kept
+candidates::try_candidate-returns-in_err-kept g t c =
     let v = c.in_ok-values.ensures in
     let k = c.in_ok-record_constraints.ensures in
     let there = Runs-trans v.runs k.runs in

@@ -39,8 +39,8 @@ use Rattle.nts_evaluation.proofs.evaluate.+evaluate.Goals as goal
 use Rattle.nts_theory.specs.Telling.{IsOpenToNormalizing, IsPlainResponse}
 use Rattle.nts_theory.specs.RelatingCandidates.{IsCutIn}
 
-pub compute_goal-evaluate_equated-response-requires : goal.compute_goal-evaluate_equated-response-requires
-compute_goal-evaluate_equated-response-requires g t c = λ κs k.
+pub rows::compute_goal-evaluate_equated-response-requires : goal.rows::compute_goal-evaluate_equated-response-requires
+rows::compute_goal-evaluate_equated-response-requires g t c = λ κs k.
     let o = c.in_ok-opened.ensures in
     let normal : IsOpenToNormalizing (mode_of c.enter_forall.new.table.mode) (tree_at c.enter_forall.new.cx.nodes c.in-Equated.opened.predicate.node) = elim (c.is_open_to_normalizing.ensures c.if-not-is_open_to_normalizing.false) [
       | inl x ↦ inl (rw c.typing_mode.ensures at x)
@@ -69,12 +69,12 @@ compute_goal-evaluate_equated-response-requires g t c = λ κs k.
     )
 
 -- in coherence it is in doubt, unless no alias stands in the term
-pub compute_goal-returns-in_err-doubt-in-Equated : goal.compute_goal-returns-in_err-doubt-in-Equated
-compute_goal-returns-in_err-doubt-in-Equated g t c =
+pub rows::compute_goal-returns-in_err-doubt-in-Equated : goal.rows::compute_goal-returns-in_err-doubt-in-Equated
+rows::compute_goal-returns-in_err-doubt-in-Equated g t c =
     goal_failed c.from_residual-in_err-doubt-in-Equated.result (search rules) (search rules) (search rules) (Searches-refl c.args.depth c.requires.search (grown c.in_ok-opened.ensures.grows c.boxed_response-then-not-is_open_to_normalizing.ensures.grows))
 
-pub compute_goal-returns-then-not-is_open_to_normalizing : goal.compute_goal-returns-then-not-is_open_to_normalizing
-compute_goal-returns-then-not-is_open_to_normalizing g t c =
+pub rows::compute_goal-returns-then-not-is_open_to_normalizing : goal.rows::compute_goal-returns-then-not-is_open_to_normalizing
+rows::compute_goal-returns-then-not-is_open_to_normalizing g t c =
     let o = c.in_ok-opened.ensures in
     let r = c.in_ok-doubt-in-Equated.ensures in
     let opened = rw c.in-Equated.ensures.0 at o.opened in
@@ -98,13 +98,13 @@ compute_goal-returns-then-not-is_open_to_normalizing g t c =
           absurd (before.not_asked (fact_asked (g.H.GoalHandler.handler s.base c.args.handler.now) (mode_of c.args.table.now.mode) c.args.cx.now.nodes c.enter_forall.new.cx.nodes c.args.table.now c.enter_forall.new.table c.args.goal _ opened settled c.requires.posed posed o.grows.extends));
     }
 
-pub compute_goal-boxed_response-requires-then-not-is_open_to_normalizing-clause-values : goal.compute_goal-boxed_response-requires-then-not-is_open_to_normalizing-clause-values
-compute_goal-boxed_response-requires-then-not-is_open_to_normalizing-clause-values g t c =
+pub rows::compute_goal-boxed_response-requires-then-not-is_open_to_normalizing-clause-values : goal.rows::compute_goal-boxed_response-requires-then-not-is_open_to_normalizing-clause-values
+rows::compute_goal-boxed_response-requires-then-not-is_open_to_normalizing-clause-values g t c =
     let o = c.in_ok-opened.ensures in
     args_later c.args.cx.now.nodes c.enter_forall.new.cx.nodes c.args.table.now.entries c.enter_forall.new.table.entries c.args.values.now o.goes.extends o.goes.continues c.requires.values
 
-pub compute_goal-returns-in-Equated : goal.compute_goal-returns-in-Equated
-compute_goal-returns-in-Equated g t c =
+pub rows::compute_goal-returns-in-Equated : goal.rows::compute_goal-returns-in-Equated
+rows::compute_goal-returns-in-Equated g t c =
     let o = c.in_ok-opened.ensures in
     let r = c.evaluate_equated-response.ensures in
     let opened = rw c.in-Equated.ensures.0 at o.opened in
@@ -154,8 +154,8 @@ compute_goal-returns-in-Equated g t c =
     }
 
 -- the ways are asked one after the other
-pub evaluate_equated-returns-then-not-matches : goal.evaluate_equated-returns-then-not-matches
-evaluate_equated-returns-then-not-matches g t c =
+pub equated::evaluate_equated-returns-then-not-matches : goal.equated::evaluate_equated-returns-then-not-matches
+equated::evaluate_equated-returns-then-not-matches g t c =
     let r = c.evaluate_way-lesser.ensures in
     record {
       grows = search rules;
@@ -165,8 +165,8 @@ evaluate_equated-returns-then-not-matches g t c =
       refuted = search rules;
     }
 
-pub evaluate_equated-evaluate_way-requires : goal.evaluate_equated-evaluate_way-requires
-evaluate_equated-evaluate_way-requires g t c = λ κs k.
+pub equated::evaluate_equated-evaluate_way-requires : goal.equated::evaluate_equated-evaluate_way-requires
+equated::evaluate_equated-evaluate_way-requires g t c = λ κs k.
     let r = c.evaluate_way-lesser.ensures in
     let p = c.requires.posed in
     let up = r.grows.extends in
@@ -196,8 +196,8 @@ evaluate_equated-evaluate_way-requires g t c = λ κs k.
       ),
     )
 
-pub evaluate_equated-returns-in-Some : goal.evaluate_equated-returns-in-Some
-evaluate_equated-returns-in-Some g t c =
+pub equated::evaluate_equated-returns-in-Some : goal.equated::evaluate_equated-returns-in-Some
+equated::evaluate_equated-returns-in-Some g t c =
     let first = c.evaluate_way-lesser.ensures in
     let r = c.evaluate_way.ensures in
     let p = c.requires.posed in
@@ -229,8 +229,8 @@ evaluate_equated-returns-in-Some g t c =
           };
     }
 
-pub evaluate_equated-returns : goal.evaluate_equated-returns
-evaluate_equated-returns g t c =
+pub equated::evaluate_equated-returns : goal.equated::evaluate_equated-returns
+equated::evaluate_equated-returns g t c =
     let r = c.evaluate_way-2.ensures in
     let q = c.requires.equated in
     let no_types : c.args.equated.types ≡ None = search rules in
@@ -244,12 +244,12 @@ evaluate_equated-returns g t c =
     }
 
 -- a goal answered by a way
-pub evaluate_way-returns-in_err-snapshot : goal.evaluate_way-returns-in_err-snapshot
-evaluate_way-returns-in_err-snapshot g t c =
+pub equated::evaluate_way-returns-in_err-snapshot : goal.equated::evaluate_way-returns-in_err-snapshot
+equated::evaluate_way-returns-in_err-snapshot g t c =
     way_failed c.from_residual.result (search rules) (search rules) (search rules) (search rules) (Searches-refl c.args.depth c.requires.search (record { extends = Extends-refl _; rest = KeepsRest-refl _ }))
 
-pub evaluate_way-returns-in-Err : goal.evaluate_way-returns-in-Err
-evaluate_way-returns-in-Err g t c =
+pub equated::evaluate_way-returns-in-Err : goal.equated::evaluate_way-returns-in-Err
+equated::evaluate_way-returns-in-Err g t c =
     let o = c.in_ok-snapshot.ensures in
     let r = c.in-Err.ensures in
     record {
@@ -261,22 +261,22 @@ evaluate_way-returns-in-Err g t c =
       refuted = λ s tells n. rw (o.mode, o.entries) at (r.refuted s tells (search rules));
     }
 
-pub evaluate_way-boxed_response-response-requires-clause-values : goal.evaluate_way-boxed_response-response-requires-clause-values
-evaluate_way-boxed_response-response-requires-clause-values g t c =
+pub equated::evaluate_way-boxed_response-response-requires-clause-values : goal.equated::evaluate_way-boxed_response-response-requires-clause-values
+equated::evaluate_way-boxed_response-response-requires-clause-values g t c =
     let p = c.requires.posed in
     let o = c.in_ok-snapshot.ensures in
     let r = c.in-Ok.ensures in
     let went = went_in p.table o.entries o.saved o.mode r.runs.goes in
     args_later c.args.cx.now.nodes c.try_way.new.cx.nodes c.args.table.now.entries c.try_way.new.table.entries c.args.values.now went.extends went.continues c.requires.values
 
-pub evaluate_way-returns-in_err-response : goal.evaluate_way-returns-in_err-response
-evaluate_way-returns-in_err-response g t c =
+pub equated::evaluate_way-returns-in_err-response : goal.equated::evaluate_way-returns-in_err-response
+equated::evaluate_way-returns-in_err-response g t c =
     let o = c.in_ok-snapshot.ensures in
     let r = c.in-Ok.ensures in
     way_failed c.from_residual-in_err-response.result (search rules) (search rules) (rolled_back o.saved r.runs.goes c.rollback_to-then-keeps_constraints.ensures.saved o.mode c.rollback_to-then-keeps_constraints.ensures.mode) (search rules) (search_grown c.args.depth c.requires.search r.searches c.boxed_response-response.ensures.grows)
 
-pub evaluate_way-returns-then-keeps_constraints : goal.evaluate_way-returns-then-keeps_constraints
-evaluate_way-returns-then-keeps_constraints g t c =
+pub equated::evaluate_way-returns-then-keeps_constraints : goal.equated::evaluate_way-returns-then-keeps_constraints
+equated::evaluate_way-returns-then-keeps_constraints g t c =
     let p = c.requires.posed in
     let o = c.in_ok-snapshot.ensures in
     let r = c.in-Ok.ensures in
@@ -309,8 +309,8 @@ evaluate_way-returns-then-keeps_constraints g t c =
       refuted = search rules;
     }
 
-pub evaluate_way-boxed_response-requires-clause-values : goal.evaluate_way-boxed_response-requires-clause-values
-evaluate_way-boxed_response-requires-clause-values g t c =
+pub equated::evaluate_way-boxed_response-requires-clause-values : goal.equated::evaluate_way-boxed_response-requires-clause-values
+equated::evaluate_way-boxed_response-requires-clause-values g t c =
     let p = c.requires.posed in
     let o = c.in_ok-snapshot.ensures in
     let r = c.in-Ok.ensures in
@@ -318,14 +318,14 @@ evaluate_way-boxed_response-requires-clause-values g t c =
     let goes = goes-back p.table r.runs.goes.extends back in
     args_later c.args.cx.now.nodes c.try_way.new.cx.nodes c.args.table.now.entries c.rollback_to-2.new.self.entries c.args.values.now goes.extends goes.continues c.requires.values
 
-pub evaluate_way-returns-in_err-response-2 : goal.evaluate_way-returns-in_err-response-2
-evaluate_way-returns-in_err-response-2 g t c =
+pub equated::evaluate_way-returns-in_err-response-2 : goal.equated::evaluate_way-returns-in_err-response-2
+equated::evaluate_way-returns-in_err-response-2 g t c =
     let o = c.in_ok-snapshot.ensures in
     let r = c.in-Ok.ensures in
     way_failed c.from_residual-in_err-response-2.result (search rules) (search rules) (rolled_back o.saved r.runs.goes c.rollback_to-2.ensures.saved o.mode c.rollback_to-2.ensures.mode) (search rules) (search_grown c.args.depth c.requires.search r.searches c.boxed_response.ensures.grows)
 
-pub evaluate_way-returns : goal.evaluate_way-returns
-evaluate_way-returns g t c =
+pub equated::evaluate_way-returns : goal.equated::evaluate_way-returns
+equated::evaluate_way-returns g t c =
     let p = c.requires.posed in
     let o = c.in_ok-snapshot.ensures in
     let r = c.in-Ok.ensures in
@@ -358,8 +358,8 @@ evaluate_way-returns g t c =
     }
 
 -- the goals that are left of it are asked
-pub try_way-returns-in_err-goals : goal.try_way-returns-in_err-goals
-try_way-returns-in_err-goals g t c =
+pub equated::try_way-returns-in_err-goals : goal.equated::try_way-returns-in_err-goals
+equated::try_way-returns-in_err-goals g t c =
     record {
       runs = c.way_goals.ensures.runs;
       searches = Searches-refl c.args.depth c.requires.search (ran c.way_goals.ensures.runs);
@@ -369,8 +369,8 @@ try_way-returns-in_err-goals g t c =
       refuted = search rules;
     }
 
-pub try_way-try_evaluate_goals-requires : goal.try_way-try_evaluate_goals-requires
-try_way-try_evaluate_goals-requires g t c = λ κs k.
+pub equated::try_way-try_evaluate_goals-requires : goal.equated::try_way-try_evaluate_goals-requires
+equated::try_way-try_evaluate_goals-requires g t c = λ κs k.
     let r = c.in_ok-goals.ensures in
     let begins = r.begins in (
       omega (arith, c.decreases),
@@ -389,8 +389,8 @@ try_way-try_evaluate_goals-requires g t c = λ κs k.
       ),
     )
 
-pub try_way-returns-in_err-certainty : goal.try_way-returns-in_err-certainty
-try_way-returns-in_err-certainty g t c =
+pub equated::try_way-returns-in_err-certainty : goal.equated::try_way-returns-in_err-certainty
+equated::try_way-returns-in_err-certainty g t c =
     let r = c.in_ok-goals.ensures in
     let begins = r.begins in
     let e = c.try_evaluate_goals.ensures in
@@ -410,8 +410,8 @@ try_way-returns-in_err-certainty g t c =
           record { normal = c.requires.normal; left = goals_at b.nodes gs; met = content_of b.nodes u.entries; sides = begins.sides; refused = rw r.runs.goes.mode at no };
     }
 
-pub try_way-returns : goal.try_way-returns
-try_way-returns g t c =
+pub equated::try_way-returns : goal.equated::try_way-returns
+equated::try_way-returns g t c =
     let r = c.in_ok-goals.ensures in
     let begins = r.begins in
     let e = c.in_ok-certainty.ensures in

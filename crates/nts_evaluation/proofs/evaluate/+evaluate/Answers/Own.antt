@@ -38,8 +38,8 @@ use Rattle.nts_evaluation.proofs.OwnGoals.{posed_plain, judged_before, settled_y
 use Rattle.nts_evaluation.proofs.Serving.{held_plain}
 use Rattle.nts_evaluation.proofs.evaluate.+evaluate.Goals as goal
 
-pub compute_goal-evaluate_own-response-requires : goal.compute_goal-evaluate_own-response-requires
-compute_goal-evaluate_own-response-requires g t c = λ κs k.
+pub rows::compute_goal-evaluate_own-response-requires : goal.rows::compute_goal-evaluate_own-response-requires
+rows::compute_goal-evaluate_own-response-requires g t c = λ κs k.
     let o = c.in_ok-opened.ensures in (
       omega (arith, c.decreases),
       (
@@ -60,8 +60,8 @@ compute_goal-evaluate_own-response-requires g t c = λ κs k.
       ),
     )
 
-pub compute_goal-returns-in-Own : goal.compute_goal-returns-in-Own
-compute_goal-returns-in-Own g t c =
+pub rows::compute_goal-returns-in-Own : goal.rows::compute_goal-returns-in-Own
+rows::compute_goal-returns-in-Own g t c =
     let o = c.in_ok-opened.ensures in
     let r = c.evaluate_own-response.ensures in
     let opened = rw c.in-Own.ensures.0 at o.opened in
@@ -106,39 +106,39 @@ compute_goal-returns-in-Own g t c =
           absurd (own_is_no_trait _ _ c.in-Own.own says (let z = asked.trait_goal in z.statement));
     }
 
-pub evaluate_own-judge-requires-clause-plain : goal.evaluate_own-judge-requires-clause-plain
-evaluate_own-judge-requires-clause-plain g t c = posed_plain c.args.cx.now.nodes c.args.table.now c.args.goal c.requires.posed
+pub rows::evaluate_own-judge-requires-clause-plain : goal.rows::evaluate_own-judge-requires-clause-plain
+rows::evaluate_own-judge-requires-clause-plain g t c = posed_plain c.args.cx.now.nodes c.args.table.now c.args.goal c.requires.posed
 
-pub evaluate_own-returns-in_err-judged : goal.evaluate_own-returns-in_err-judged
-evaluate_own-returns-in_err-judged g t c =
+pub rows::evaluate_own-returns-in_err-judged : goal.rows::evaluate_own-returns-in_err-judged
+rows::evaluate_own-returns-in_err-judged g t c =
     own_failed c.from_residual.result (search rules) (search rules) (search rules) (Searches-refl c.args.depth c.requires.search c.judge.ensures.grows)
 
-pub evaluate_own-boxed_response-requires-clause-table : goal.evaluate_own-boxed_response-requires-clause-table
-evaluate_own-boxed_response-requires-clause-table g t c = (let goes = Goes-extends c.requires.posed.table c.in_ok-judged.ensures.grows.extends in goes.table)
+pub rows::evaluate_own-boxed_response-requires-clause-table : goal.rows::evaluate_own-boxed_response-requires-clause-table
+rows::evaluate_own-boxed_response-requires-clause-table g t c = (let goes = Goes-extends c.requires.posed.table c.in_ok-judged.ensures.grows.extends in goes.table)
 
-pub evaluate_own-boxed_response-requires-clause-values : goal.evaluate_own-boxed_response-requires-clause-values
-evaluate_own-boxed_response-requires-clause-values g t c =
+pub rows::evaluate_own-boxed_response-requires-clause-values : goal.rows::evaluate_own-boxed_response-requires-clause-values
+rows::evaluate_own-boxed_response-requires-clause-values g t c =
     let goes = Goes-extends c.requires.posed.table c.in_ok-judged.ensures.grows.extends in
     args_later c.args.cx.now.nodes c.judge.new.cx.nodes c.args.table.now.entries c.args.table.now.entries c.args.values.now goes.extends goes.continues c.requires.values
 
-pub evaluate_own-returns-in_err-response-in-Yes : goal.evaluate_own-returns-in_err-response-in-Yes
-evaluate_own-returns-in_err-response-in-Yes g t c =
+pub rows::evaluate_own-returns-in_err-response-in-Yes : goal.rows::evaluate_own-returns-in_err-response-in-Yes
+rows::evaluate_own-returns-in_err-response-in-Yes g t c =
     own_failed c.from_residual-in_err-response-in-Yes.result (search rules) (search rules) (search rules) (Searches-refl c.args.depth c.requires.search (grown c.in_ok-judged.ensures.grows c.boxed_response.ensures.grows))
 
-pub evaluate_own-boxed_response-requires-in-Unknown-clause-table : goal.evaluate_own-boxed_response-requires-in-Unknown-clause-table
-evaluate_own-boxed_response-requires-in-Unknown-clause-table g t c = (let goes = Goes-extends c.requires.posed.table c.in_ok-judged.ensures.grows.extends in goes.table)
+pub rows::evaluate_own-boxed_response-requires-in-Unknown-clause-table : goal.rows::evaluate_own-boxed_response-requires-in-Unknown-clause-table
+rows::evaluate_own-boxed_response-requires-in-Unknown-clause-table g t c = (let goes = Goes-extends c.requires.posed.table c.in_ok-judged.ensures.grows.extends in goes.table)
 
-pub evaluate_own-boxed_response-requires-in-Unknown-clause-values : goal.evaluate_own-boxed_response-requires-in-Unknown-clause-values
-evaluate_own-boxed_response-requires-in-Unknown-clause-values g t c =
+pub rows::evaluate_own-boxed_response-requires-in-Unknown-clause-values : goal.rows::evaluate_own-boxed_response-requires-in-Unknown-clause-values
+rows::evaluate_own-boxed_response-requires-in-Unknown-clause-values g t c =
     let goes = Goes-extends c.requires.posed.table c.in_ok-judged.ensures.grows.extends in
     args_later c.args.cx.now.nodes c.judge.new.cx.nodes c.args.table.now.entries c.args.table.now.entries c.args.values.now goes.extends goes.continues c.requires.values
 
-pub evaluate_own-returns-in_err-response-in-Unknown : goal.evaluate_own-returns-in_err-response-in-Unknown
-evaluate_own-returns-in_err-response-in-Unknown g t c =
+pub rows::evaluate_own-returns-in_err-response-in-Unknown : goal.rows::evaluate_own-returns-in_err-response-in-Unknown
+rows::evaluate_own-returns-in_err-response-in-Unknown g t c =
     own_failed c.from_residual-in_err-response-in-Unknown.result (search rules) (search rules) (search rules) (Searches-refl c.args.depth c.requires.search (grown c.in_ok-judged.ensures.grows c.boxed_response-in-Unknown.ensures.grows))
 
-pub evaluate_own-probe_candidate-response-requires : goal.evaluate_own-probe_candidate-response-requires
-evaluate_own-probe_candidate-response-requires g t c = λ κs k.
+pub rows::evaluate_own-probe_candidate-response-requires : goal.rows::evaluate_own-probe_candidate-response-requires
+rows::evaluate_own-probe_candidate-response-requires g t c = λ κs k.
     let j = c.in_ok-judged.ensures in
     let way : IsJudgedSo (g.H.GoalHandler.handler c.judge.new.cx.nodes c.args.handler.now) c.judge.new.cx.nodes c.args.goal (judged.Way c.in-Way.way) = subst (IsJudgedSo (g.H.GoalHandler.handler c.judge.new.cx.nodes c.args.handler.now) c.judge.new.cx.nodes c.args.goal) c.in-Way.is j.judged in
     let goes = Goes-extends c.requires.posed.table j.grows.extends in (
@@ -161,8 +161,8 @@ evaluate_own-probe_candidate-response-requires g t c = λ κs k.
       ),
     )
 
-pub evaluate_own-returns-in-No : goal.evaluate_own-returns-in-No
-evaluate_own-returns-in-No g t c =
+pub rows::evaluate_own-returns-in-No : goal.rows::evaluate_own-returns-in-No
+rows::evaluate_own-returns-in-No g t c =
     let j = c.in_ok-judged.ensures in
     let known : IsJudgedSo (g.H.GoalHandler.handler c.judge.new.cx.nodes c.args.handler.now) c.judge.new.cx.nodes c.args.goal judged.No = subst (IsJudgedSo (g.H.GoalHandler.handler c.judge.new.cx.nodes c.args.handler.now) c.judge.new.cx.nodes c.args.goal) c.in-No.is j.judged in
     record {
@@ -178,8 +178,8 @@ evaluate_own-returns-in-No g t c =
           record { answer = settled_no same j.grows.extends c.requires.posed.holds _ j.exact b c.in-No.is d; search = same_search _ };
     }
 
-pub evaluate_own-returns-in_ok-response-in-Yes : goal.evaluate_own-returns-in_ok-response-in-Yes
-evaluate_own-returns-in_ok-response-in-Yes g t c =
+pub rows::evaluate_own-returns-in_ok-response-in-Yes : goal.rows::evaluate_own-returns-in_ok-response-in-Yes
+rows::evaluate_own-returns-in_ok-response-in-Yes g t c =
     let j = c.in_ok-judged.ensures in
     let known : IsJudgedSo (g.H.GoalHandler.handler c.judge.new.cx.nodes c.args.handler.now) c.judge.new.cx.nodes c.args.goal judged.Yes = subst (IsJudgedSo (g.H.GoalHandler.handler c.judge.new.cx.nodes c.args.handler.now) c.judge.new.cx.nodes c.args.goal) c.in-Yes.is j.judged in
     let r = c.in_ok-response-in-Yes.ensures in
@@ -205,8 +205,8 @@ evaluate_own-returns-in_ok-response-in-Yes g t c =
           record { answer = (settled_yes same up holds _ j.exact b c.in-Yes.is d, r.certainty); search = same_search _ };
     }
 
-pub evaluate_own-returns-in_ok-response-in-Unknown : goal.evaluate_own-returns-in_ok-response-in-Unknown
-evaluate_own-returns-in_ok-response-in-Unknown g t c =
+pub rows::evaluate_own-returns-in_ok-response-in-Unknown : goal.rows::evaluate_own-returns-in_ok-response-in-Unknown
+rows::evaluate_own-returns-in_ok-response-in-Unknown g t c =
     let j = c.in_ok-judged.ensures in
     let r = c.in_ok-response-in-Unknown.ensures in
     let x = c.in_ok-response-in-Unknown.response.value in
@@ -225,8 +225,8 @@ evaluate_own-returns-in_ok-response-in-Unknown g t c =
           absurd (settled_unknown same up c.requires.posed.holds _ j.exact b c.in-Unknown.is d);
     }
 
-pub evaluate_own-returns-in-Way : goal.evaluate_own-returns-in-Way
-evaluate_own-returns-in-Way g t c =
+pub rows::evaluate_own-returns-in-Way : goal.rows::evaluate_own-returns-in-Way
+rows::evaluate_own-returns-in-Way g t c =
     let j = c.in_ok-judged.ensures in
     let known : IsJudgedSo (g.H.GoalHandler.handler c.judge.new.cx.nodes c.args.handler.now) c.judge.new.cx.nodes c.args.goal (judged.Way c.in-Way.way) = subst (IsJudgedSo (g.H.GoalHandler.handler c.judge.new.cx.nodes c.args.handler.now) c.judge.new.cx.nodes c.args.goal) c.in-Way.is j.judged in
     let r = c.probe_candidate-response.ensures in

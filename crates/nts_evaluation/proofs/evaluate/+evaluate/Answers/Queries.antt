@@ -41,8 +41,8 @@ use Rattle.nts_meaning.proofs.Searching.{nothing_stands}
 use Rattle.nts_evaluation.proofs.FactQueries.{fact_begun, nothing_above, round_fact, fact_query, last_fact, applied_fact}
 use Rattle.nts_evaluation.proofs.evaluate.+evaluate.Goals as goal
 
-pub evaluate_goal-returns : goal.evaluate_goal-returns
-evaluate_goal-returns g t c =
+pub queries::evaluate_goal-returns : goal.queries::evaluate_goal-returns
+queries::evaluate_goal-returns g t c =
     let q = c.in_ok-originals.ensures in
     let k = c.in_ok-answer.ensures in
     let e = c.apply_answer-evaluated.ensures in
@@ -88,8 +88,8 @@ evaluate_goal-returns g t c =
           (λ n. never (response_refused c.requires.posed q.query q.grows.extends k.grows.extends c.in_ok-answer.answer.value k.fits (rw q.query.mode at (k.told (Since-later q.grows s) later)) (rw (c.deref.ensures.value, c.deref-2.ensures) at (c.apply_answer-evaluated.ensures.no n)))) x.search;
     }
 
-pub evaluate_goal-search-requires : goal.evaluate_goal-search-requires
-evaluate_goal-search-requires g t c =
+pub queries::evaluate_goal-search-requires : goal.queries::evaluate_goal-search-requires
+queries::evaluate_goal-search-requires g t c =
     λ κs k.
     let q = c.in_ok-originals.ensures in (
       omega (arith, c.decreases),
@@ -105,8 +105,8 @@ evaluate_goal-search-requires g t c =
       ),
     )
 
-pub evaluate_round-compute_goal-response-requires : goal.evaluate_round-compute_goal-response-requires
-evaluate_round-compute_goal-response-requires g t c =
+pub queries::evaluate_round-compute_goal-response-requires : goal.queries::evaluate_round-compute_goal-response-requires
+queries::evaluate_round-compute_goal-response-requires g t c =
     λ κs k-1.
     let k = c.in_ok-table.ensures in
     let x = rw c.deref.ensures at k.begins in (
@@ -126,8 +126,8 @@ evaluate_round-compute_goal-response-requires g t c =
       ),
     )
 
-pub evaluate_round-returns : goal.evaluate_round-returns
-evaluate_round-returns g t c =
+pub queries::evaluate_round-returns : goal.queries::evaluate_round-returns
+queries::evaluate_round-returns g t c =
     let k = c.in_ok-table.ensures in
     let own = entry_of c.args.asked.value.input c.args.step c.args.asked.value.provisional c.in_ok-push_query.ensures.pushed.0 in
     let off = c.end_round.ensures.off in
@@ -211,8 +211,8 @@ evaluate_round-returns g t c =
           ended_fact true z ks c.args.graph.now c.push_query.new.graph c.compute_goal-response.new.graph c.end_round.new.graph own off.0 c.in_ok-push_query.ensures.pushed.1 c.push_query.ensures.rest refl off.1 c.compute_goal-response.result c.end_round.result off.2 c.end_round.ensures.answer y;
     }
 
-pub evaluate_rounds-evaluate_round-requires : goal.evaluate_rounds-evaluate_round-requires
-evaluate_rounds-evaluate_round-requires g t c =
+pub queries::evaluate_rounds-evaluate_round-requires : goal.queries::evaluate_rounds-evaluate_round-requires
+queries::evaluate_rounds-evaluate_round-requires g t c =
     λ κs k.
     let i = c.loop-round.invariant in
     let limit : c.loop-round.round + 1 ≤ c.loop-round.cx.round_limit = rw i.grows.rest.rounds (omega (arith, c.loop-round-test.true, c.round_limit-round-end.ensures)) in
@@ -233,8 +233,8 @@ evaluate_rounds-evaluate_round-requires g t c =
       ),
     )
 
-pub evaluate_rounds-loop-round-init : goal.evaluate_rounds-loop-round-init
-evaluate_rounds-loop-round-init g t c =
+pub queries::evaluate_rounds-loop-round-init : goal.queries::evaluate_rounds-loop-round-init
+queries::evaluate_rounds-loop-round-init g t c =
     let u = c.in_ok-asked.ensures in
     let first = u.first in
     record {
@@ -249,8 +249,8 @@ evaluate_rounds-loop-round-init g t c =
       facts = λ s tells f can. refl;
     }
 
-pub evaluate_rounds-loop-round-preserved : goal.evaluate_rounds-loop-round-preserved
-evaluate_rounds-loop-round-preserved g t c =
+pub queries::evaluate_rounds-loop-round-preserved : goal.queries::evaluate_rounds-loop-round-preserved
+queries::evaluate_rounds-loop-round-preserved g t c =
     let i = c.loop-round.invariant in
     let limit : c.loop-round.round + 1 ≤ c.loop-round.cx.round_limit = rw i.grows.rest.rounds (omega (arith, c.loop-round-test.true, c.round_limit-round-end.ensures)) in
     let noted = search_noted {a = c.args.cx.now} {b = c.loop-round.cx} {g = c.args.graph.now} {h = c.loop-round.graph} {i = c.note_round.new.self} (c.args.depth + 1) (c.loop-round.round + 1) c.requires.search i.searches limit c.note_round.ensures in
@@ -290,8 +290,8 @@ evaluate_rounds-loop-round-preserved g t c =
           absurd (let last = c.round_is_last.ensures.1 (inl (rw c.deref.ensures ended.0)) in let more = c.if-round_is_last.false in cc (last, more));
     }
 
-pub evaluate_rounds-returns-then-round_is_last : goal.evaluate_rounds-returns-then-round_is_last
-evaluate_rounds-returns-then-round_is_last g t c =
+pub queries::evaluate_rounds-returns-then-round_is_last : goal.queries::evaluate_rounds-returns-then-round_is_last
+queries::evaluate_rounds-returns-then-round_is_last g t c =
     let i = c.loop-round.invariant in
     let limit : c.loop-round.round + 1 ≤ c.loop-round.cx.round_limit = rw i.grows.rest.rounds (omega (arith, c.loop-round-test.true, c.round_limit-round-end.ensures)) in
     let noted = search_noted {a = c.args.cx.now} {b = c.loop-round.cx} {g = c.args.graph.now} {h = c.loop-round.graph} {i = c.note_round.new.self} (c.args.depth + 1) (c.loop-round.round + 1) c.requires.search i.searches limit c.note_round.ensures in
@@ -343,8 +343,8 @@ evaluate_rounds-returns-then-round_is_last g t c =
           last_fact c.in_ok-ended.ended.value.answer c.last_answer.result c.last_answer.ensures.some ended.1 (then_same same ended.2);
     }
 
-pub evaluate_rounds-round_is_last-requires-clause-answer : goal.evaluate_rounds-round_is_last-requires-clause-answer
-evaluate_rounds-round_is_last-requires-clause-answer g t c =
+pub queries::evaluate_rounds-round_is_last-requires-clause-answer : goal.queries::evaluate_rounds-round_is_last-requires-clause-answer
+queries::evaluate_rounds-round_is_last-requires-clause-answer g t c =
     let i = c.loop-round.invariant in
     let limit : c.loop-round.round + 1 ≤ c.loop-round.cx.round_limit = rw i.grows.rest.rounds (omega (arith, c.loop-round-test.true, c.round_limit-round-end.ensures)) in
     let noted = search_noted {a = c.args.cx.now} {b = c.loop-round.cx} {g = c.args.graph.now} {h = c.loop-round.graph} {i = c.note_round.new.self} (c.args.depth + 1) (c.loop-round.round + 1) c.requires.search i.searches limit c.note_round.ensures in
@@ -355,8 +355,8 @@ evaluate_rounds-round_is_last-requires-clause-answer g t c =
     let form = own_form c.args.cx.now.nodes c.loop-round.cx.nodes c.args.input.value c.loop-round.asked.value.input i.grows.extends i.input c.requires.input in
     rw c.deref-in-loop-round.ensures (holds_answer z (kinds_of c.args.input.value) c.in_ok-ended.ended.value.answer fits)
 
-pub search-evaluate_rounds-answer-requires : goal.search-evaluate_rounds-answer-requires
-search-evaluate_rounds-answer-requires g t c =
+pub queries::search-evaluate_rounds-answer-requires : goal.queries::search-evaluate_rounds-answer-requires
+queries::search-evaluate_rounds-answer-requires g t c =
     λ κs k. (
       omega (arith, c.decreases),
       (

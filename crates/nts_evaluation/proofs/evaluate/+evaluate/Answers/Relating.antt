@@ -42,8 +42,8 @@ doubt_no_yes : (r : Result Certainty EvalFault) → IfOk r (λ y. y ≡ ambiguou
 doubt_no_yes r h e = (let same : certainty.Yes ≡ ambiguous = subst (λ z. IfOk z (λ y. y ≡ ambiguous)) e h in cc same)
 
 -- in coherence such a candidate is begun in part, and in doubt
-pub try_candidate-returns-then-not-may_relate : goal.try_candidate-returns-then-not-may_relate
-try_candidate-returns-then-not-may_relate g t c =
+pub candidates::try_candidate-returns-then-not-may_relate : goal.candidates::try_candidate-returns-then-not-may_relate
+candidates::try_candidate-returns-then-not-may_relate g t c =
     let b = c.begin_in_part.ensures in
     let some = c.needs_relating.ensures.yes c.if-needs_relating.true in
     let inside : mode_of c.args.table.now.mode ≡ coherence = ap mode_of (sym c.typing_mode.ensures) ∙ c.may_relate.ensures.no c.if-not-may_relate.true in
@@ -57,8 +57,8 @@ try_candidate-returns-then-not-may_relate g t c =
       decided = λ s n k d can. absurd (some d.plain);
     }
 
-pub try_relating-returns-in_err-begun : goal.try_relating-returns-in_err-begun
-try_relating-returns-in_err-begun g t c =
+pub candidates::try_relating-returns-in_err-begun : goal.candidates::try_relating-returns-in_err-begun
+candidates::try_relating-returns-in_err-begun g t c =
     let fails : is_err c.from_residual.result ≡ true = search rules in
     record {
       runs = search rules;
@@ -72,8 +72,8 @@ try_relating-returns-in_err-begun g t c =
       decided = λ s n b d can. absurd (c.requires.some d.plain);
     }
 
-pub try_relating-try_evaluate_goals-requires : goal.try_relating-try_evaluate_goals-requires
-try_relating-try_evaluate_goals-requires g t c = λ κs k-1.
+pub candidates::try_relating-try_evaluate_goals-requires : goal.candidates::try_relating-try_evaluate_goals-requires
+candidates::try_relating-try_evaluate_goals-requires g t c = λ κs k-1.
     let b = c.in_ok-begun.ensures in
     let begins = b.begins in (
       omega (arith, c.decreases),
@@ -93,8 +93,8 @@ try_relating-try_evaluate_goals-requires g t c = λ κs k-1.
     )
 
 -- in coherence it is in doubt where relating left another goal than that an alias is equal to a term without aliases
-pub try_relating-returns-then-not-may_ask : goal.try_relating-returns-then-not-may_ask
-try_relating-returns-then-not-may_ask g t c =
+pub candidates::try_relating-returns-then-not-may_ask : goal.candidates::try_relating-returns-then-not-may_ask
+candidates::try_relating-returns-then-not-may_ask g t c =
     let b = c.in_ok-begun.ensures in
     let begins = b.begins in
     let m = c.begin_relating.new.cx in
@@ -121,8 +121,8 @@ try_relating-returns-then-not-may_ask g t c =
       decided = λ s n k d can. absurd (c.requires.some d.plain);
     }
 
-pub try_relating-returns-in_err-certainty : goal.try_relating-returns-in_err-certainty
-try_relating-returns-in_err-certainty g t c =
+pub candidates::try_relating-returns-in_err-certainty : goal.candidates::try_relating-returns-in_err-certainty
+candidates::try_relating-returns-in_err-certainty g t c =
     let b = c.in_ok-begun.ensures in
     let begins = b.begins in
     let e = posed_steps (rules_of g.H.GoalHandler.ready g.H.GoalHandler.handler c.args.handler.now) c.begin_relating.new.cx c.pose_asked.new.cx c.try_evaluate_goals.new.cx _ _ c.begin_relating.new.table c.pose_asked.new.table c.try_evaluate_goals.new.table c.args.table.now.mode _ c.in_ok-begun.begun.goals.items _ _ _ _ _ _ _ b.runs.goes.mode c.pose_asked.ensures.runs c.in_ok-kept.ensures.asks (search_grows c.args.depth c.args.depth (omega arith) c.requires.search (ran b.runs)) c.terms_are_formed.ensures c.terms_are_formed-2.ensures begins.posed c.try_evaluate_goals.ensures in
@@ -144,8 +144,8 @@ try_relating-returns-in_err-certainty g t c =
       decided = λ s n k d can. absurd (c.requires.some d.plain);
     }
 
-pub try_relating-returns : goal.try_relating-returns
-try_relating-returns g t c =
+pub candidates::try_relating-returns : goal.candidates::try_relating-returns
+candidates::try_relating-returns g t c =
     let b = c.in_ok-begun.ensures in
     let begins = b.begins in
     let e = posed_steps (rules_of g.H.GoalHandler.ready g.H.GoalHandler.handler c.args.handler.now) c.begin_relating.new.cx c.pose_asked.new.cx c.try_evaluate_goals.new.cx _ _ c.begin_relating.new.table c.pose_asked.new.table c.try_evaluate_goals.new.table c.args.table.now.mode _ c.in_ok-begun.begun.goals.items _ _ _ _ _ _ _ b.runs.goes.mode c.pose_asked.ensures.runs c.in_ok-kept.ensures.asks (search_grows c.args.depth c.args.depth (omega arith) c.requires.search (ran b.runs)) c.terms_are_formed.ensures c.terms_are_formed-2.ensures begins.posed c.in_ok-certainty.ensures in
@@ -184,8 +184,8 @@ try_relating-returns g t c =
       decided = λ s n k d can. absurd (c.requires.some d.plain);
     }
 
-pub try_relating-returns-in_err-kept : goal.try_relating-returns-in_err-kept
-try_relating-returns-in_err-kept g t c =
+pub candidates::try_relating-returns-in_err-kept : goal.candidates::try_relating-returns-in_err-kept
+candidates::try_relating-returns-in_err-kept g t c =
     let b = c.in_ok-begun.ensures in
     let fails : is_err c.from_residual-in_err-kept.result ≡ true = search rules in
     record {
@@ -198,8 +198,8 @@ try_relating-returns-in_err-kept g t c =
       decided = λ s n k d can. absurd (c.requires.some d.plain);
     }
 
-pub try_relating-pose_asked-requires : goal.try_relating-pose_asked-requires
-try_relating-pose_asked-requires g t c =
+pub candidates::try_relating-pose_asked-requires : goal.candidates::try_relating-pose_asked-requires
+candidates::try_relating-pose_asked-requires g t c =
     let b = c.in_ok-begun.ensures in
     let begins = b.begins in
     let goal = IsPosed-later b.runs.goes c.requires.posed in

@@ -30,7 +30,7 @@ use Rattle.nts_certainty.specs.declared.sources.GoalSource.TheVariants as source
 use Rattle.nts_store.specs.declared.fault.EvalError.TheVariants as EvalError
 use Rattle.std.specs.Result.{is_err}
 use Rattle.std.proofs.lemmas.Result.{IfOk-from_err}
-use Rattle.nts_evaluation.proofs.evaluate.+evaluate.Goals.{search-then-graph, search-else-graph}
+use Rattle.nts_evaluation.proofs.evaluate.+evaluate.Goals.{queries::search-then-graph, queries::search-else-graph}
 use Rattle.nts_evaluation.specs.Counting.{AsksOnce, AsksEach}
 use Rattle.nts_evaluation.specs.Counting.AsksEach.{asks_none}
 use Rattle.nts_evaluation.specs.Counting.MakesSteps.{no_step, then_steps}
@@ -41,8 +41,8 @@ use Rattle.nts_evaluation.proofs.DecidedSteps.{next_goal, at_end, step_decided}
 use Rattle.nts_trying.specs.Stepping.{left_after}
 use Rattle.nts_evaluation.proofs.evaluate.+evaluate.Goals as goal
 
-pub evaluate_added-evaluate_goal-requires : goal.evaluate_added-evaluate_goal-requires
-evaluate_added-evaluate_goal-requires g t c =
+pub steps::evaluate_added-evaluate_goal-requires : goal.steps::evaluate_added-evaluate_goal-requires
+steps::evaluate_added-evaluate_goal-requires g t c =
     λ κs k-1.
     let k = c.in_ok-asked.ensures in
     let less : c.in-Some-next.below + 1 ≤ bound_of c.args.depth = omega (arith, c.in-Some-next.ensures.within) in (
@@ -59,8 +59,8 @@ evaluate_added-evaluate_goal-requires g t c =
       ),
     )
 
-pub evaluate_added-returns-in_err-asked : goal.evaluate_added-returns-in_err-asked
-evaluate_added-returns-in_err-asked g t c =
+pub steps::evaluate_added-returns-in_err-asked : goal.steps::evaluate_added-returns-in_err-asked
+steps::evaluate_added-returns-in_err-asked g t c =
     let fails : is_err c.from_residual.result ≡ true = search rules in
     record {
       runs = Runs-extends c.requires.posed.table c.resolve_goal.ensures.grows.extends c.resolve_goal.ensures.grows.rest;
@@ -74,8 +74,8 @@ evaluate_added-returns-in_err-asked g t c =
       decided = λ s n b d can. decides_fault c.from_residual.result (search rules) (search rules);
     }
 
-pub evaluate_added-returns-in-Some : goal.evaluate_added-returns-in-Some
-evaluate_added-returns-in-Some g t c =
+pub steps::evaluate_added-returns-in-Some : goal.steps::evaluate_added-returns-in-Some
+steps::evaluate_added-returns-in-Some g t c =
     let k = c.in_ok-asked.ensures in
     let up = k.grows.extends in
     let p = c.requires.posed in
@@ -102,8 +102,8 @@ evaluate_added-returns-in-Some g t c =
           record { answer = (x.0, (x.1, refl)); search = same_search _ });
     }
 
-pub evaluate_added-returns-in-None : goal.evaluate_added-returns-in-None
-evaluate_added-returns-in-None g t c =
+pub steps::evaluate_added-returns-in-None : goal.steps::evaluate_added-returns-in-None
+steps::evaluate_added-returns-in-None g t c =
     let k = c.in_ok-asked.ensures in
     let up = k.grows.extends in
     let p = c.requires.posed in
@@ -119,8 +119,8 @@ evaluate_added-returns-in-None g t c =
       decided = λ s n b d can. absurd (let none = c.next.ensures.too_deep.0 (search rules) in omega (arith, none, can.deep, d.1));
     }
 
-pub evaluate_added-returns-in-Some-next : goal.evaluate_added-returns-in-Some-next
-evaluate_added-returns-in-Some-next g t c =
+pub steps::evaluate_added-returns-in-Some-next : goal.steps::evaluate_added-returns-in-Some-next
+steps::evaluate_added-returns-in-Some-next g t c =
     let k = c.in_ok-asked.ensures in
     let e = c.evaluate_goal.ensures in
     let p = c.requires.posed in
@@ -146,8 +146,8 @@ evaluate_added-returns-in-Some-next g t c =
           c.evaluate_goal.ensures.decided (Since-later k.grows s) n b (d.0, d.1, rw (k.env, k.predicate) d.2) (decides_later n (c.in-Some-next.below + 1) c.requires.search k.grows (same_search _) (omega arith) (omega (arith, depth, can.deep)) can);
     }
 
-pub evaluate_step-evaluate_added-requires : goal.evaluate_step-evaluate_added-requires
-evaluate_step-evaluate_added-requires g t c = λ κs k.
+pub steps::evaluate_step-evaluate_added-requires : goal.steps::evaluate_step-evaluate_added-requires
+steps::evaluate_step-evaluate_added-requires g t c = λ κs k.
     let i = c.loop-added.invariant in (
       omega (arith, c.decreases),
       (
@@ -162,8 +162,8 @@ evaluate_step-evaluate_added-requires g t c = λ κs k.
       ),
     )
 
-pub evaluate_step-loop-added-init : goal.evaluate_step-loop-added-init
-evaluate_step-loop-added-init g t c = record {
+pub steps::evaluate_step-loop-added-init : goal.steps::evaluate_step-loop-added-init
+steps::evaluate_step-loop-added-init g t c = record {
   runs = Runs-refl c.requires.table;
   searches = Searches-refl (bound_of c.args.depth) c.requires.search (record { extends = Extends-refl _; rest = KeepsRest-refl _ });
   left = subst (AreLeft []) (sym c.new-step.ensures.left) none_left;
@@ -175,8 +175,8 @@ evaluate_step-loop-added-init g t c = record {
   decided = λ s n b here can. record { rest = here.decided; left = c.new-step.ensures.left; certain = c.new-step.ensures.certainty; unchanged = c.new-step.ensures.unchanged; search = same_search _ };
 }
 
-pub evaluate_step-loop-added-preserved : goal.evaluate_step-loop-added-preserved
-evaluate_step-loop-added-preserved g t c =
+pub steps::evaluate_step-loop-added-preserved : goal.steps::evaluate_step-loop-added-preserved
+steps::evaluate_step-loop-added-preserved g t c =
     let i = c.loop-added.invariant in
     let e = c.in_ok-answer.ensures in
     let n = c.in_ok-note.ensures in
@@ -213,8 +213,8 @@ evaluate_step-loop-added-preserved g t c =
           };
     }
 
-pub evaluate_step-returns : goal.evaluate_step-returns
-evaluate_step-returns g t c =
+pub steps::evaluate_step-returns : goal.steps::evaluate_step-returns
+steps::evaluate_step-returns g t c =
     record {
       runs = search rules;
       searches = search rules;
@@ -231,8 +231,8 @@ evaluate_step-returns g t c =
           record { answer = (at_end (g.H.GoalHandler.handler s.base c.args.handler.now) m c.args.cx.now.nodes c.args.table.now c.args.goals.now c.loop-added.added-index b (omega (arith, c.loop-added-test.false)) x.rest, (x.certain, x.unchanged)); search = x.search };
     }
 
-pub evaluate_step-returns-in_err-answer : goal.evaluate_step-returns-in_err-answer
-evaluate_step-returns-in_err-answer g t c =
+pub steps::evaluate_step-returns-in_err-answer : goal.steps::evaluate_step-returns-in_err-answer
+steps::evaluate_step-returns-in_err-answer g t c =
     let i = c.loop-added.invariant in
     let fails : is_err c.from_residual.result ≡ true = search rules in
     record {
@@ -258,8 +258,8 @@ evaluate_step-returns-in_err-answer g t c =
           decides_then before.search (decides_error c.evaluate_added.result c.from_residual.result fails (λ no. (search rules)) next.no (c.evaluate_added.ensures.decided (Since-later (ran i.runs) s) m next.answer next.below there));
     }
 
-pub evaluate_step-returns-in_err-note : goal.evaluate_step-returns-in_err-note
-evaluate_step-returns-in_err-note g t c =
+pub steps::evaluate_step-returns-in_err-note : goal.steps::evaluate_step-returns-in_err-note
+steps::evaluate_step-returns-in_err-note g t c =
     let fails : is_err c.from_residual-in_err-note.result ≡ true = search rules in
     record {
       runs = Runs-trans c.loop-added.invariant.runs c.evaluate_added.ensures.runs;
@@ -278,8 +278,8 @@ evaluate_step-returns-in_err-note g t c =
       decided = λ s m b here can. decides_fault c.from_residual-in_err-note.result fails (search rules);
     }
 
-pub try_evaluate_goals-evaluate_step-requires : goal.try_evaluate_goals-evaluate_step-requires
-try_evaluate_goals-evaluate_step-requires g t c =
+pub steps::try_evaluate_goals-evaluate_step-requires : goal.steps::try_evaluate_goals-evaluate_step-requires
+steps::try_evaluate_goals-evaluate_step-requires g t c =
     λ κs k.
     let i = c.loop-step.invariant in (
       omega (arith, c.decreases),
@@ -298,8 +298,8 @@ try_evaluate_goals-evaluate_step-requires g t c =
       ),
     )
 
-pub try_evaluate_goals-loop-step-init : goal.try_evaluate_goals-loop-step-init
-try_evaluate_goals-loop-step-init g t c = record {
+pub steps::try_evaluate_goals-loop-step-init : goal.steps::try_evaluate_goals-loop-step-init
+steps::try_evaluate_goals-loop-step-init g t c = record {
   runs = Runs-refl c.requires.table;
   searches = Searches-refl (bound_of c.args.depth) c.requires.search (record { extends = Extends-refl _; rest = KeepsRest-refl _ });
   steps = omega arith;
@@ -314,8 +314,8 @@ try_evaluate_goals-loop-step-init g t c = record {
   decided = λ s n b d can. refl;
 }
 
-pub try_evaluate_goals-loop-step-preserved : goal.try_evaluate_goals-loop-step-preserved
-try_evaluate_goals-loop-step-preserved g t c =
+pub steps::try_evaluate_goals-loop-step-preserved : goal.steps::try_evaluate_goals-loop-step-preserved
+steps::try_evaluate_goals-loop-step-preserved g t c =
     let i = c.loop-step.invariant in
     let e = c.in_ok-stepped.ensures in
     record {
@@ -345,8 +345,8 @@ try_evaluate_goals-loop-step-preserved g t c =
           absurd (let more = c.if-not-stepped.false in let off = x.answer.1.1 in let clash = rw off at more in cc clash);
     }
 
-pub try_evaluate_goals-returns : goal.try_evaluate_goals-returns
-try_evaluate_goals-returns g t c =
+pub steps::try_evaluate_goals-returns : goal.steps::try_evaluate_goals-returns
+steps::try_evaluate_goals-returns g t c =
     let i = c.loop-step.invariant in
     record {
       runs = i.runs;
@@ -363,8 +363,8 @@ try_evaluate_goals-returns g t c =
       decided = λ s n b d can. (let first = i.decided s n b d can in absurd (omega (arith, first, can.steps, c.loop-step-test.false, c.step_limit-step-end.ensures)));
     }
 
-pub try_evaluate_goals-returns-in_err-stepped : goal.try_evaluate_goals-returns-in_err-stepped
-try_evaluate_goals-returns-in_err-stepped g t c =
+pub steps::try_evaluate_goals-returns-in_err-stepped : goal.steps::try_evaluate_goals-returns-in_err-stepped
+steps::try_evaluate_goals-returns-in_err-stepped g t c =
     let i = c.loop-step.invariant in
     let fails : is_err c.from_residual.result ≡ true = search rules in
     record {
@@ -390,8 +390,8 @@ try_evaluate_goals-returns-in_err-stepped g t c =
           decides_error c.evaluate_step.result c.from_residual.result fails (λ no. (search rules)) (λ no. no) x;
     }
 
-pub try_evaluate_goals-returns-then-not-stepped : goal.try_evaluate_goals-returns-then-not-stepped
-try_evaluate_goals-returns-then-not-stepped g t c =
+pub steps::try_evaluate_goals-returns-then-not-stepped : goal.steps::try_evaluate_goals-returns-then-not-stepped
+steps::try_evaluate_goals-returns-then-not-stepped g t c =
     let i = c.loop-step.invariant in
     let e = c.in_ok-stepped.ensures in
     record {

@@ -41,8 +41,8 @@ use Rattle.nts_evaluation.proofs.Failing.{subtype_failed}
 use Rattle.nts_evaluation.proofs.SubtypesLeft.{joined_content, joined_leaves, joined_brings, joined_these, untouched_content, undone_brings, left_posed, left_leaves, left_brings, left_held, subtypes_more}
 use Rattle.nts_evaluation.proofs.evaluate.+evaluate.Goals as goal
 
-pub compute_goal-evaluate_subtype-response-requires : goal.compute_goal-evaluate_subtype-response-requires
-compute_goal-evaluate_subtype-response-requires g t c = λ κs k.
+pub rows::compute_goal-evaluate_subtype-response-requires : goal.rows::compute_goal-evaluate_subtype-response-requires
+rows::compute_goal-evaluate_subtype-response-requires g t c = λ κs k.
     let o = c.in_ok-opened.ensures in (
       omega (arith, c.decreases),
       (
@@ -63,8 +63,8 @@ compute_goal-evaluate_subtype-response-requires g t c = λ κs k.
       ),
     )
 
-pub compute_goal-returns-in-Subtype : goal.compute_goal-returns-in-Subtype
-compute_goal-returns-in-Subtype g t c =
+pub rows::compute_goal-returns-in-Subtype : goal.rows::compute_goal-returns-in-Subtype
+rows::compute_goal-returns-in-Subtype g t c =
     let o = c.in_ok-opened.ensures in
     let r = c.evaluate_subtype-response.ensures in
     let opened = rw c.in-Subtype.ensures.0 at o.opened in
@@ -109,12 +109,12 @@ compute_goal-returns-in-Subtype g t c =
           absurd (before.not_asked asked);
     }
 
-pub evaluate_subtype-returns-in_err-snapshot : goal.evaluate_subtype-returns-in_err-snapshot
-evaluate_subtype-returns-in_err-snapshot g t c =
+pub rows::evaluate_subtype-returns-in_err-snapshot : goal.rows::evaluate_subtype-returns-in_err-snapshot
+rows::evaluate_subtype-returns-in_err-snapshot g t c =
     subtype_failed c.from_residual.result (search rules) (search rules) (search rules) (Searches-refl c.args.depth c.requires.search (record { extends = Extends-refl _; rest = KeepsRest-refl _ }))
 
-pub evaluate_subtype-returns-in_err-left : goal.evaluate_subtype-returns-in_err-left
-evaluate_subtype-returns-in_err-left g t c =
+pub rows::evaluate_subtype-returns-in_err-left : goal.rows::evaluate_subtype-returns-in_err-left
+rows::evaluate_subtype-returns-in_err-left g t c =
     let o = c.in_ok-snapshot.ensures in
     let r = c.relate_types.ensures in
     let fails : is_err c.from_residual-in_err-left.result ≡ true = search rules in
@@ -130,21 +130,21 @@ evaluate_subtype-returns-in_err-left g t c =
       joined = λ n m v outside. IfOk-from_err c.from_residual-in_err-left.result _ fails;
     }
 
-pub evaluate_subtype-boxed_response-requires-clause-values : goal.evaluate_subtype-boxed_response-requires-clause-values
-evaluate_subtype-boxed_response-requires-clause-values g t c =
+pub rows::evaluate_subtype-boxed_response-requires-clause-values : goal.rows::evaluate_subtype-boxed_response-requires-clause-values
+rows::evaluate_subtype-boxed_response-requires-clause-values g t c =
     let p = c.requires.posed in
     let o = c.in_ok-snapshot.ensures in
     let r = c.in_ok-left.ensures in
     let went = went_in p.table o.entries o.saved o.mode r.runs.goes in
     args_later c.args.cx.now.nodes c.relate_types.new.cx.nodes c.args.table.now.entries c.relate_types.new.table.entries c.args.values.now went.extends went.continues c.requires.values
 
-pub evaluate_subtype-returns-in_err-joined : goal.evaluate_subtype-returns-in_err-joined
-evaluate_subtype-returns-in_err-joined g t c =
+pub rows::evaluate_subtype-returns-in_err-joined : goal.rows::evaluate_subtype-returns-in_err-joined
+rows::evaluate_subtype-returns-in_err-joined g t c =
     let r = c.in_ok-left.ensures in
     subtype_failed c.from_residual-in_err-joined.result (search rules) (search rules) (search rules) (Searches-refl c.args.depth c.requires.search (grown (ran r.runs) c.boxed_response.ensures.grows))
 
-pub evaluate_subtype-returns-in_default : goal.evaluate_subtype-returns-in_default
-evaluate_subtype-returns-in_default g t c =
+pub rows::evaluate_subtype-returns-in_default : goal.rows::evaluate_subtype-returns-in_default
+rows::evaluate_subtype-returns-in_default g t c =
     let p = c.requires.posed in
     let o = c.in_ok-snapshot.ensures in
     let r = c.in_ok-left.ensures in
@@ -190,8 +190,8 @@ evaluate_subtype-returns-in_default g t c =
           (λ x. record { after = u.entries; joins = rw o.entries at (joined_these a b snap u types table up x.joins n k (rw o.entries v)); doubt = m.certainty; says = subst (λ z. IsPlainResponse z (trees_of a.nodes c.args.values.now) reply) (joined_content a b snap u types table up x.joins) plain }) undone;
     }
 
-pub evaluate_subtype-try_evaluate_goals-requires : goal.evaluate_subtype-try_evaluate_goals-requires
-evaluate_subtype-try_evaluate_goals-requires g t c = λ κs k.
+pub rows::evaluate_subtype-try_evaluate_goals-requires : goal.rows::evaluate_subtype-try_evaluate_goals-requires
+rows::evaluate_subtype-try_evaluate_goals-requires g t c = λ κs k.
     let p = c.requires.posed in
     let o = c.in_ok-snapshot.ensures in
     let r = c.in_ok-left.ensures in
@@ -217,8 +217,8 @@ evaluate_subtype-try_evaluate_goals-requires g t c = λ κs k.
       ),
     )
 
-pub evaluate_subtype-returns-in_err-certainty : goal.evaluate_subtype-returns-in_err-certainty
-evaluate_subtype-returns-in_err-certainty g t c =
+pub rows::evaluate_subtype-returns-in_err-certainty : goal.rows::evaluate_subtype-returns-in_err-certainty
+rows::evaluate_subtype-returns-in_err-certainty g t c =
     let p = c.requires.posed in
     let o = c.in_ok-snapshot.ensures in
     let r = c.in_ok-left.ensures in
@@ -251,22 +251,22 @@ evaluate_subtype-returns-in_err-certainty g t c =
       joined = λ n k v outside. IfOk-from_err c.from_residual-in_err-certainty.result _ fails;
     }
 
-pub evaluate_subtype-boxed_response-requires-then-keeps_constraints-clause-values : goal.evaluate_subtype-boxed_response-requires-then-keeps_constraints-clause-values
-evaluate_subtype-boxed_response-requires-then-keeps_constraints-clause-values g t c =
+pub rows::evaluate_subtype-boxed_response-requires-then-keeps_constraints-clause-values : goal.rows::evaluate_subtype-boxed_response-requires-then-keeps_constraints-clause-values
+rows::evaluate_subtype-boxed_response-requires-then-keeps_constraints-clause-values g t c =
     let p = c.requires.posed in
     let o = c.in_ok-snapshot.ensures in
     let all = Runs-trans c.in_ok-left.ensures.runs c.in_ok-certainty.ensures.runs in
     let went = went_in p.table o.entries o.saved o.mode all.goes in
     args_later c.args.cx.now.nodes c.try_evaluate_goals.new.cx.nodes c.args.table.now.entries c.try_evaluate_goals.new.table.entries c.args.values.now went.extends went.continues c.requires.values
 
-pub evaluate_subtype-returns-in_err-response : goal.evaluate_subtype-returns-in_err-response
-evaluate_subtype-returns-in_err-response g t c =
+pub rows::evaluate_subtype-returns-in_err-response : goal.rows::evaluate_subtype-returns-in_err-response
+rows::evaluate_subtype-returns-in_err-response g t c =
     let r = c.in_ok-left.ensures in
     let e = c.in_ok-certainty.ensures in
     subtype_failed c.from_residual-in_err-response.result (search rules) (search rules) (search rules) (search_grown c.args.depth c.requires.search (search_then c.args.depth c.requires.search (ran r.runs) e.searches) c.boxed_response-then-keeps_constraints.ensures.grows)
 
-pub evaluate_subtype-returns-then-keeps_constraints : goal.evaluate_subtype-returns-then-keeps_constraints
-evaluate_subtype-returns-then-keeps_constraints g t c =
+pub rows::evaluate_subtype-returns-then-keeps_constraints : goal.rows::evaluate_subtype-returns-then-keeps_constraints
+rows::evaluate_subtype-returns-then-keeps_constraints g t c =
     let p = c.requires.posed in
     let o = c.in_ok-snapshot.ensures in
     let r = c.in_ok-left.ensures in
@@ -315,8 +315,8 @@ evaluate_subtype-returns-then-keeps_constraints g t c =
       joined = λ n k these outside. absurd (left.apart n k (rw o.entries these));
     }
 
-pub evaluate_subtype-boxed_response-requires-2-clause-values : goal.evaluate_subtype-boxed_response-requires-2-clause-values
-evaluate_subtype-boxed_response-requires-2-clause-values g t c =
+pub rows::evaluate_subtype-boxed_response-requires-2-clause-values : goal.rows::evaluate_subtype-boxed_response-requires-2-clause-values
+rows::evaluate_subtype-boxed_response-requires-2-clause-values g t c =
     let p = c.requires.posed in
     let o = c.in_ok-snapshot.ensures in
     let all = Runs-trans c.in_ok-left.ensures.runs c.in_ok-certainty.ensures.runs in
@@ -324,14 +324,14 @@ evaluate_subtype-boxed_response-requires-2-clause-values g t c =
     let goes = goes-back p.table all.goes.extends back in
     args_later c.args.cx.now.nodes c.try_evaluate_goals.new.cx.nodes c.args.table.now.entries c.rollback_to.new.self.entries c.args.values.now goes.extends goes.continues c.requires.values
 
-pub evaluate_subtype-returns-in_err-response-2 : goal.evaluate_subtype-returns-in_err-response-2
-evaluate_subtype-returns-in_err-response-2 g t c =
+pub rows::evaluate_subtype-returns-in_err-response-2 : goal.rows::evaluate_subtype-returns-in_err-response-2
+rows::evaluate_subtype-returns-in_err-response-2 g t c =
     let r = c.in_ok-left.ensures in
     let e = c.in_ok-certainty.ensures in
     subtype_failed c.from_residual-in_err-response-2.result (search rules) (search rules) (search rules) (search_grown c.args.depth c.requires.search (search_then c.args.depth c.requires.search (ran r.runs) e.searches) c.boxed_response-2.ensures.grows)
 
-pub evaluate_subtype-returns : goal.evaluate_subtype-returns
-evaluate_subtype-returns g t c =
+pub rows::evaluate_subtype-returns : goal.rows::evaluate_subtype-returns
+rows::evaluate_subtype-returns g t c =
     let p = c.requires.posed in
     let o = c.in_ok-snapshot.ensures in
     let r = c.in_ok-left.ensures in
