@@ -95,6 +95,7 @@ pub fn end_round(
 pub fn last_answer(alloc: Global, ended: Box<Ended>) -> Result<Box<CanonicalResponse>, EvalError>
     ensures some { (r : _) → ended.value.answer ≡ Some r → IsBoxed r result }
     ensures none { ended.value.answer ≡ None → result ≡ Err EvalError.NoSolution }
+    ensures full { result ≢ Err EvalError.Full }
 {
     let Ended { answer, entry: _ } = Box::into_inner(ended);
     answer_of(alloc, answer)

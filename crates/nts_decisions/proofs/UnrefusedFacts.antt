@@ -187,11 +187,10 @@ module _ (Q : Queries) (h : Handler) (law : IsLawfulHandler h) (mode : Mode) (ti
     never_fails : {k : GoalKind} {e : Tree} → Fails Q h mode k q e y → ⊥
     never_fails (is_unmet n) = n (plain_met q y is_met)
     never_fails (has_types_apart a) = apart_unmet q y a is_met
-    never_fails (is_unrelated outside n) = n.some is_plain
+    never_fails (is_unrelated n) = n.some is_plain
     never_fails {k} (is_refused ps gs met posed (inl (values, in_one, begun, same)) poses refused) = no_refusal Q h mode posed k gs (no_goals_posed mode k met posed ps gs poses (same ∙ none_with values y.goals no_goals)) refused
     never_fails (is_refused ps gs met posed (inr (inl (outside, begun))) poses refused) = begun.some is_plain
-    never_fails (is_refused ps gs met posed (inr (inr (inside, inl begun))) poses refused) = begun.some is_plain
-    never_fails (is_refused ps gs met posed (inr (inr (inside, inr begun))) poses refused) = (let b = begun.begun in b.some is_plain)
+    never_fails (is_refused ps gs met posed (inr (inr (inside, begun))) poses refused) = (let b = begun.begun in b.some is_plain)
     never_fails (is_leaky ps gs met posed found begun poses reach leaks) = tight found 0 leaks
 
     -- and what it replies is so in the caller's world
@@ -205,8 +204,7 @@ module _ (Q : Queries) (h : Handler) (law : IsLawfulHandler h) (mode : Mode) (ti
 
     fact_replies : (v : Verdict) → Replies Q h mode q e' g' (map leaf_tree u) y v → ContainsMerged v.response ts
     fact_replies v (replies ps gs met posed found (inr (inl (outside, begun))) poses reach is says) = absurd (begun.some is_plain)
-    fact_replies v (replies ps gs met posed found (inr (inr (inside, inl begun))) poses reach is says) = absurd (begun.some is_plain)
-    fact_replies v (replies ps gs met posed found (inr (inr (inside, inr begun))) poses reach is says) = absurd (let b = begun.begun in b.some is_plain)
+    fact_replies v (replies ps gs met posed found (inr (inr (inside, begun))) poses reach is says) = absurd (let b = begun.begun in b.some is_plain)
     fact_replies v (replies ps gs met posed found (inl (values, in_one, begun, are)) poses reach is says) =
         let n = entered in
         let b = begun_there q n.world n.solves e' g' first.knows y over us fit one named equal proper values met begun (map leaf_tree u) ts (tried_knows (canonical_of i).kinds q e' g' (map leaf_tree u) is_tried) n.images in

@@ -154,6 +154,7 @@ opened_next e g = if binds g then blurred (unbound (opened (placeholder_in (suc 
 -- Environment and goal are blurred, and the goals of candidates too.
 mutual
   -- the goal is yes, or no; the number is its height: the most goals above a goal of the tree that decides it. What a goal says of a
+  -- region is yes; one that the handler judges is as it is judged, and one with one way is as that way is
   pub data IsDecided (h : Handler) (mode : Mode) (e : Tree) : ℕ → Tree → Bool → Type 0 where
     by_candidates : {n : ℕ} {g : Tree} {b : Bool} (xs : List Candidate) → IsPlainGoal e (opened_next e g) → IsUniform h mode e (opened_next e g) xs
         → OneHolds h mode e n xs b → IsDecided h mode e n g b

@@ -54,7 +54,7 @@ plain_later a b g x y env predicate same p = rw same (record { offered = rw (env
 ran_plainly : (h : Ruling) (s : Table) (a b : List Tree) (u : Table) (g : Goal) (x : CandidateData) → IsPlainCandidate a g (candidate_of a x) → (run : HasRunTo h s.mode a s b u g x)
     → (vs : List Tree) × IsBegun (content_of a s.entries) (candidate_of a x) vs run.met × (run.left ≡ goals_with vs (let y = candidate_of a x in y.goals))
 ran_plainly h s a b u g x p run =
-    ⊎_elim (λ w. (w.0, w.2, w.3)) (λ w. absurd (⊎_elim (λ v. (let r = v.1 in r.some p.plain)) (λ v. ⊎_elim (λ r. r.some p.plain) (λ o. (let r = o.begun in r.some p.plain)) v.1) w)) run.begun
+    ⊎_elim (λ w. (w.0, w.2, w.3)) (λ w. absurd (⊎_elim (λ v. (let r = v.1 in r.some p.plain)) (λ v. (let o = v.1 in let r = o.begun in r.some p.plain)) w)) run.begun
 
 -- the response of the table that such a candidate left
 pub over_after : (h : Ruling) (s t u : Table) {a b : List Tree} (e : List Tree) (x : CandidateData) (g : Goal) (qs : List GenericArg) (r : Canonical Response) → HasRunTo h s.mode a s b u g x → s.entries ≡ t.entries

@@ -8,8 +8,6 @@ ghost use Rattle.nts_theory.specs.RelatingCandidates.{HasPlainEquations};
 ghost use Rattle.nts_unify.specs.Reading.{content_of};
 ghost use Rattle.nts_certainty.specs.declared.reruns.RerunCondition.TheVariants.{Never};
 ghost use Rattle.nts_certainty.specs.declared.certainty.Certainty.TheVariants as certainty;
-ghost use Rattle.nts_certainty.specs.Certainties.{ambiguous};
-ghost use Rattle.nts_candidates.specs.declared.reasons.Reason.TheVariants.{Holds};
 ghost use Rattle.nts_delegate.specs.Candidates.{IsCandidate};
 ghost use Rattle.nts_candidates.specs.HeldReasons.{HoldsReason};
 ghost use Rattle.nts_candidates.specs.Offered.{candidate_of};
@@ -20,9 +18,7 @@ use crate::candidates::checked;
 use crate::conditions::ask_conditions;
 use nts_certainty::{Certainty, RerunCondition};
 use nts_delegate::{CandidateData, GoalHandler, Reason};
-use nts_evaluation::nts_trying::{
-    begin_in_part, begin_relating, equate, goal_kind, may_ask, may_relate, needs_relating,
-};
+use nts_evaluation::nts_trying::{begin_relating, equate, goal_kind, may_ask, needs_relating};
 use nts_store::EvalError;
 use nts_table::InferCtxt;
 use nts_terms::{Cx, Goal};
@@ -78,9 +74,6 @@ fn try_relating<H: GoalHandler>(
         (candidate_of cx.old.nodes candidate.now))) }
     ensures holds { IfOk result (λ o. IfSome o (HoldsReason cx.new.nodes)) }
 {
-    if !may_relate(cx, table.typing_mode(), goal, candidate) {
-        return doubted(table, cx, goal, candidate);
-    }
     let kind = goal_kind(cx, handler, goal);
     let begun = match begin_relating(table, cx, goal, candidate) {
         Ok(begun) => begun,
@@ -94,29 +87,6 @@ fn try_relating<H: GoalHandler>(
     let outcome = ask_conditions(table, cx, handler, kind, &goals)?;
     let reason = checked(table, cx, handler, &goals, candidate.certainty, outcome)?;
     Ok(Some(reason))
-}
-
-/// A candidate that is in doubt in coherence, since aliases stand on both sides of an equation; or `None` where its other equations can't
-/// be met.
-fn doubted(
-    table: &mut InferCtxt,
-    cx: &mut Cx,
-    goal: Goal,
-    candidate: &CandidateData,
-) -> Result<Option<Reason>, EvalError>
-    requires posed { IsPosed cx.old.nodes table.old goal }
-    requires candidate { IsCandidate cx.old.nodes goal candidate.now }
-    requires some { HasPlainEquations (candidate_of cx.old.nodes candidate.now) → ⊥ }
-    ensures runs { Runs cx.old cx.new table.old table.new }
-    ensures unbegun { IfOk result (λ o. IsNone o → CannotBegin (variances_in cx.old.declarations)
-        (content_of cx.old.nodes table.old.entries) (candidate_of cx.old.nodes candidate.now)) }
-    ensures doubt { IfOk result (λ o. IfSome o (λ r. r ≡ Holds ambiguous)) }
-{
-    match begin_in_part(table, cx, goal, candidate) {
-        Ok(certainty) => Ok(Some(Reason::Holds(certainty))),
-        Err(EvalError::NoSolution) => Ok(None),
-        Err(error) => Err(error),
-    }
 }
 
 /// Of a candidate that can't be begun, the first equation with which, and with those before it, it can't. The table is as before.

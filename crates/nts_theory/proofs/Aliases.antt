@@ -1,5 +1,5 @@
--- Goals that hold aliases, goals of the engine's own kinds, and relating by settled proofs. They wait for aliases in the evaluation:
--- no call promises them yet.
+-- Goals that hold aliases, goals of the engine's own kinds, and relating by settled proofs. What is said of goals that are left open
+-- waits: no call promises it yet.
 pub mod ByParts
 pub mod ByRelating
 pub mod ChosenValues

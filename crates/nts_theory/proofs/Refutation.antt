@@ -6,8 +6,10 @@ pub mod Responding
 pub mod Agreeing
 pub mod Trying
 pub mod Covering
+pub mod Covered
 pub mod OfferMeeting
 pub mod Equating
+pub mod EquatingBoth
 pub mod Entering
 pub mod Carriers
 pub mod WithValues
@@ -32,7 +34,8 @@ pub mod PlainTerms
 pub mod Begun
 pub mod OneSided
 pub mod AskedGoals
-pub mod Turned
+pub mod Joined
+pub mod Together
 pub mod Matched
 pub mod Posed
 pub mod PosedGoals

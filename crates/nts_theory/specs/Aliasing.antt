@@ -1,8 +1,8 @@
 -- Goals that an alias is equal to a term, or that the one is a subtype of the other: they hold where the alias normalizes to the
 -- term, or, if that is an alias too, where both normalize to one. Of a subtype it is enough that what they normalize to is one.
 use Rattle.std.specs.Prelude.{◌≡◌, ◌⊎◌, true, Some, List, [], ◌∷◌, ◌++◌, false}
+use Rattle.nts_model.specs.declared.labels.Sort.{Sort}
 use Rattle.nts_model.specs.declared.labels.Sort.TheVariants as sort
-use Rattle.nts_model.specs.declared.labels.VariableKind.{VariableKind}
 use Rattle.nts_model.specs.declared.labels.VariableKind.TheVariants as variable
 use Rattle.nts_model.specs.declared.labels.Variance.TheVariants as variance
 use Rattle.nts_model.specs.declared.labels.AliasRelationDirection.{AliasRelationDirection}
@@ -15,6 +15,7 @@ use Rattle.nts_model.specs.Answers.Applying.{IsNew}
 use Rattle.nts_model.specs.Derivations.Related.{pair, unbound, subtype_goal, IsAlias}
 use Rattle.nts_model.specs.Derivations.Sequents.{Premise}
 use Rattle.nts_model.specs.Derivations.Rules.{relating, normalization_goal}
+use Rattle.nts_model.specs.Derivations.Handlers.{kind_of_sort}
 
 -- that two terms are equal, or that the first is a subtype of the second
 abbrev pub alias_relation : AliasRelationDirection → Tree → Tree → Tree
@@ -60,10 +61,21 @@ pub record NormalizesBoth (c d : Content) (e g : Tree) (ps : List Premise) : Typ
   pub right : Tree
   pub is : EquatesAliases g left right
   pub variable : Tree
-  pub kind : VariableKind
-  pub new : IsNew c d kind c.universe variable
+  pub its_sort : Sort
+  pub new : IsNew c d (kind_of_sort its_sort) c.universe variable
   pub of_kind : kind_of variable ≡ kind_of left
   pub premises : (let x = is.left in let y = is.right in ps ≡ relating e (normalization_goal x.head x.parts variable) ∷ relating e (normalization_goal y.head y.parts variable) ∷ [])
+
+-- a goal says that two aliases of one kind are equal
+pub record IsAliasEquality (g : Tree) : Type 0 where
+  pub left : Tree
+  pub right : Tree
+  pub is : EquatesAliases g left right
+  pub equal : is.by ≡ direction.Equate
+
+-- a goal says that an alias is equal to a term in which no alias stands, or to another alias
+abbrev pub SaysEqual : Tree → Type 0
+SaysEqual g = IsPlainEquality g ⊎ IsAliasEquality g
 
 -- what is left of a goal by which the two are one
 abbrev pub NormalizesSides : Content → Content → Tree → Tree → List Premise → Type 0

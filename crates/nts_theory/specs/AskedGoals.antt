@@ -1,6 +1,6 @@
 -- Which goals of a candidate are asked. What rules of a handler say of a trait, or of an alias with arguments, has terms in place of its
 -- aliases where it is a goal of a candidate. In coherence, where a no says that nothing of that kind is proved, it is not asked as it
--- stands: it is left out if an alias stands in it, and then the candidate is in doubt.
+-- stands: variables take the places of its aliases first (Posing), and it is left out if one stays; then the candidate is in doubt.
 use Rattle.std.specs.Prelude.{◌&&◌, ◌||◌, Bool, true, false, not, if◌then◌else◌, List, [], ◌∷◌}
 use Rattle.nts_model.specs.declared.labels.ClauseHead.TheVariants as clause
 use Rattle.nts_model.specs.declared.labels.Label.TheVariants as label

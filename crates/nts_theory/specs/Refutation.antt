@@ -1,2 +1,2 @@
--- What is refuted in coherence. It waits: no call promises it yet.
+-- What is refuted in coherence, by the calls at the root (`none`, `keeps`).
 pub mod Refutation

@@ -1,5 +1,5 @@
 -- Candidates whose equations have aliases: such equations are related, which leaves goals, once the others were made equal. In coherence
--- that is so where an alias stands on one side of each alone, and else they are left alone, and the candidate is in doubt.
+-- these are asked if each says that an alias is equal to a term without aliases, or to an alias; else the candidate is in doubt.
 use Rattle.std.specs.Prelude.{◌≡◌, ◌⊎◌, ◌&&◌, ◌||◌, ℕ, Bool, true, false, if◌then◌else◌, Option, Some, List, [], ◌∷◌, ◌++◌, map}
 use Rattle.nts_model.specs.declared.labels.Variance.{Variance}
 use Rattle.nts_model.specs.declared.labels.Variance.TheVariants as variance
@@ -25,7 +25,7 @@ use Rattle.nts_variance_model.specs.Variances.AnsweredGoals.{RelatedUnder}
 use Rattle.nts_variance_model.specs.Variances.Leaving.{Refuses}
 use Rattle.nts_variance_model.specs.Variances.RelatingBy.{AreGoalsOf}
 use Rattle.nts_theory.specs.Subtyping.{LeavesGoals}
-use Rattle.nts_theory.specs.Aliasing.{IsPlainEquality}
+use Rattle.nts_theory.specs.Aliasing.{SaysEqual}
 use Rattle.nts_theory.specs.Posing.{TakesValues}
 
 -- in coherence an inductive cycle is in doubt, and elsewhere it has no solution; there alone subtypes are related
@@ -91,23 +91,13 @@ pub record IsBegunByRelating (declared : ℕ → List Variance) (c : Content) (e
   pub of_pairs : AreGoalsOf pairs goals
   pub premises : ps ≡ map (relating e) goals ++ goals_with values x.goals
 
--- no alias stands on one of the sides of an equation
-abbrev pub HasOnePlainSide : Equation → Type 0
-HasOnePlainSide q = (any_label is_alias (left_of q) ≡ false) ⊎ (any_label is_alias (right_of q) ≡ false)
-
--- .. of each that relates aliases
-abbrev pub HasOneSidedEquations : Candidate → Type 0
-HasOneSidedEquations x = (q : Equation) → Among (aliased_equations x.equations) q → HasOnePlainSide q
-
--- goals of a table that say each that an alias is equal to a term in which no alias stands
+-- goals of a table that say each that an alias is equal to a term in which no alias stands, or to another alias
 pub record AreEqualities (c : Content) (gs : List Tree) : Type 0 where
-  pub equal : (g : Tree) → Among gs g → IsPlainEquality g
+  pub equal : (g : Tree) → Among gs g → SaysEqual g
   pub knows : (g : Tree) → Among gs g → Knows c g
 
--- the equations with aliases of such a candidate were related, and the goals which that left are asked if they say each that an alias is
--- equal to a term
-pub record IsBegunByOneSide (declared : ℕ → List Variance) (c : Content) (e : Tree) (x : Candidate) (met : Content) (ps : List Premise) : Type 0 where
-  pub sides : HasOneSidedEquations x
+-- the equations of a candidate with aliases were related, and the goals which that left are asked if they are such equalities
+pub record IsBegunByEqualities (declared : ℕ → List Variance) (c : Content) (e : Tree) (x : Candidate) (met : Content) (ps : List Premise) : Type 0 where
   pub all : List Premise
   pub begun : IsBegunByRelating declared c e x met all
   pub continues : Continues begun.before met
@@ -142,22 +132,11 @@ pub record HasTypesApart (x : Candidate) : Type 0 where
 abbrev pub IsBegunPlainly : Content → Candidate → Content → List Premise → Type 0
 IsBegunPlainly c x met ps = (vs : List Tree) × HasPlainEquations x × IsBegun c x vs met × (ps ≡ goals_with vs x.goals)
 
--- .. or in part: those that relate aliases are left alone
-pub record IsBegunInPart (c : Content) (x : Candidate) (met : Content) (ps : List Premise) : Type 0 where
-  pub some : HasPlainEquations x → ⊥
-  pub values : List Tree
-  pub begun : IsBegun c (plain_part x) values met
-  pub premises : ps ≡ goals_with values x.goals
-
--- a candidate is begun in an environment, and these premises are left to be asked: plainly; or by relating, in coherence where each
--- equation has a side without aliases; or, in coherence, in part
+-- a candidate is begun in an environment, and these premises are left to be asked: plainly; or by relating, in coherence as far as that
+-- leaves equalities
 abbrev pub Begins : (ℕ → List Variance) → Mode → Content → Tree → Candidate → Content → List Premise → Type 0
 Begins declared mode c e x met ps =
-    IsBegunPlainly c x met ps ⊎ IsCutIn mode × IsBegunByRelating declared c e x met ps ⊎ (mode ≡ coherence) × (IsBegunInPart c x met ps ⊎ IsBegunByOneSide declared c e x met ps)
-
--- where a candidate may be refused since its equations with aliases can't be related: in coherence, if each has a side without aliases
-abbrev pub MayRelate : Mode → Candidate → Type 0
-MayRelate mode x = IsCutIn mode ⊎ HasOneSidedEquations x
+    IsBegunPlainly c x met ps ⊎ IsCutIn mode × IsBegunByRelating declared c e x met ps ⊎ (mode ≡ coherence) × IsBegunByEqualities declared c e x met ps
 
 -- two terms were related under a table, and what that left is proved there in the environment e, behind an inductive step
 pub record IsRelatedFrom (m : Meaning) (mode : Mode) (A : List Assumed) (c : Content) (e a b : Tree) : Type 0 where

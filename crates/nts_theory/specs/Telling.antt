@@ -34,10 +34,10 @@ use Rattle.nts_model.specs.Derivations.Proving.{HoldsTerms, AreConstraintsOf}
 use Rattle.nts_theory.specs.Affirming.{SaysAffirmed, IsDenied, HasOwnWay}
 use Rattle.nts_theory.specs.Outliving.{IsOutlives}
 use Rattle.nts_theory.specs.Subtyping.{LeavesPremises, IsNoSubtype}
-use Rattle.nts_theory.specs.Aliasing.{IsPlainEquality, NormalizesSides, NormalizesLesser, IsLesserGoal}
+use Rattle.nts_theory.specs.Aliasing.{SaysEqual, NormalizesSides, NormalizesLesser, IsLesserGoal}
 use Rattle.nts_theory.specs.AskedGoals.{asked_in}
 use Rattle.nts_theory.specs.Posing.{PosesIn}
-use Rattle.nts_theory.specs.RelatingCandidates.{IsCutIn, HasPlainEquations, plain_part, Begins, MayRelate, IsUnrelated, HasTypesApart}
+use Rattle.nts_theory.specs.RelatingCandidates.{IsCutIn, HasPlainEquations, plain_part, Begins, IsUnrelated, HasTypesApart}
 use Rattle.nts_model.specs.Answers.Responses.{Findings, AreFindings, Response, response_of, IsResponseTo, Applies, RefusesResponse}
 
 -- a response, and whether it is certain
@@ -158,9 +158,9 @@ abbrev pub IsAliasGoal : Tree → Tree → Type 0
 IsAliasGoal e g = IsAliasStatement (statement_of g) ⊎ IsTraitStatement (statement_of g) × (any_label is_alias (pair e g) ≡ true)
 
 -- where goals that an alias is equal to a term are answered by what it normalizes to: outside of coherence, and there where they bind
--- nothing, and no alias stands in the term
+-- nothing, and no alias stands in the term, or it is an alias
 abbrev pub IsOpenToNormalizing : Mode → Tree → Type 0
-IsOpenToNormalizing mode g = IsCutIn mode ⊎ IsPlainEquality g
+IsOpenToNormalizing mode g = IsCutIn mode ⊎ SaysEqual g
 
 -- a goal that the handler is asked for, opened if it binds variables: it is known to the table in which it is answered
 pub record IsReady (c : Content) (e g : Tree) : Type 0 where
@@ -269,13 +269,12 @@ mutual
         → IsFound c e g found → SaysOf c found qs v → Replies Q h mode c e g qs x v
 
   -- a candidate for a goal of that kind, in that environment, fails: no world of the table meets what is made equal of it at once; or it
-  -- equates types that are apart; or no settled solution relates its equations with aliases, which counts in coherence where each of them
-  -- has a side without aliases; or a goal is refused;
+  -- equates types that are apart; or no settled solution relates its equations with aliases; or a goal is refused;
   -- or the handler's leak check says of what was found that nothing which the root names meets its region constraints
   pub data Fails (Q : Queries) (h : Handler) (mode : Mode) : GoalKind → Content → Tree → Candidate → Type 0 where
     is_unmet : {k : GoalKind} {c : Content} {e : Tree} {x : Candidate} → (IsCandidateMet c (plain_part x) → ⊥) → Fails Q h mode k c e x
     has_types_apart : {k : GoalKind} {c : Content} {e : Tree} {x : Candidate} → HasTypesApart x → Fails Q h mode k c e x
-    is_unrelated : {k : GoalKind} {c : Content} {e : Tree} {x : Candidate} → MayRelate mode x → IsUnrelated Q.variances c x → Fails Q h mode k c e x
+    is_unrelated : {k : GoalKind} {c : Content} {e : Tree} {x : Candidate} → IsUnrelated Q.variances c x → Fails Q h mode k c e x
     is_refused : {k : GoalKind} {c : Content} {e : Tree} {x : Candidate} (ps gs : List Premise) (met posed : Content) → Begins Q.variances mode c e x met ps → PosesIn mode k met ps posed gs → RefusesOne Q h mode k (asked_in mode gs) posed → Fails Q h mode k c e x
     is_leaky : {k : GoalKind} {c : Content} {e : Tree} {x : Candidate} (ps gs : List Premise) (met posed found : Content) → Begins Q.variances mode c e x met ps → PosesIn mode k met ps posed gs → Reaches Q h mode (asked_in mode gs) posed found → h.leaks found 0 → Fails Q h mode k c e x
 

@@ -51,7 +51,7 @@ use Rattle.nts_trying.specs.Choices.{EquatesCandidate}
 use Rattle.nts_trying.specs.Stepping.{ArePosed, terms_of}
 use Rattle.nts_trying.specs.Subtyping.{with_source}
 use Rattle.nts_trying.proofs.Stepping.{all_among}
-use Rattle.nts_theory.specs.Aliasing.{IsPlainEquality}
+use Rattle.nts_theory.specs.Aliasing.{SaysEqual}
 use Rattle.nts_trying.specs.Relating.{aliased_data, plain_data, right_node, left_list, right_list, IsPlainPart, RelatesEquations, RunsByRelating, BeginsByRelating}
 use Rattle.nts_trying.proofs.Adding.{posed_kept, goals_kept}
 use Rattle.nts_trying.proofs.Ran.{added_is}
@@ -90,10 +90,10 @@ sourced_among [] g i = absurd i
 sourced_among (x ∷ gs) g (inl e) = inl (ap (λ (z : Goal). (source.TypeRelating, z)) e)
 sourced_among (x ∷ gs) g (inr i) = inr (sourced_among gs g i)
 
-equality_among : (ts : List Tree) (gs : List Goal) → All (λ (z : GoalSource × Goal). IsPlainEquality (tree_at ts z.1.predicate.node)) (with_source gs) → (p : Tree) → Among (map (λ (h : Goal). tree_at ts h.predicate.node) gs) p → IsPlainEquality p
+equality_among : (ts : List Tree) (gs : List Goal) → All (λ (z : GoalSource × Goal). SaysEqual (tree_at ts z.1.predicate.node)) (with_source gs) → (p : Tree) → Among (map (λ (h : Goal). tree_at ts h.predicate.node) gs) p → SaysEqual p
 equality_among ts gs h p i =
     let of = goal_among ts gs p i in
-    subst IsPlainEquality (sym of.2) (all_among (λ (z : GoalSource × Goal). IsPlainEquality (tree_at ts z.1.predicate.node)) (with_source gs) (source.TypeRelating, of.0) h (sourced_among gs of.0 of.1))
+    subst SaysEqual (sym of.2) (all_among (λ (z : GoalSource × Goal). SaysEqual (tree_at ts z.1.predicate.node)) (with_source gs) (source.TypeRelating, of.0) h (sourced_among gs of.0 of.1))
 
 known_among : (ts : List Tree) (c : Content) (env : ParamEnv) (ps : List RelatingNodes) (gs : List Goal) → AreGoalsOfPairs ts c env ps gs → (p : Tree) → Among (map (λ (h : Goal). tree_at ts h.predicate.node) gs) p → Knows c p
 known_among ts c env [] [] h p i = absurd i
@@ -187,7 +187,7 @@ module _ {a e at : Cx} {t v held : Table} (g : Goal) (x y : CandidateData) (valu
       (records : BringsOnly (asked_terms e.nodes g) (content_of e.nodes v.entries) (content_of at.nodes held.entries))
       (relates : RelatesEquations at f held u g values (aliased_data a.nodes x.equations.items) related)
       (added : AreAdded f.nodes b.nodes u g values x.goals.items own)
-      (flag : Bool) (says : flag ≡ true → All (λ (z : GoalSource × Goal). IsPlainEquality (tree_at f.nodes z.1.predicate.node)) related) where
+      (flag : Bool) (says : flag ≡ true → All (λ (z : GoalSource × Goal). SaysEqual (tree_at f.nodes z.1.predicate.node)) related) where
     abbrev env : Tree
     env = tree_at a.nodes g.param_env.node
 
@@ -256,7 +256,7 @@ module _ {a e at : Cx} {t v held : Table} (g : Goal) (x y : CandidateData) (valu
     they_are_equalities : flag ≡ true → AreEqualities (content_of b.nodes u.entries) goals
     they_are_equalities e =
         let r = relates.related in
-        let each = subst (All (λ (z : GoalSource × Goal). IsPlainEquality (tree_at f.nodes z.1.predicate.node))) relates.are (says e) in
+        let each = subst (All (λ (z : GoalSource × Goal). SaysEqual (tree_at f.nodes z.1.predicate.node))) relates.are (says e) in
         record {
           equal = λ p i. equality_among f.nodes relates.goals each p i;
           knows = λ p i. subst (λ z. Knows z p) (sym met_is) (known_among f.nodes met g.param_env r.pairs relates.goals r.goals p i);

@@ -20,9 +20,9 @@ pub mod Unasked
 pub mod Outliving
 pub mod SubtypeGoals
 pub mod AliasGoals
-pub mod PlainEqualities
+pub mod SaidEqual
 pub mod NormalGoals
-pub mod OneSidedEquations
+pub mod BegunInMode
 pub mod LesserGoals
 pub mod NormalizedGoals
 pub mod RelatedAliases

@@ -54,6 +54,8 @@ use Rattle.nts_meaning.proofs.Evaluating.{Goes-extends, IsPosed-later}
 use Rattle.nts_meaning.specs.Running.{StaysProved}
 use Rattle.nts_meaning.proofs.Running.{term_table}
 use Rattle.nts_model.specs.declared.labels.VariableKind.{VariableKind}
+use Rattle.nts_model.specs.declared.labels.Sort.{Sort}
+use Rattle.nts_model.specs.Derivations.Handlers.{kind_of_sort}
 use Rattle.nts_model.specs.Answers.Applying.{IsNew}
 use Rattle.nts_model.specs.Tables.Passing.{BringsNoLabels}
 use Rattle.nts_model.proofs.Tables.Bringing.{query_variables}
@@ -298,8 +300,8 @@ aliases_pass : (P : Label → Bool) (g a b : Tree) → EquatesAliases g a b → 
 aliases_pass P g a b w k = (let h : TreePasses P (alias_relation w.by a b) = subst (TreePasses P) w.says k in (h.1.1.0.1.0, h.1.1.0.1.1.0))
 
 -- what is left of a goal that two aliases are equal
-module _ (a b : Cx) (t u : Table) (goal first second : Goal) (x y : Tree) (variable : NodeId) (kind : VariableKind) (gs : List (GoalSource × Goal)) (w : EquatesAliases (tree_at a.nodes goal.predicate.node) x y) (env : IsClosedEnv (tree_at a.nodes goal.param_env.node)) (are : gs ≡ (source.TypeRelating, first) ∷ (source.TypeRelating, second) ∷ [])
-    (within : IsIn b.nodes variable) (of_kind : kind_of (tree_at b.nodes variable) ≡ kind_of x) (new : IsNew (content_of a.nodes t.entries) (content_of b.nodes u.entries) kind t.entries.universe (tree_at b.nodes variable))
+module _ (a b : Cx) (t u : Table) (goal first second : Goal) (x y : Tree) (variable : NodeId) (its : Sort) (gs : List (GoalSource × Goal)) (w : EquatesAliases (tree_at a.nodes goal.predicate.node) x y) (env : IsClosedEnv (tree_at a.nodes goal.param_env.node)) (are : gs ≡ (source.TypeRelating, first) ∷ (source.TypeRelating, second) ∷ [])
+    (within : IsIn b.nodes variable) (of_kind : kind_of (tree_at b.nodes variable) ≡ kind_of x) (new : IsNew (content_of a.nodes t.entries) (content_of b.nodes u.entries) (kind_of_sort its) t.entries.universe (tree_at b.nodes variable))
     (brings : BringsNoLabels (content_of a.nodes t.entries) (content_of b.nodes u.entries)) (n : IsNormalGoal a.nodes b.nodes goal x (tree_at b.nodes variable) first) (m : IsNormalGoal a.nodes b.nodes goal y (tree_at b.nodes variable) second) (posed : IsPosed a.nodes t goal) (goes : Goes a.nodes b.nodes t u) where
   abbrev term : Tree
   term = tree_at b.nodes variable
@@ -314,10 +316,10 @@ module _ (a b : Cx) (t u : Table) (goal first second : Goal) (x y : Tree) (varia
   env_tree = tree_at a.nodes goal.param_env.node
 
   v_known : Knows met term
-  v_known = new_knows was met t.entries.universe kind term new
+  v_known = new_knows was met t.entries.universe (kind_of_sort its) term new
 
   v_closed : IsClosed term
-  v_closed = new_closed was met kind term new
+  v_closed = new_closed was met (kind_of_sort its) term new
 
   sides_there : Knows met x × Knows met y
   sides_there =
@@ -346,7 +348,7 @@ module _ (a b : Cx) (t u : Table) (goal first second : Goal) (x y : Tree) (varia
         labels = λ P q all passes.
             (let both = aliases_pass P (tree_at a.nodes goal.predicate.node) x y w (all _ (inr (inl refl))) in
             let pe = all env_tree (inl refl) in
-            let pv = new_passes was met kind term P q new in
+            let pv = new_passes was met (kind_of_sort its) term P q new in
             let now = brings.labels P (query_variables P q) passes in
             h.labels P q (λ z j. ⊎_elim (normal_asks posed goes n w.left v_closed P q pe both.0 pv z) (normal_asks posed goes m w.right v_closed P q pe both.1 pv z) (two_terms z j)) now);
       }
@@ -360,7 +362,7 @@ module _ (a b : Cx) (t u : Table) (goal first second : Goal) (x y : Tree) (varia
           right = y;
           is = w;
           variable = term;
-          kind = kind;
+          its_sort = its;
           new = new;
           of_kind = of_kind;
           premises = ap (goals_at b.nodes) are ∙ (let p = normal_premise posed goes n w.left v_closed in let q = normal_premise posed goes m w.right v_closed in λ i. p i ∷ q i ∷ []);

@@ -22,8 +22,8 @@ use Rattle.nts_variance_model.specs.Variances.Relations.{Relating}
 use Rattle.nts_variance_model.proofs.Variances.AnsweredGoals.{answered_relates}
 use Rattle.nts_theory.specs.Affirming.{plain_way}
 use Rattle.nts_theory.specs.Subtyping.{LeavesGoals}
-use Rattle.nts_theory.specs.Aliasing.{alias_relation, IsPlainEquality}
-use Rattle.nts_theory.specs.RelatingCandidates.{relates_aliases, HasPlainEquations, HasOnePlainSide, HasOneSidedEquations, MayRelate, AreEqualities, IsBegunByRelating, IsBegunByOneSide, IsUnrelated, pairs_with, aliased_equations, Begins, AreTypesApart, HasTypesApart, IsBegunInPart}
+use Rattle.nts_theory.specs.Aliasing.{alias_relation, SaysEqual}
+use Rattle.nts_theory.specs.RelatingCandidates.{relates_aliases, HasPlainEquations, AreEqualities, IsBegunByRelating, IsBegunByEqualities, IsUnrelated, pairs_with, aliased_equations, Begins, AreTypesApart, HasTypesApart}
 use Rattle.nts_decisions.specs.Deciding.{HasNoAliases}
 
 abbrev byte : Tree
@@ -68,13 +68,6 @@ item_is_not_made_equal declared mode c met e ps outside (inl (vs, plain, begun, 
 item_is_not_made_equal declared mode c met e ps outside (inr (inl (cut, by))) = by
 item_is_not_made_equal declared mode c met e ps outside (inr (inr (inside, by))) = absurd (outside inside)
 
--- .. and in coherence in part, by which nothing is made equal of it; the rule for a word never is
-item_is_begun_in_part : (c : Content) → IsBegunInPart c for_item c []
-item_is_begun_in_part c = record { some = item_rule_is_not; values = []; begun = record { made = c; equal = c; freshens = refl; equates = refl; adds = refl }; premises = refl }
-
-word_is_not_begun_in_part : (c met : Content) (ps : List Premise) → IsBegunInPart c for_word met ps → ⊥
-word_is_not_begun_in_part c met ps b = b.some word_rule_is_plain
-
 -- .. and the rule for a word never is; nor is it called unrelated
 word_is_not_related : (declared : ℕ → List Variance) (c met : Content) (e : Tree) (ps : List Premise) → IsBegunByRelating declared c e for_word met ps → ⊥
 word_is_not_related declared c met e ps b = b.some word_rule_is_plain
@@ -82,26 +75,12 @@ word_is_not_related declared c met e ps b = b.some word_rule_is_plain
 word_is_not_unrelated : (declared : ℕ → List Variance) (c : Content) → IsUnrelated declared c for_word → ⊥
 word_is_not_unrelated declared c u = u.some word_rule_is_plain
 
--- the rule for an alias has a side without aliases, and one that equates two aliases has none
-item_rule_has_one_side : HasOneSidedEquations for_item
-item_rule_has_one_side q i = elim i [ inl e ↦ subst HasOnePlainSide (sym e) (inr refl) | inr j ↦ absurd j ]
-
-items_have_two : HasOneSidedEquations (plain_way (related item item ∷ []) []) → ⊥
-items_have_two h = elim (h (related item item) (inl refl)) [ inl e ↦ cc e | inr e ↦ cc e ]
-
--- .. so in coherence the first may be refused since its equation can't be related, and the second never is
-item_rule_may_be_related : MayRelate coherence for_item
-item_rule_may_be_related = inr item_rule_has_one_side
-
-items_may_not : MayRelate coherence (plain_way (related item item ∷ []) []) → ⊥
-items_may_not m = elim m [ inl cut ↦ cut refl | inr sides ↦ items_have_two sides ]
-
 -- no goals say each that an alias is equal to a term, and one of a trait says no such thing
 none_are_equalities : (c : Content) → AreEqualities c []
 none_are_equalities c = record { equal = λ g i. absurd i; knows = λ g i. absurd i }
 
 word_is_no_equality : (c : Content) → AreEqualities c (word ∷ []) → ⊥
-word_is_no_equality c h = (let q = h.equal word (inl refl) in let x = q.is in elim x.says [ inl e ↦ cc e | inr e ↦ cc e ])
+word_is_no_equality c h = elim (h.equal word (inl refl)) [ inl q ↦ (let x = q.is in elim x.says [ inl e ↦ cc e | inr e ↦ cc e ]) | inr q ↦ (let x = q.is in let e = x.says in cc e) ]
 
 -- that Item is equal to a word says so
 abbrev item_is_word : Tree
@@ -117,16 +96,20 @@ word_is_no_alias i = by_head i.head i.is
     by_head (alias_of.Ty n) q = cc q
     by_head (alias_of.Const n) q = cc q
 
-item_equals_word : IsPlainEquality item_is_word
+item_equals_word : SaysEqual item_is_word
 item_equals_word =
-    record {
+    inl (record {
       left = item;
       right = word;
       is = record { by = direction.Equate; says = inl refl; alias = item_is_alias; plain = word_is_no_alias; kind = refl };
       equal = refl;
       ends = (tt, tt);
       no_alias = refl;
-    }
+    })
+
+-- .. and so does that Item is equal to itself
+item_equals_item : SaysEqual (alias_relation direction.Equate item item)
+item_equals_item = inr (record { left = item; right = item; is = record { by = direction.Equate; says = refl; left = item_is_alias; right = item_is_alias; kind = refl }; equal = refl })
 
 item_is_known : (c : Content) → Knows c item_is_word
 item_is_known c =
@@ -164,20 +147,19 @@ item_rule_is_begun declared c e =
       premises = refl;
     }
 
--- so in coherence the rule for an alias is begun by its one side, and then the goal is asked; the rule for a word is not
-item_rule_is_begun_by_one_side : (declared : ℕ → List Variance) (c : Content) (e : Tree) → IsSound c → IsBegunByOneSide declared c e for_item c (relating e item_is_word ∷ [])
+-- so in coherence the rule for an alias is begun, and then the goal is asked; the rule for a word is not begun so
+item_rule_is_begun_by_equalities : (declared : ℕ → List Variance) (c : Content) (e : Tree) → IsSound c → IsBegunByEqualities declared c e for_item c (relating e item_is_word ∷ [])
 unfolding item_rule_is_begun
-item_rule_is_begun_by_one_side declared c e sound =
+item_rule_is_begun_by_equalities declared c e sound =
     record {
-      sides = item_rule_has_one_side;
       all = relating e item_is_word ∷ [];
       begun = item_rule_is_begun declared c e;
       continues = Continues-refl c sound;
-      asked = inl (record { equal = λ g i. elim i [ inl q ↦ subst IsPlainEquality (sym q) item_equals_word | inr j ↦ absurd j ]; knows = λ g i. elim i [ inl q ↦ subst (Knows c) (sym q) (item_is_known c) | inr j ↦ absurd j ] }, refl);
+      asked = inl (record { equal = λ g i. elim i [ inl q ↦ subst SaysEqual (sym q) item_equals_word | inr j ↦ absurd j ]; knows = λ g i. elim i [ inl q ↦ subst (Knows c) (sym q) (item_is_known c) | inr j ↦ absurd j ] }, refl);
     }
 
-word_rule_is_not_begun_by_one_side : (declared : ℕ → List Variance) (c met : Content) (e : Tree) (ps : List Premise) → IsBegunByOneSide declared c e for_word met ps → ⊥
-word_rule_is_not_begun_by_one_side declared c met e ps b = (let by = b.begun in by.some word_rule_is_plain)
+word_rule_is_not_begun_so : (declared : ℕ → List Variance) (c met : Content) (e : Tree) (ps : List Premise) → IsBegunByEqualities declared c e for_word met ps → ⊥
+word_rule_is_not_begun_so declared c met e ps b = (let by = b.begun in by.some word_rule_is_plain)
 
 -- a candidate without equations is begun by what is there
 abbrev for_all : Candidate

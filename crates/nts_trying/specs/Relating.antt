@@ -9,7 +9,7 @@ use Rattle.nts_model.specs.Tables.Passing.{BringsOnly}
 use Rattle.nts_model.specs.Tables.Contents.{Content}
 use Rattle.nts_model.specs.Tables.Holding.{Continues}
 use Rattle.nts_model.specs.Derivations.Sequents.{Premise}
-use Rattle.nts_theory.specs.RelatingCandidates.{relates_aliases, goals_with, IsBegunByRelating, IsBegunInPart, AreEqualities}
+use Rattle.nts_theory.specs.RelatingCandidates.{relates_aliases, goals_with, IsBegunByRelating, AreEqualities}
 use Rattle.nts_store.specs.declared.nodes.NodeId.{NodeId}
 use Rattle.nts_store.specs.Growth.{tree_at, trees_at}
 use Rattle.nts_certainty.specs.declared.sources.GoalSource.{GoalSource}
@@ -88,14 +88,8 @@ pub record RunsByRelating (a b : Cx) (t u : Table) (g : Goal) (x : CandidateData
   pub own_posed : ArePosed b.nodes u own
   pub are : left ≡ related ++ own
 
--- a candidate was begun in part, which brought no labels but those of the goal
-pub record BeginsInPart (a b : Cx) (t u : Table) (g : Goal) (x : CandidateData) : Type 0 where
-  pub left : List Premise
-  pub begun : IsBegunInPart (content_of a.nodes t.entries) (candidate_of a.nodes x) (content_of b.nodes u.entries) left
-  pub labels : BringsOnly (asked_terms a.nodes g) (content_of a.nodes t.entries) (content_of b.nodes u.entries)
-
 -- .. and begun so. The goals that are left have no labels but those of the goal; where `equal`, those that relating left say each that
--- an alias is equal to a term in which no alias stands
+-- an alias is equal to a term in which no alias stands, or to another alias
 pub record BeginsByRelating (a b : Cx) (t u : Table) (g : Goal) (x : CandidateData) (left : List (GoalSource × Goal)) (equal : Bool) : Type 0 where
   pub posed : ArePosed b.nodes u left
   pub begun : IsBegunByRelating (variances_in a.declarations) (content_of a.nodes t.entries) (tree_at a.nodes g.param_env.node) (candidate_of a.nodes x) (content_of b.nodes u.entries) (goals_at b.nodes left)

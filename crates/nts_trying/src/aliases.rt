@@ -2,18 +2,19 @@
 ghost use Rattle.std.specs.Prelude.{◌≡◌, ◌↔◌, ◌⊎◌, IsTrue, true, false, List};
 ghost use Rattle.nts_model.specs.Terms.Trees.{Tree, any_label, is_alias};
 ghost use Rattle.nts_model.specs.Derivations.Related.{pair};
-ghost use Rattle.nts_store.specs.Growth.{tree_at};
+ghost use Rattle.nts_store.specs.Growth.{tree_at, IsIn};
+ghost use Rattle.nts_variance.specs.Goals.{is_alias_node};
 ghost use Rattle.nts_terms.specs.Kinds.{tree_of_statement};
 ghost use Rattle.nts_terms.specs.Handles.{HoldsGoal};
 ghost use Rattle.nts_terms.specs.Modes.{mode_of};
-ghost use Rattle.nts_theory.specs.Aliasing.{IsPlainEquality};
+ghost use Rattle.nts_theory.specs.Aliasing.{SaysEqual};
 ghost use Rattle.nts_theory.specs.RelatingCandidates.{IsCutIn};
 ghost use Rattle.nts_trying.specs.Aliasing.{ConcernsAlias, AliasGoalIn, IsEquality, IsEquatedGoal};
 
-use crate::normal::EquatedAlias;
+use crate::normal::{EquatedAlias, is_alias_term};
 use crate::outlives::is_closed_env;
 use nts_model::AliasRelationDirection;
-use nts_terms::{ClauseKind, Cx, Goal, PredicateKind, TypingMode};
+use nts_terms::{ClauseKind, Cx, Goal, PredicateKind, Term, TypingMode};
 
 /// Whether a statement says of an alias that it is a term, or that it normalizes to one; or of a trait's arguments that the trait holds,
 /// where an alias stands in the goal.
@@ -87,14 +88,27 @@ fn says_equal(statement: PredicateKind) -> bool
     }
 }
 
-/// Whether a goal about an alias and a term says that the two are equal, and no alias stands in the term.
+/// Whether a term is an alias, or no alias stands in it.
+fn is_alias_or_plain(cx: &Cx, t: Term) -> bool
+    requires { IsIn cx.now.nodes t.node }
+    ensures { result ≡ true → (is_alias_node (tree_at cx.now.nodes t.node) ≡ true) ⊎
+        (any_label is_alias (tree_at cx.now.nodes t.node) ≡ false) }
+{
+    if is_alias_term(cx, t) {
+        return true;
+    }
+    !cx.nodes.flags(t.node).has_alias
+}
+
+/// Whether a goal about an alias and a term says that the two are equal, and no alias stands in the term, or it is an alias.
 #[inline(never)]
-pub(crate) fn is_plain_equality(cx: &Cx, goal: Goal, equated: EquatedAlias) -> bool
+pub(crate) fn is_equality(cx: &Cx, goal: Goal, equated: EquatedAlias) -> bool
     requires holds { HoldsGoal cx.now.nodes goal }
     requires equated { IsEquatedGoal cx.now.nodes goal equated }
-    ensures { result ≡ true → IsPlainEquality (tree_at cx.now.nodes goal.predicate.node) }
+    ensures { result ≡ true → SaysEqual (tree_at cx.now.nodes goal.predicate.node) }
 {
-    if cx.nodes.flags(equated.term.node).has_alias {
+    cx.terms_are_formed();
+    if !is_alias_or_plain(cx, equated.term) {
         return false;
     }
     let predicate = goal.predicate.kind(cx);
@@ -102,7 +116,7 @@ pub(crate) fn is_plain_equality(cx: &Cx, goal: Goal, equated: EquatedAlias) -> b
 }
 
 /// Whether a goal about an alias and a term, that was opened, is answered by what the alias normalizes to: outside of coherence each is,
-/// and there one that says that the two are equal, if no alias stands in the term, and the goal bound nothing.
+/// and there one that says that the two are equal, if no alias stands in the term, or it is an alias, and the goal bound nothing.
 #[inline(never)]
 pub fn is_open_to_normalizing(
     cx: &Cx,
@@ -113,8 +127,9 @@ pub fn is_open_to_normalizing(
 ) -> bool
     requires opened { HoldsGoal cx.now.nodes opened }
     requires equated { IsEquatedGoal cx.now.nodes opened equated }
-    ensures { result ≡ true → IsCutIn (mode_of mode.now) ⊎ (goal.predicate ≡ opened.predicate) ×
-        IsPlainEquality (tree_at cx.now.nodes opened.predicate.node) }
+    ensures open { result ≡ true → IsCutIn (mode_of mode.now) ⊎ (goal.predicate ≡ opened.predicate) ×
+        SaysEqual (tree_at cx.now.nodes opened.predicate.node) }
+    ensures outside { IsCutIn (mode_of mode.now) → result ≡ true }
 {
     if is_outside(mode) {
         return true;
@@ -122,5 +137,5 @@ pub fn is_open_to_normalizing(
     if goal.predicate != opened.predicate {
         return false;
     }
-    is_plain_equality(cx, opened, equated)
+    is_equality(cx, opened, equated)
 }

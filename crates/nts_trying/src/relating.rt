@@ -1,5 +1,5 @@
-//! Candidates whose equations have aliases: the other equations are made equal, and these are related, or left alone.
-ghost use Rattle.std.specs.Prelude.{◌≡◌, ◌≢◌, ◌⊎◌, [], map, true, false, IfOk, OnOk, Err, IsOkUnless};
+//! Candidates whose equations have aliases: the other equations are made equal, and these are related.
+ghost use Rattle.std.specs.Prelude.{◌≡◌, ◌≢◌, ◌⊎◌, map, true, false, IfOk, Err, IsOkUnless};
 ghost use Rattle.nts_model.specs.Terms.Trees.{kind_of, any_argument, AllFit};
 ghost use Rattle.nts_store.specs.Formed.{AreFormed};
 ghost use Rattle.nts_store.specs.Growth.{tree_at, trees_at, IsIn, AllIn};
@@ -7,7 +7,6 @@ ghost use Rattle.nts_theory.specs.RelatingCandidates.{may_be_argument, relates_a
 ghost use Rattle.nts_model.specs.Refutation.Choosing.{IsCandidateMet};
 ghost use Rattle.nts_variance_model.specs.Variances.Leaving.{Refuses};
 ghost use Rattle.nts_candidates.specs.Offered.{equation_of, candidate_of};
-ghost use Rattle.nts_certainty.specs.Certainties.{ambiguous};
 ghost use Rattle.nts_delegate.specs.Candidates.{IsOverIn, AreEquations, IsCandidate};
 ghost use Rattle.nts_terms.specs.Handles.{HoldsGoal};
 ghost use Rattle.nts_terms.specs.Rest.{Grows};
@@ -15,10 +14,10 @@ ghost use Rattle.nts_terms.specs.Signatures.{variances_in};
 ghost use Rattle.nts_unify.specs.Reading.{content_of};
 ghost use Rattle.nts_meaning.specs.Evaluation.{Runs, IsPosed, AreValues};
 ghost use Rattle.nts_trying.specs.Instances.{HoldsValues, IsTermInstance};
-ghost use Rattle.nts_trying.specs.Relating.{aliased_data, plain_data, left_node, right_node, list_of, left_list, right_list, IsPlainPart, RelatesEquations, BeginsByRelating, BeginsInPart};
+ghost use Rattle.nts_trying.specs.Relating.{aliased_data, plain_data, left_node, right_node, list_of, left_list, right_list, IsPlainPart, RelatesEquations, BeginsByRelating};
 
 use crate::candidate::{Trial, equate, record_constraints};
-use crate::one_sided::are_plain_equalities;
+use crate::equalities::are_equalities;
 use crate::subtypes::relating_goals;
 use nts_certainty::{Certainty, GoalSource, RerunCondition};
 use nts_delegate::{CandidateData, Equation, EquationKind};
@@ -212,43 +211,12 @@ fn relate_equations(
     Ok(left)
 }
 
-/// Begins a part of a candidate of whose equations some relate aliases: makes the others equal, and records its region constraints. These
-/// are left alone, so the candidate is in doubt.
-#[inline(never)]
-pub fn begin_in_part(
-    table: &mut InferCtxt,
-    cx: &mut Cx,
-    goal: Goal,
-    candidate: &CandidateData,
-) -> Result<Certainty, EvalError>
-    requires posed { IsPosed cx.old.nodes table.old goal }
-    requires candidate { IsCandidate cx.old.nodes goal candidate.now }
-    requires some { HasPlainEquations (candidate_of cx.old.nodes candidate.now) → ⊥ }
-    ensures runs { Runs cx.old cx.new table.old table.new }
-    ensures doubt { IfOk result (λ y. y ≡ ambiguous) }
-    ensures begins { OnOk result (BeginsInPart cx.old cx.new table.old table.new goal
-        candidate.now) }
-    ensures no { result ≡ Err EvalError.NoSolution → IsCandidateMet (content_of cx.old.nodes
-        table.old.entries) (plain_part (candidate_of cx.old.nodes candidate.now)) → ⊥ }
-    ensures full { result ≢ Err EvalError.Full }
-{
-    let plain = plain_part_of(cx, goal, candidate)?;
-    let values = equate(table, cx, goal, &plain)?;
-    let trial = Trial {
-        goal,
-        fresh: &candidate.fresh,
-        values: &values,
-    };
-    record_constraints(table, cx, trial, &candidate.region_constraints)?;
-    Ok(Certainty::AMBIGUOUS)
-}
-
 /// What is left of a candidate that was begun by relating.
 #[derive(Drop)]
 pub struct Begun {
     /// The goals that relating left, and then the candidate's own.
     pub goals: Vec<(GoalSource, Goal)>,
-    /// Whether each goal that relating left says that an alias is equal to a term in which no alias stands.
+    /// Whether each goal that relating left says that an alias is equal to a term in which no alias stands, or to another alias.
     pub equalities: bool,
 }
 
@@ -283,7 +251,7 @@ pub fn begin_relating(
     };
     record_constraints(table, cx, trial, &candidate.region_constraints)?;
     let mut goals = relate_equations(table, cx, trial, &aliased)?;
-    let equalities = are_plain_equalities(cx, &goals);
+    let equalities = are_equalities(cx, &goals);
     let mut own = trial.added_goals(table, cx, &candidate.goals)?;
     goals.append(&mut own)?;
     Ok(Begun { goals, equalities })

@@ -28,6 +28,7 @@ pub fn depth_below(depth: usize, has_overflowed: bool, division: usize) -> Optio
     ensures next { has_overflowed ≡ false → IfSome result (λ below. below ≡ depth - 1) }
     ensures divided { has_overflowed ≡ true → 0 < division → depth / division < depth →
         result ≡ Some (depth / division) }
+    ensures undivided { division ≤ 1 → IfSome result (λ below. below + 1 ≡ depth) }
 {
     if depth == 0 {
         return None;
@@ -50,6 +51,7 @@ impl AvailableDepth {
         ensures root { (n : ℕ) → self ≡ available.Root n → result ≡ Some n }
         ensures divided { (n : ℕ) → self ≡ available.Below n → has_overflowed ≡ true →
             0 < division → n / division < n → result ≡ Some (n / division) }
+        ensures undivided { division ≤ 1 → IfSome result (λ n. n + 1 ≡ bound_of self) }
     {
         match self {
             AvailableDepth::Root(depth) => Some(depth),

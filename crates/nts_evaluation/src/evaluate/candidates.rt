@@ -6,8 +6,7 @@ ghost use Rattle.nts_meaning.specs.Searching.{IsSearch};
 ghost use Rattle.nts_meaning.specs.Evaluation.{IsPosed};
 ghost use Rattle.nts_meaning.specs.Meant.{rules_of};
 ghost use Rattle.nts_candidates.specs.Offered.{candidate_of};
-ghost use Rattle.nts_terms.specs.Modes.{mode_of};
-ghost use Rattle.nts_theory.specs.RelatingCandidates.{HasPlainEquations, MayRelate};
+ghost use Rattle.nts_theory.specs.RelatingCandidates.{HasPlainEquations};
 ghost use Rattle.nts_evaluation.specs.Promises.{TriesEach, TriesOne, RunsOne};
 
 use super::steps::try_evaluate_goals;
@@ -22,8 +21,8 @@ use nts_store::EvalError;
 use nts_table::InferCtxt;
 use nts_terms::{Cx, GenericArg, Goal};
 use nts_trying::{
-    AvailableDepth, Trial, begin_in_part, begin_relating, check_leaks, equate, goal_kind,
-    keep_response, may_ask, may_relate, merge_responses, needs_relating, record_constraints,
+    AvailableDepth, Trial, begin_relating, check_leaks, equate, goal_kind, keep_response, may_ask, merge_responses,
+    needs_relating, record_constraints,
 };
 
 /// Asks each candidate to its end. Those that fail are dropped, and one response stands for those of the others; where none does,
@@ -117,8 +116,7 @@ fn run_candidate<H: GoalHandler>(
     check_leaks(table, cx, handler, tried)
 }
 
-/// Tries a candidate: its equations, its region constraints, and its goals in steps. In coherence one of whose equations relate aliases is
-/// in doubt if aliases stand on both sides of one, unless its other equations can't be met.
+/// Tries a candidate: its equations, its region constraints, and its goals in steps.
 #[cycle(evaluate)]
 fn try_candidate<H: GoalHandler>(
     table: &mut InferCtxt,
@@ -137,9 +135,6 @@ fn try_candidate<H: GoalHandler>(
         table.old table.new goal candidate.now depth result }
 {
     if needs_relating(cx, goal, candidate) {
-        if !may_relate(cx, table.typing_mode(), goal, candidate) {
-            return begin_in_part(table, cx, goal, candidate);
-        }
         return try_relating(table, cx, handler, graph, goal, candidate, depth);
     }
     let kind = goal_kind(cx, handler, goal);
@@ -173,7 +168,7 @@ fn try_candidate<H: GoalHandler>(
 }
 
 /// Tries a candidate of whose equations some relate aliases: relating these leaves goals, which are asked with its own in steps. In
-/// coherence it is in doubt if one of them says something else than that an alias is equal to a term without aliases.
+/// coherence it is in doubt if one of them says something else than that an alias is equal to a term without aliases, or to another alias.
 #[cycle(evaluate)]
 fn try_relating<H: GoalHandler>(
     table: &mut InferCtxt,
@@ -187,7 +182,6 @@ fn try_relating<H: GoalHandler>(
     requires posed { IsPosed cx.old.nodes table.old goal }
     requires ready { H.ready cx.old.nodes handler.now }
     requires candidate { IsCandidate cx.old.nodes goal candidate.now }
-    requires may { MayRelate (mode_of table.old.mode) (candidate_of cx.old.nodes candidate.now) }
     requires some { HasPlainEquations (candidate_of cx.old.nodes candidate.now) → ⊥ }
     requires search { IsSearch cx.old graph.old (depth) }
     ensures { RunsOne (rules_of H.ready H.handler handler.now) cx.old cx.new graph.old graph.new

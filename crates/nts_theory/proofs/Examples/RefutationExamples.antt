@@ -30,14 +30,14 @@ use Rattle.nts_model.specs.Canonical.Inputs.{is_static}
 use Rattle.nts_model.specs.Refutation.Containing.{IsAliasFree, Truth, IsTrueBy, IsGroundLabel}
 use Rattle.nts_variance_model.specs.Variances.Leaving.{IsErased}
 use Rattle.nts_variance_model.specs.Variances.SettledProofs.{GrantsAt, HidesAt, RestsOnAt, IsReached, start, onward}
-use Rattle.nts_theory.specs.Refutation.Refutation.{IsCarrying, IsFair, IsGroundInstance, FollowsPlainly, HasMetProof}
+use Rattle.nts_theory.specs.Refutation.Refutation.{IsCarrying, IsFair, IsGroundInstance, FollowsPlainly, HasMetProof, carry, unmoved}
 use Rattle.nts_model.proofs.Terms.Composing.{itself, leaf_tree-inj, fits_itself}
 use Rattle.nts_model.proofs.Terms.Renamings.{extension}
 use Rattle.nts_theory.proofs.Refutation.Carriers.{AreMovable, extension_carrying}
 use Rattle.nts_theory.proofs.Refutation.Theories.{stays, movable_by}
 use Rattle.nts_theory.proofs.Refutation.Covering.{not_built_in}
 use Rattle.nts_theory.proofs.Refutation.UsedRules.{handlers_opened}
-use Rattle.nts_theory.proofs.Refutation.ReachedGoals.{InPlainProof, plain_used, root_reached, ground_proof}
+use Rattle.nts_theory.proofs.Refutation.ReachedGoals.{InPlainProof, plain_used, plain_unmoved, root_reached, ground_proof}
 use Rattle.nts_theory.proofs.Examples.InputExamples.{no_clauses as nowhere}
 use Rattle.nts_theory.proofs.Examples.ProofExamples.{auto_list, auto_goal, clause_under, auto_clause, fact_clause, auto_sequent, auto_terms, auto_instance, auto_plain, auto_rule, auto_stands, no_node}
 
@@ -410,8 +410,11 @@ fact_used xs v truth e t closed p =
     let here : InPlainProof (meaning h v) (IsTrueIn truth) e (auto_of t) = rw (sym p.environment, sym p.predicate) there in
     let used = plain_used h v truth in
     let u = used.plain e (node (label.Clause (clause.Trait 0)) (arguments (more t empty))) here tt (auto_closed t closed) in
-    let same : auto_of t ≡ auto_list = sym u.conclusion ∙ ap (λ a. a.conclusion) u.applies in
-    (cc same, λ x i. u.met x (subst (λ a. Among a.constraints x) (sym u.applies) i))
+    let stays = plain_unmoved h v truth e (node (label.Clause (clause.Trait 0)) (arguments (more t empty))) here tt (auto_closed t closed) in
+    let says : carry unmoved (let a = u.use_of in a.conclusion) ≡ auto_of t = subst (λ c. carry c (let a = u.use_of in a.conclusion) ≡ auto_of t) stays u.conclusion in
+    let same : auto_of t ≡ auto_list = sym says ∙ ap (λ a. a.conclusion) u.applies in
+    let met : (x : Constraint) → (let a = u.use_of in Among a.constraints x) → IsTrueIn truth x = subst (λ c. (x : Constraint) → (let a = u.use_of in Among a.constraints x) → IsTrueBy truth x.relation (carry c x.left) (carry c x.right)) stays u.met in
+    (cc same, λ x i. met x (subst (λ a. Among a.constraints x) (sym u.applies) i))
 
 -- 'a: 'b
 abbrev first_lives : Constraint

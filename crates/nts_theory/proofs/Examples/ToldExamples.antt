@@ -70,11 +70,10 @@ none_with vs (g ∷ gs) e = cc e
 pub fact_never_fails : (Q : Queries) (h : Handler) (mode : Mode) (c : Content) (e : Tree) (x : Candidate) → HasNoLeaks h → IsCandidateMet c x → x.constraints ≡ [] → x.goals ≡ [] → HasPlainEquations x → (k : GoalKind) → Fails Q h mode k c e x → ⊥
 fact_never_fails Q h mode c e x tight met constraints goals plain k (is_unmet n) = n (plain_met c x met)
 fact_never_fails Q h mode c e x tight met constraints goals plain k (has_types_apart y) = apart_unmet c x y met
-fact_never_fails Q h mode c e x tight met constraints goals plain k (is_unrelated outside n) = n.some plain
+fact_never_fails Q h mode c e x tight met constraints goals plain k (is_unrelated n) = n.some plain
 fact_never_fails Q h mode c e x tight met constraints goals plain k (is_refused ps gs there posed (inl (vs, in_one, begun, same)) poses refused) = no_refusal Q h mode posed k gs (no_goals_posed mode k there posed ps gs poses (same ∙ none_with vs x.goals goals)) refused
 fact_never_fails Q h mode c e x tight met constraints goals plain k (is_refused ps gs there posed (inr (inl (outside, begun))) poses refused) = begun.some plain
-fact_never_fails Q h mode c e x tight met constraints goals plain k (is_refused ps gs there posed (inr (inr (inside, inl begun))) poses refused) = begun.some plain
-fact_never_fails Q h mode c e x tight met constraints goals plain k (is_refused ps gs there posed (inr (inr (inside, inr begun))) poses refused) = (let b = begun.begun in b.some plain)
+fact_never_fails Q h mode c e x tight met constraints goals plain k (is_refused ps gs there posed (inr (inr (inside, begun))) poses refused) = (let b = begun.begun in b.some plain)
 fact_never_fails Q h mode c e x tight met constraints goals plain k (is_leaky ps gs there posed found begun poses reach leaks) = tight found 0 leaks
 
 -- where no verdict is left, each candidate failed

@@ -17,7 +17,7 @@ use Rattle.nts_model.specs.Terms.Substitutions.{leaf_tree, Occurs, IsConstant, f
 use Rattle.nts_model.specs.Derivations.Handlers.{Handler, Candidate, premise_by}
 use Rattle.nts_model.specs.Canonical.Inputs.{Input, originals, OccursIn}
 use Rattle.nts_model.specs.Refutation.Containing.{Truth, IsTrueBy, original_level, IsProvedIn, SolvesGoals, ExtendsTo, IsAliasFree, IsPlainWorld}
-use Rattle.nts_theory.specs.Refutation.Refutation.{IsFair, IsTheory, IsPlainFor, IsGrantedAsAsked}
+use Rattle.nts_theory.specs.Refutation.Refutation.{IsFair, IsTheory, IsPlainFor, IsGrantedAsAsked, AreMadeOne}
 use Rattle.nts_model.proofs.Tables.Instances.{inst-agrees}
 use Rattle.nts_model.proofs.Tables.Worlds.{inst-deeply_resolved}
 use Rattle.nts_model.proofs.Tables.Open.{Knows-deeply_resolved}
@@ -29,12 +29,11 @@ use Rattle.nts_theory.proofs.Refutation.Trying.{Reaches as ReachesWorld, reaches
 use Rattle.nts_theory.proofs.Refutation.Carriers.{moved, moved_carrying, back_to, back_carrying, carrier}
 use Rattle.nts_theory.proofs.Refutation.Opening.{IsBegunAt, CanBegin, AreTrueIn, added_all}
 use Rattle.nts_theory.specs.Telling.{IsInputFor, CanAsk}
-use Rattle.nts_theory.specs.RelatingCandidates.{IsBegun, goals_with, plain_part, plain_equations, aliased_equations, HasOnePlainSide}
+use Rattle.nts_theory.specs.RelatingCandidates.{IsBegun, goals_with, plain_part, plain_equations, aliased_equations}
 use Rattle.nts_theory.proofs.Refutation.PlainParts.{aliased_among}
 use Rattle.nts_theory.proofs.Refutation.Queried.{Leads, Reached}
 use Rattle.nts_theory.proofs.Refutation.PlainTerms.{leaf_free}
 use Rattle.nts_theory.proofs.Refutation.Theories.{asked_renamed}
-use Rattle.nts_theory.proofs.Refutation.OfferMeeting.{IsEqualOneWay}
 
 -- the caller and its query
 variable_low : (c : Content) → AreCurrent c → (n : ℕ) → CanName c.universe (universe_of c n)
@@ -105,7 +104,7 @@ pub record BegunAt (truth : Truth) (Proves : Tree → Tree → Type 0) (c met : 
 -- .. so for the plain part of a candidate; its equations with aliases on one side are equalities one way
 pub record BegunHere (truth : Truth) (Proves : Tree → Tree → Type 0) (c met : Content) (w : World) (e : Tree) (xs : List Tree) (x : Candidate) : Type 0 where
   pub begun : BegunAt truth Proves c met w (goals_with xs x.goals)
-  pub aliased : (q : Equation) → Among (aliased_equations x.equations) q → HasOnePlainSide q → (let r = begun.reaches in IsEqualOneWay Proves (inst w e) (inst r.world (filled xs (left_of q))) (inst r.world (filled xs (right_of q))))
+  pub aliased : (q : Equation) → Among (aliased_equations x.equations) q → (let r = begun.reaches in AreMadeOne Proves (inst w e) (inst r.world (filled xs (left_of q))) (inst r.world (filled xs (right_of q))))
 
 premise_among : (xs : List Tree) (gs : List Premise) (q : Premise) → Among (goals_with xs gs) q → (g : Premise) × Among gs g × (q ≡ premise_by (filled xs) g)
 premise_among xs [] q i = absurd i
@@ -148,9 +147,9 @@ module _ (truth : Truth) (Proves : Tree → Tree → Type 0) where
             predicates = λ q i. (let g = premise_among xs x.goals q i in subst (λ z. Knows met z.predicate) (sym g.2) (Knows-kept b.made met (filled xs g.0.predicate) later.keeps (one.known.predicates g.0 g.1)));
           };
         };
-        aliased = λ q i p. (let j = (aliased_among x.equations q i).0 in
-            subst (λ z. IsEqualOneWay Proves (inst w e) z (inst all.world (filled xs (right_of q)))) (sym (inst-agrees b.made one.reaches.world all.world (filled xs (left_of q)) later.agrees (known.left q j)))
-            (subst (λ z. IsEqualOneWay Proves (inst w e) (inst one.reaches.world (filled xs (left_of q))) z) (sym (inst-agrees b.made one.reaches.world all.world (filled xs (right_of q)) later.agrees (known.right q j))) (whole.aliased q i p)));
+        aliased = λ q i. (let j = (aliased_among x.equations q i).0 in
+            subst (λ z. AreMadeOne Proves (inst w e) z (inst all.world (filled xs (right_of q)))) (sym (inst-agrees b.made one.reaches.world all.world (filled xs (left_of q)) later.agrees (known.left q j)))
+            (subst (λ z. AreMadeOne Proves (inst w e) (inst one.reaches.world (filled xs (left_of q))) z) (sym (inst-agrees b.made one.reaches.world all.world (filled xs (right_of q)) later.agrees (known.right q j))) (whole.aliased q i)));
       }
 
   -- one more goal is asked; all of them stay

@@ -19,7 +19,7 @@ use Rattle.nts_model.specs.Derivations.Sequents.{Premise, Hidden}
 use Rattle.nts_model.specs.Derivations.Rules.{Mode, Meaning, statement_of, goal_kind, Replaced, chosen, kept_empty, kept_more, kept_node, Stands, opened, IsHandlers, IsBuiltIn, IsApplied, IsPlainRule, bound, IsRule}
 use Rattle.nts_model.specs.Derivations.Rules.{region_lives, type_lives, subtyped, coerced, const_typed, error_typed, allowed, dyn_compatible, formed, constant_evaluated, value_evaluated, error_evaluated, alias_evaluated, aliases_relate}
 use Rattle.nts_theory.specs.RelatingCandidates.{may_be_argument, AreTypesApart}
-use Rattle.nts_theory.specs.Refutation.Refutation.{HasNoAlias, EqualsBy, same_tree as one_and_same, by_alias, by_row as row_by, by_node as node_by}
+use Rattle.nts_theory.specs.Refutation.Refutation.{HasNoAlias, ComesTo, same_tree as one_and_same, by_alias, by_row as row_by, by_node as node_by}
 use Rattle.nts_theory.proofs.Refutation.PlainTerms.{no_head, none_is_alias}
 use Rattle.nts_theory.proofs.Derivations.ClosedStatements.{opened_closed, one_statement as unbound_statement}
 
@@ -84,9 +84,9 @@ module _ (D : ℕ → List Variance) (S : Tree → Type 0) (H : Constraint → T
   module _ (R : Tree → Tree → Type 0) where
     module _ (f : (a b : Tree) → IsAlias a → IsClosed b → HasNoAlias b → P (alias_goal variance.Invariant a b) → R a b) where
       mutual
-        pub related_by_left : (v : Variance) (a b : Tree) → v ≡ variance.Invariant → HasNoAlias b → Related D S H P v a b → EqualsBy R a b
+        pub related_by_left : (v : Variance) (a b : Tree) → v ≡ variance.Invariant → HasNoAlias b → Related D S H P v a b → ComesTo R a b
         related_by_left v a b e y (one_tree s) = one_and_same
-        related_by_left v a b e y (regions i j k) = subst (EqualsBy R a) (h a b (subst (λ z. H (region_constraint z a b)) e k)) one_and_same
+        related_by_left v a b e y (regions i j k) = subst (ComesTo R a) (h a b (subst (λ z. H (region_constraint z a b)) e k)) one_and_same
         related_by_left v a b e y (constructors r) = node_by (row_by (node_by (all_by_left v _ _ _ e y.1.0.1 r)) one_and_same)
         related_by_left v a b e y (functions r) = node_by (row_by one_and_same (row_by (node_by (all_by_left v _ _ _ e y.1.1.0.1 r)) one_and_same))
         related_by_left v a b e y (values r) = node_by (row_by (related_by_left variance.Invariant _ _ refl y.1.0 r) one_and_same)
@@ -94,15 +94,15 @@ module _ (D : ℕ → List Variance) (S : Tree → Type 0) (H : Constraint → T
         related_by_left v a b e y (aliases i ca cb p) = elim i [ inl j ↦ by_alias (f a b j cb y (subst (λ z. P (alias_goal z a b)) e p)) | inr j ↦ absurd (none_is_alias b y j) ]
         related_by_left v a b e y (subtypes z i j k ca cb p) = absurd (i e)
 
-        all_by_left : (v : Variance) (ws : List Variance) (a b : Tree) → v ≡ variance.Invariant → HasNoAlias b → AreRelatedByArgument D S H P v ws a b → EqualsBy R a b
+        all_by_left : (v : Variance) (ws : List Variance) (a b : Tree) → v ≡ variance.Invariant → HasNoAlias b → AreRelatedByArgument D S H P v ws a b → ComesTo R a b
         all_by_left v ws a b e y no_more = one_and_same
         all_by_left v ws (more a ts) (more b us) e y (and_more r rs) = row_by (related_by_left _ a b (ap (λ z. times z (first_variance ws)) e) y.0 r) (all_by_left v _ ts us e y.1 rs)
 
     module _ (f : (a b : Tree) → IsAlias b → IsClosed a → HasNoAlias a → P (alias_goal variance.Invariant a b) → R b a) where
       mutual
-        pub related_by_right : (v : Variance) (a b : Tree) → v ≡ variance.Invariant → HasNoAlias a → Related D S H P v a b → EqualsBy R b a
+        pub related_by_right : (v : Variance) (a b : Tree) → v ≡ variance.Invariant → HasNoAlias a → Related D S H P v a b → ComesTo R b a
         related_by_right v a b e x (one_tree s) = one_and_same
-        related_by_right v a b e x (regions i j k) = subst (λ z. EqualsBy R z a) (h a b (subst (λ z. H (region_constraint z a b)) e k)) one_and_same
+        related_by_right v a b e x (regions i j k) = subst (λ z. ComesTo R z a) (h a b (subst (λ z. H (region_constraint z a b)) e k)) one_and_same
         related_by_right v a b e x (constructors r) = node_by (row_by (node_by (all_by_right v _ _ _ e x.1.0.1 r)) one_and_same)
         related_by_right v a b e x (functions r) = node_by (row_by one_and_same (row_by (node_by (all_by_right v _ _ _ e x.1.1.0.1 r)) one_and_same))
         related_by_right v a b e x (values r) = node_by (row_by (related_by_right variance.Invariant _ _ refl x.1.0 r) one_and_same)
@@ -110,7 +110,7 @@ module _ (D : ℕ → List Variance) (S : Tree → Type 0) (H : Constraint → T
         related_by_right v a b e x (aliases i ca cb p) = elim i [ inl j ↦ absurd (none_is_alias a x j) | inr j ↦ by_alias (f a b j ca x (subst (λ z. P (alias_goal z a b)) e p)) ]
         related_by_right v a b e x (subtypes z i j k ca cb p) = absurd (i e)
 
-        all_by_right : (v : Variance) (ws : List Variance) (a b : Tree) → v ≡ variance.Invariant → HasNoAlias a → AreRelatedByArgument D S H P v ws a b → EqualsBy R b a
+        all_by_right : (v : Variance) (ws : List Variance) (a b : Tree) → v ≡ variance.Invariant → HasNoAlias a → AreRelatedByArgument D S H P v ws a b → ComesTo R b a
         all_by_right v ws a b e x no_more = one_and_same
         all_by_right v ws (more a ts) (more b us) e x (and_more r rs) = row_by (related_by_right _ a b (ap (λ z. times z (first_variance ws)) e) x.0 r) (all_by_right v _ ts us e x.1 rs)
 

@@ -65,14 +65,14 @@ no_both c d e g ps x n =
       | inr i ↦ (let s = one_relation y.by z.by x.right n.left x.left n.right (sym i ∙ z.says) in y.plain (subst IsAlias (sym s.1) z.left))
     ]
 
-parts_known : (c : Content) (a : Tree) (x : IsAlias a) → Knows c a → Knows c (node (label.List list.Args) x.parts)
+pub parts_known : (c : Content) (a : Tree) (x : IsAlias a) → Knows c a → Knows c (node (label.List list.Args) x.parts)
 parts_known c a x k = (let h : Knows c (alias x.head x.parts) = subst (Knows c) x.is k in h.1.0)
 
 parts_closed : (h : AliasHead) (ts : Tree) → IsClosed (alias h ts) → IsClosed (node (label.List list.Args) ts)
 parts_closed (alias_of.Ty i) ts k = k.1.0
 parts_closed (alias_of.Const i) ts k = k.1.0
 
-normal_known : (c : Content) (a v : Tree) (x : IsAlias a) → IsClosed v → Knows c a → Knows c v → Knows c (normalization_goal x.head x.parts v)
+pub normal_known : (c : Content) (a v : Tree) (x : IsAlias a) → IsClosed v → Knows c a → Knows c v → Knows c (normalization_goal x.head x.parts v)
 normal_known c a v x ends ka kv =
     let parts = parts_known c a x ka in
     let bound = parts_closed x.head x.parts (subst IsClosed x.is x.closed) in

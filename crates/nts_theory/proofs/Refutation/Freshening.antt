@@ -23,8 +23,8 @@ use Rattle.nts_model.specs.Answers.Applying.{IsNew, IsProperContent}
 use Rattle.nts_model.specs.Terms.Placeholders.{leaf_level}
 use Rattle.nts_model.specs.Refutation.Containing.{IsAliasFree, IsPlainWorld, Truth, IsTrueBy, IsSolution}
 use Rattle.nts_model.specs.Lists.{Among}
-use Rattle.nts_theory.specs.RelatingCandidates.{plain_part, aliased_equations, HasOnePlainSide}
-use Rattle.nts_theory.specs.Refutation.Refutation.{IsGranted}
+use Rattle.nts_theory.specs.RelatingCandidates.{plain_part, aliased_equations}
+use Rattle.nts_theory.specs.Refutation.Refutation.{IsGranted, AreMadeOne}
 use Rattle.nts_theory.proofs.Refutation.PlainParts.{plain_among, aliased_among}
 use Rattle.nts_theory.proofs.Refutation.PlainTerms.{alias_level, plain_by_names, free_values}
 use Rattle.nts_model.specs.Refutation.Coherence.{IsInstanceIn}
@@ -36,7 +36,7 @@ use Rattle.nts_theory.proofs.Refutation.Carrying.{names_terms}
 use Rattle.nts_theory.proofs.Refutation.Answered.{solution_later}
 use Rattle.nts_model.specs.Refutation.Choosing.{left_of, right_of, AreNamedValues, Freshens}
 use Rattle.nts_theory.proofs.Refutation.Trying.{MeetsCandidate}
-use Rattle.nts_theory.proofs.Refutation.OfferMeeting.{replace_inst, MeetsOffered, IsEqualOneWay}
+use Rattle.nts_theory.proofs.Refutation.OfferMeeting.{replace_inst, MeetsOffered}
 
 -- the world with those values
 pub record IsFreshenedWorld (u : ℕ) (c d : Content) (w : World) (ts vs : List Tree) : Type 0 where
@@ -183,15 +183,15 @@ module _ (h : Handler) (truth : Truth) (Proves : Tree → Tree → Type 0) (base
   one_equal (related a b) o z = image_over a o.0 ∙ z ∙ sym (image_over b o.1)
   one_equal (alike a b) o z = image_over a o.0 ∙ z ∙ sym (image_over b o.1)
 
-  -- its equations with aliases on one side are equalities one way
-  pub aliased_filled : (q : Equation) → Among (aliased_equations m.candidate.equations) q → HasOnePlainSide q → IsEqualOneWay (IsGranted Proves) (inst w e) (inst (new.world) (filled xs (left_of q))) (inst (new.world) (filled xs (right_of q)))
-  aliased_filled q i p =
+  -- the sides of its equations with aliases come to one tree
+  pub aliased_filled : (q : Equation) → Among (aliased_equations m.candidate.equations) q → AreMadeOne (IsGranted Proves) (inst w e) (inst (new.world) (filled xs (left_of q))) (inst (new.world) (filled xs (right_of q)))
+  aliased_filled q i =
       let k = candidate_for in
       let o = k.equations q (aliased_among m.candidate.equations q i).0 in
       let f = asked.formed in
-      subst (λ z. IsEqualOneWay (IsGranted Proves) z (inst (new.world) (filled xs (left_of q))) (inst (new.world) (filled xs (right_of q)))) (replace_inst w ι.value e f.0 (λ l j. same l (inl j)))
-      (subst (λ z. IsEqualOneWay (IsGranted Proves) (instance_of ι e) z (inst (new.world) (filled xs (right_of q)))) (sym (image_over (left_of q) (left_over q o)))
-      (subst (λ z. IsEqualOneWay (IsGranted Proves) (instance_of ι e) (filled_under ι.value (m.chosen) (left_of q)) z) (sym (image_over (right_of q) (right_over q o))) (m.aliased q i p)))
+      subst (λ z. AreMadeOne (IsGranted Proves) z (inst (new.world) (filled xs (left_of q))) (inst (new.world) (filled xs (right_of q)))) (replace_inst w ι.value e f.0 (λ l j. same l (inl j)))
+      (subst (λ z. AreMadeOne (IsGranted Proves) (instance_of ι e) z (inst (new.world) (filled xs (right_of q)))) (sym (image_over (left_of q) (left_over q o)))
+      (subst (λ z. AreMadeOne (IsGranted Proves) (instance_of ι e) (filled_under ι.value (m.chosen) (left_of q)) z) (sym (image_over (right_of q) (right_over q o))) (m.aliased q i)))
 
   -- the filled candidate is met
   pub meets_filled : MeetsCandidate truth (IsGranted Proves) (new.world) xs (plain_part m.candidate)

@@ -1,5 +1,5 @@
 -- Instances of terms in a world, terms without aliases once values are put in, and a candidate that a world meets.
-use Rattle.std.proofs.Common.{◌≡◌, ◌⊎◌, inl, inr, ℕ, zero, suc, List, [], ◌∷◌, get_or, Option, Some, None, refl, sym, ap, ◌∙◌}
+use Rattle.std.proofs.Common.{◌≡◌, inl, inr, ℕ, zero, suc, List, [], ◌∷◌, get_or, Option, Some, None, refl, sym, ap, ◌∙◌}
 use Rattle.nts_model.specs.declared.labels.Leaf.{Leaf}
 use Rattle.nts_model.specs.declared.labels.ClauseHead.{ClauseHead}
 use Rattle.nts_model.specs.declared.labels.ClauseHead.TheVariants as clause
@@ -16,8 +16,8 @@ use Rattle.nts_model.specs.Derivations.Sequents.{Premise}
 use Rattle.nts_model.specs.Derivations.Rules.{coherence, Equation, IsHandlers}
 use Rattle.nts_model.specs.Derivations.Handlers.{Handler, Candidate, AreValuesOf}
 use Rattle.nts_model.specs.Refutation.Containing.{IsNoAlias, IsAliasFree, Truth, IsTrueBy}
-use Rattle.nts_theory.specs.RelatingCandidates.{plain_equations, aliased_equations, HasOnePlainSide, HasTypesApart}
-use Rattle.nts_theory.specs.Refutation.Refutation.{IsGranted, IsEqualAlias, EqualsBy}
+use Rattle.nts_theory.specs.RelatingCandidates.{plain_equations, aliased_equations, HasTypesApart}
+use Rattle.nts_theory.specs.Refutation.Refutation.{IsGranted, AreMadeOne}
 use Rattle.nts_model.proofs.Terms.Substituting.{leaf_alone}
 use Rattle.nts_theory.proofs.Refutation.AskingWorlds.{IsOfParts}
 use Rattle.nts_model.specs.Refutation.Choosing.{left_of, right_of}
@@ -96,12 +96,8 @@ filled_free f vs (node l c) h g i = either_free (position_of l) vs (put f l (fil
 pub free_parts : IsOfParts IsAliasFree
 free_parts = record { left = λ a b h. h.0; right = λ a b h. h.1; below = λ l c h. h.1 }
 
--- two terms are equal, once aliases in one of them gave place: no alias stands in the other
-abbrev pub IsEqualOneWay : (Tree → Tree → Type 0) → Tree → Tree → Tree → Type 0
-IsEqualOneWay Granted e a b = IsAliasFree b × EqualsBy (IsEqualAlias Granted e) a b ⊎ IsAliasFree a × EqualsBy (IsEqualAlias Granted e) b a
-
--- a candidate that a world meets: no alias stands in the values, its plain equations are equalities, and so are those with aliases on
--- one side, once these gave place; no two types are apart that it equates, its constraints are true, and its goals are granted
+-- a candidate that a world meets: no alias stands in the values, its plain equations are equalities, and the sides of those with aliases
+-- come to one tree; no two types are apart that it equates, its constraints are true, and its goals are granted
 pub record MeetsOffered (h : Handler) (truth : Truth) (Proves : Tree → Tree → Type 0) (e g : Tree) (ι : Instance) : Type 0 where
   pub candidate : Candidate
   pub offered : Among (h.offers coherence e g) candidate
@@ -109,7 +105,7 @@ pub record MeetsOffered (h : Handler) (truth : Truth) (Proves : Tree → Tree �
   pub values : AreValuesOf candidate.fresh chosen
   pub free : (v : Tree) → Among chosen v → IsAliasFree v
   pub equal : (q : Equation) → Among (plain_equations candidate.equations) q → filled_under ι.value chosen (left_of q) ≡ filled_under ι.value chosen (right_of q)
-  pub aliased : (q : Equation) → Among (aliased_equations candidate.equations) q → HasOnePlainSide q → IsEqualOneWay (IsGranted Proves) (instance_of ι e) (filled_under ι.value chosen (left_of q)) (filled_under ι.value chosen (right_of q))
+  pub aliased : (q : Equation) → Among (aliased_equations candidate.equations) q → AreMadeOne (IsGranted Proves) (instance_of ι e) (filled_under ι.value chosen (left_of q)) (filled_under ι.value chosen (right_of q))
   pub apart : HasTypesApart candidate → ⊥
   pub met : (x : Constraint) → Among candidate.constraints x → IsTrueBy truth x.relation (filled_under ι.value chosen x.left) (filled_under ι.value chosen x.right)
   pub goals : (p : Premise) → Among candidate.goals p → IsGranted Proves (filled_under ι.value chosen p.environment) (filled_under ι.value chosen p.predicate)

@@ -18,20 +18,21 @@ use Rattle.nts_model.specs.Canonical.Numbered.{seen, AreDistinct}
 use Rattle.nts_model.specs.Derivations.Rules.{Equation, related, alike, coherence}
 use Rattle.nts_model.specs.Refutation.Choosing.{left_of, right_of, AreNamedValues}
 use Rattle.nts_model.specs.Derivations.Handlers.{Handler, equation_by, IsAsked, IsFixed, CandidatesKeep, IsOver, IsEquationOver}
-use Rattle.nts_model.specs.Refutation.Containing.{Truth, IsAliasFree}
+use Rattle.nts_model.specs.Refutation.Containing.{Truth, IsTrueBy, IsAliasFree}
 use Rattle.nts_model.specs.Refutation.Coherence.{RulesAreOffered, IsInstanceIn}
-use Rattle.nts_theory.specs.Refutation.Refutation.{UsesNamed, IsPlainFor, HasPlainSides, IsGranted, AreEqualSides}
+use Rattle.nts_theory.specs.Refutation.Refutation.{UsesNamed, IsPlainFor, HasPlainSides, IsGranted, AreMadeOne, Carrier, carry}
 use Rattle.nts_model.proofs.Terms.Composing.{fits_itself}
 use Rattle.nts_model.proofs.Terms.Listed.{map-tells}
 use Rattle.nts_model.proofs.Canonical.Numbering.{distinct-seen}
 use Rattle.nts_model.proofs.Canonical.Moving.{among-seen, occurs-seen}
 use Rattle.nts_theory.proofs.Refutation.Freshening.{knows_leaf}
 use Rattle.nts_model.proofs.Terms.Imaging.{IsImage, AreImages, constants, constant_images, distinct_constants, imaging, map-imaging}
-use Rattle.nts_theory.proofs.Refutation.OfferMeeting.{replace_inst, MeetsOffered, IsEqualOneWay, filled_free}
-use Rattle.nts_theory.specs.RelatingCandidates.{may_be_argument, relates_aliases, plain_equations, HasOnePlainSide, AreTypesApart}
+use Rattle.nts_theory.proofs.Refutation.OfferMeeting.{replace_inst, MeetsOffered, filled_free}
+use Rattle.nts_theory.specs.RelatingCandidates.{may_be_argument, relates_aliases, plain_equations, AreTypesApart}
 use Rattle.nts_theory.proofs.Refutation.PlainTerms.{free_none, unlabelled_free, either_false}
 use Rattle.nts_theory.proofs.Refutation.PlainParts.{plain_among, aliased_among}
 use Rattle.nts_theory.proofs.Refutation.Apart.{head_filled}
+use Rattle.nts_theory.proofs.Refutation.Covered.{origin, before_carried, carried_filled, carried_values, carried_free, origin_free, origin_kinds, filled_formed}
 use Rattle.nts_model.specs.declared.labels.Sort.{Sort}
 use Rattle.nts_model.specs.declared.labels.Label.TheVariants as label
 
@@ -136,12 +137,10 @@ module _ (f : Leaf → Tree) (vs : List Tree) (free : (v : Tree) → Among vs v 
   ]
   plain_sides (alike a b) l r e = tt
 
-  -- an equation with aliases on one side is an equality one way
-  one_way : (Granted : Tree → Tree → Type 0) (e : Tree) (q : Equation) → ((x : Leaf) → Occurs x (left_of q) → IsAliasFree (f x)) → ((x : Leaf) → Occurs x (right_of q) → IsAliasFree (f x)) → relates_aliases q ≡ true → HasOnePlainSide q
-      → ((a b : Tree) → q ≡ related a b → AreEqualSides Granted e (filled_under f vs a) (filled_under f vs b)) → IsEqualOneWay Granted e (filled_under f vs (left_of q)) (filled_under f vs (right_of q))
-  one_way Granted e (related a b) l r t (inl p) h = (let n = filled_free f vs a free l (unlabelled_free a p) in let s = h a b refl in inr (n, s.from_right (free_none _ n)))
-  one_way Granted e (related a b) l r t (inr p) h = (let n = filled_free f vs b free r (unlabelled_free b p) in let s = h a b refl in inl (n, s.from_left (free_none _ n)))
-  one_way Granted e (alike a b) l r t p h = cc t
+  -- an equation with aliases relates two terms
+  related_sides : (Made : Tree → Tree → Type 0) (q : Equation) → relates_aliases q ≡ true → ((a b : Tree) → q ≡ related a b → Made (filled_under f vs a) (filled_under f vs b)) → Made (filled_under f vs (left_of q)) (filled_under f vs (right_of q))
+  related_sides Made (related a b) t h = h a b refl
+  related_sides Made (alike a b) t h = cc t
 
   apart_filled : (a b : Tree) → AreTypesApart a b → AreTypesApart (filled_under f vs a) (filled_under f vs b)
   apart_filled a b x =
@@ -163,40 +162,58 @@ image_free w ι e g same plain (leaf.Variable k n) (inr i) = absurd i
 image_free w ι e g same plain (leaf.TyConstant a) (inr i) = absurd i
 image_free w ι e g same plain (leaf.ConstConstant a) (inr i) = absurd i
 
+-- the values that are carried are named, and have no aliases
+carried_among : (c : Carrier) (vs : List Tree) (v : Tree) → Among (map (carry c) vs) v → (x : Tree) × Among vs x × (v ≡ carry c x)
+carried_among c [] v i = absurd i
+carried_among c (x ∷ vs) v (inl e) = (x, inl refl, e)
+carried_among c (x ∷ vs) v (inr i) = (let r = carried_among c vs v i in (r.0, inr r.1, r.2))
+
 pub meets_used : (h : Handler) (truth : Truth) (Proves : Tree → Tree → Type 0) (law : RulesAreOffered h) (keep : CandidatesKeep h) (u : ℕ) (e g : Tree) (asked : IsAsked e g) (w : World) (ι : Instance) → IsInstanceIn w (pair e g) ι → IsPlainFor w (pair e g)
     → UsesNamed h truth Proves u (inst w e) (inst w asked.statement) → MeetsNamed h truth Proves u e g ι
 meets_used h truth Proves law keep u e g asked w ι same plain x =
     let f = asked.formed in
     let u1 = x.uses in
+    let c = u1.carrier in
+    let κ = origin c ι in
     let environment : instance_of ι e ≡ inst w e = replace_inst w ι.value e f.0 (λ l i. same l (inl i)) in
     let goal : instance_of ι g ≡ inst w g = replace_inst w ι.value g f.1.0 (λ l i. same l (inr (inl i))) in
-    let cover = law.covered e g ι u1.use_of asked u1.applies (u1.environment ∙ sym environment) (u1.conclusion ∙ sym (ap (inst w) asked.binds_nothing) ∙ sym goal) in
+    let own = u1.use_of in
+    let at = u1.formed in
+    let before_env : own.environment ≡ instance_of κ e = before_carried c ι own.environment e at.0 (u1.environment ∙ sym environment) in
+    let before_goal : own.conclusion ≡ instance_of κ g = before_carried c ι own.conclusion g at.1.0 (u1.conclusion ∙ sym (ap (inst w) asked.binds_nothing) ∙ sym goal) in
+    let cover = law.covered e g κ own asked u1.applies before_env before_goal in
     let over = keep.each coherence e g cover.candidate asked cover.offered in
-    let free : (v : Tree) → Among cover.chosen v → IsAliasFree v = λ v i. u1.values v (cover.of_rule v i) in
-    let sides : (q : Equation) → Among (plain_equations cover.candidate.equations) q → HasPlainSides (equation_by (filled_under ι.value cover.chosen) q) =
+    let vs = cover.chosen in
+    let chosen = map (carry c) vs in
+    let free : (v : Tree) → Among vs v → IsAliasFree v = λ v i. u1.values v (cover.of_rule v i) in
+    let there : (t : Tree) → carry c (filled_under κ.value vs t) ≡ filled_under ι.value chosen t = λ t. carried_filled c ι vs t in
+    let leaf_free : (l : Leaf) → Occurs l (pair e g) ⊎ IsFixed l → IsAliasFree (κ.value l) = λ l i. origin_free c ι l (image_free w ι e g same plain l i) in
+    let formed : (t : Tree) → IsOver cover.candidate.fresh e g t → IsFormed (filled_under κ.value vs t) = λ t o. filled_formed κ.value (origin_kinds c ι) κ.formed cover.candidate.fresh vs cover.values t o.names o.formed in
+    let sides : (q : Equation) → Among (plain_equations cover.candidate.equations) q → HasPlainSides (equation_by (filled_under κ.value vs) q) =
     λ q i. (let o = over.equations q (plain_among cover.candidate.equations q i) in
-    plain_sides ι.value cover.chosen free q
-    (λ l j. (let s = left_over cover.candidate.fresh e g q o in image_free w ι e g same plain l (s.leaves l j)))
-    (λ l j. (let s = right_over cover.candidate.fresh e g q o in image_free w ι e g same plain l (s.leaves l j)))
+    plain_sides κ.value vs free q
+    (λ l j. (let s = left_over cover.candidate.fresh e g q o in leaf_free l (s.leaves l j)))
+    (λ l j. (let s = right_over cover.candidate.fresh e g q o in leaf_free l (s.leaves l j)))
     (plain_is_plain cover.candidate.equations q i)) in
+    let made : (a b : Tree) → Among cover.candidate.equations (related a b) → AreMadeOne (IsGranted Proves) (instance_of ι e) (filled_under ι.value chosen a) (filled_under ι.value chosen b) =
+    λ a b i. (let o = over.equations (related a b) i in
+    subst (λ z. AreMadeOne (IsGranted Proves) z (filled_under ι.value chosen a) (filled_under ι.value chosen b)) (sym environment)
+    (subst (λ z. AreMadeOne (IsGranted Proves) (inst w e) z (filled_under ι.value chosen b)) (there a)
+    (subst (AreMadeOne (IsGranted Proves) (inst w e) (carry c (filled_under κ.value vs a))) (there b) (u1.aliased (filled_under κ.value vs a) (filled_under κ.value vs b) (cover.equations (related a b) i) (formed a o.0))))) in
     record {
       meets = record {
         candidate = cover.candidate;
         offered = cover.offered;
-        chosen = cover.chosen;
-        values = cover.values;
-        free = free;
-        equal = λ q i. equal_sides (filled_under ι.value cover.chosen) q (u1.equal _ (cover.equations q (plain_among cover.candidate.equations q i)) (sides q i));
-        aliased = λ q i p. (let j = aliased_among cover.candidate.equations q i in
-            let o = over.equations q j.0 in
-            one_way ι.value cover.chosen free (IsGranted Proves) (instance_of ι e) q
-            (λ l k. (let s = left_over cover.candidate.fresh e g q o in image_free w ι e g same plain l (s.leaves l k)))
-            (λ l k. (let s = right_over cover.candidate.fresh e g q o in image_free w ι e g same plain l (s.leaves l k)))
-            j.1 p (λ a b is. subst (λ z. AreEqualSides (IsGranted Proves) z (filled_under ι.value cover.chosen a) (filled_under ι.value cover.chosen b)) (sym environment)
-            (u1.aliased _ _ (cover.equations (related a b) (subst (Among cover.candidate.equations) is j.0)))));
-        apart = λ a. u1.apart _ _ (cover.equations (related a.left a.right) a.equation) (apart_filled ι.value cover.chosen free a.left a.right a.apart);
-        met = λ y i. u1.met _ (cover.constraints y i);
-        goals = λ p i. u1.goals _ (cover.goals p i);
+        chosen = chosen;
+        values = carried_values c cover.candidate.fresh vs cover.values;
+        free = λ v i. (let r = carried_among c vs v i in subst IsAliasFree (sym r.2) (carried_free c r.0 (free r.0 r.1)));
+        equal = λ q i. sym (there (left_of q)) ∙ ap (carry c) (equal_sides (filled_under κ.value vs) q (u1.equal _ (cover.equations q (plain_among cover.candidate.equations q i)) (sides q i))) ∙ there (right_of q);
+        aliased = λ q i. (let j = aliased_among cover.candidate.equations q i in
+            related_sides ι.value chosen (λ v k. (let r = carried_among c vs v k in subst IsAliasFree (sym r.2) (carried_free c r.0 (free r.0 r.1)))) (AreMadeOne (IsGranted Proves) (instance_of ι e)) q j.1
+            (λ a b is. made a b (subst (Among cover.candidate.equations) is j.0)));
+        apart = λ a. u1.apart _ _ (cover.equations (related a.left a.right) a.equation) (apart_filled κ.value vs free a.left a.right a.apart);
+        met = λ y i. subst (λ z. IsTrueBy truth y.relation z (filled_under ι.value chosen y.right)) (there y.left) (subst (IsTrueBy truth y.relation _) (there y.right) (u1.met _ (cover.constraints y i)));
+        goals = λ p i. subst (λ z. IsGranted Proves z (filled_under ι.value chosen p.predicate)) (there p.environment) (subst (IsGranted Proves _) (there p.predicate) (u1.goals _ (cover.goals p i)));
       };
-      named = all_named u cover.chosen (λ v i. x.named v (cover.of_rule v i));
+      named = all_named u chosen (λ v i. (let r = carried_among c vs v i in subst (NamesAll leaf_level u) (sym r.2) (x.named r.0 (cover.of_rule r.0 r.1))));
     }

@@ -21,8 +21,8 @@ use Rattle.nts_model.specs.Derivations.Handlers.{Handler, Candidate, constraint_
 use Rattle.nts_model.specs.Answers.Responses.{read_in}
 use Rattle.nts_model.specs.Answers.Applying.{IsProperContent}
 use Rattle.nts_model.specs.Refutation.Choosing.{left_of, right_of, IsCandidateMet, Freshens}
-use Rattle.nts_theory.specs.RelatingCandidates.{plain_part, aliased_equations, HasPlainEquations, HasOnePlainSide, HasTypesApart}
-use Rattle.nts_theory.specs.Refutation.Refutation.{IsGranted}
+use Rattle.nts_theory.specs.RelatingCandidates.{plain_part, aliased_equations, HasPlainEquations, HasTypesApart}
+use Rattle.nts_theory.specs.Refutation.Refutation.{IsGranted, AreMadeOne}
 use Rattle.nts_theory.proofs.Refutation.PlainParts.{plain_among, plain_met}
 use Rattle.nts_theory.proofs.Refutation.Apart.{apart_unmet}
 use Rattle.nts_theory.proofs.Refutation.PlainTerms.{plain_later}
@@ -35,7 +35,7 @@ use Rattle.nts_model.proofs.Tables.Solving.{Solves-with_constraint}
 use Rattle.nts_theory.proofs.Refutation.Answered.{solution_later}
 use Rattle.nts_theory.proofs.Refutation.Choosing.{AreFresh, fresh_known, filled_known}
 use Rattle.nts_theory.proofs.Refutation.Trying.{MeetsCandidate, KnowsEquations, KnowsCandidate, Reaches, reaches_self, reaches_trans, true_there}
-use Rattle.nts_theory.proofs.Refutation.OfferMeeting.{MeetsOffered, IsEqualOneWay}
+use Rattle.nts_theory.proofs.Refutation.OfferMeeting.{MeetsOffered}
 use Rattle.nts_theory.proofs.Refutation.Freshening.{freshened, named_terms, filled_agree, knows_leaf, aliased_filled, meets_filled}
 use Rattle.nts_theory.proofs.Refutation.Offering.{MeetsNamed}
 
@@ -45,11 +45,11 @@ pub record IsBegunAt (truth : Truth) (Proves : Tree → Tree → Type 0) (c d : 
   pub meets : MeetsCandidate truth Proves reaches.world xs x
   pub known : KnowsCandidate d xs x
 
--- .. its plain part; and its equations with aliases on one side are equalities one way, in the environment e
+-- .. its plain part; and the sides of its equations with aliases come to one tree, in the environment e
 pub record IsBegunWith (truth : Truth) (Proves : Tree → Tree → Type 0) (c d : Content) (w : World) (e : Tree) (xs : List Tree) (x : Candidate) : Type 0 where
   pub plain : IsBegunAt truth Proves c d w xs (plain_part x)
   pub known : KnowsEquations d xs x.equations
-  pub aliased : (q : Equation) → Among (aliased_equations x.equations) q → HasOnePlainSide q → (let r = plain.reaches in IsEqualOneWay Proves (inst w e) (inst r.world (filled xs (left_of q))) (inst r.world (filled xs (right_of q))))
+  pub aliased : (q : Equation) → Among (aliased_equations x.equations) q → (let r = plain.reaches in AreMadeOne Proves (inst w e) (inst r.world (filled xs (left_of q))) (inst r.world (filled xs (right_of q))))
 
 -- .. and it equates no types that are apart
 pub record CanBegin (truth : Truth) (Proves : Tree → Tree → Type 0) (c : Content) (w : World) (e : Tree) (x : Candidate) : Type 0 where
@@ -83,7 +83,7 @@ begins_whole truth Proves c w e x ke none met begins =
               };
             };
             known = equations;
-            aliased = λ q i p. absurd (subst (λ z. Among z q) none i);
+            aliased = λ q i. absurd (subst (λ z. Among z q) none i);
           });
     }
 

@@ -49,7 +49,7 @@ loose_goal : (w : World) (g : Tree) → TakesValues (statement_of g) → KeepsAl
 loose_goal w (node (label.List list.Binder) (more v (more s empty))) t k = loose_there w s t k
 loose_goal w g t k = absurd t
 
-alias_kind : (w : World) (a : Tree) → IsAlias a → kind_of (inst w a) ≡ kind_of a
+pub alias_kind : (w : World) (a : Tree) → IsAlias a → kind_of (inst w a) ≡ kind_of a
 alias_kind w a x = ap (λ z. kind_of (inst w z)) x.is ∙ by_head x.head ∙ ap kind_of (sym x.is)
   where
     by_head : (h : AliasHead) → kind_of (inst w (alias h x.parts)) ≡ kind_of (alias h x.parts)
@@ -63,7 +63,7 @@ no_region a x e = by_head x.head (sym (ap kind_of x.is) ∙ e)
     by_head (alias_of.Ty i) q = cc q
     by_head (alias_of.Const i) q = cc q
 
-fits_alias : (s : Sort) (a t : Tree) → IsAlias a → kind_of a ≡ Some (of_sort s) → kind_of t ≡ kind_of a → Fits (kind_of_sort s) t
+pub fits_alias : (s : Sort) (a t : Tree) → IsAlias a → kind_of a ≡ Some (of_sort s) → kind_of t ≡ kind_of a → Fits (kind_of_sort s) t
 fits_alias sort.Ty a t i e k = k ∙ e
 fits_alias sort.Const a t i e k = k ∙ e
 fits_alias sort.Region a t i e k = absurd (no_region a i e)

@@ -18,10 +18,10 @@ use Rattle.nts_variance_model.specs.Variances.SettledProofs.{IsReached, start, o
 use Rattle.nts_theory.specs.Affirming.{goals_there, is_well_formed, SaysOfTwo}
 use Rattle.nts_model.specs.Derivations.Handlers.{Handler, meaning, goals_in}
 use Rattle.nts_model.specs.Refutation.Containing.{IsAliasFree, Truth, IsTrueBy, IsGroundLabel, AreGround}
-use Rattle.nts_theory.specs.Refutation.Refutation.{HasNoAlias, IsGranted, UsesClause, UsesOpened, AreUsed, binding, IsGroundInstance, PlainNode}
+use Rattle.nts_theory.specs.Refutation.Refutation.{HasNoAlias, IsGranted, NormalizeToOne, IsNormalAlias, AreMadeOne, by_alias, unmoved, UsesClause, UsesOpened, AreUsed, binding, IsGroundInstance, PlainNode}
 use Rattle.nts_model.proofs.Terms.Composing.{after, instance_of-after, IsFormed-instance}
 use Rattle.nts_model.proofs.Terms.Identified.{one_at}
-use Rattle.nts_theory.proofs.Refutation.UsedRules.{IsPredicate, uses_unbound, uses_binding, Engine, EngineOpened, engine_unbound, engine_binding, formed_proved, said_true}
+use Rattle.nts_theory.proofs.Refutation.UsedRules.{IsPredicate, uses_unbound, unbound_unmoved, uses_binding, Engine, EngineOpened, engine_unbound, engine_binding, formed_proved, said_true}
 use Rattle.nts_theory.proofs.Derivations.ProofInstances.{HasOneSide-under as one_side_under}
 use Rattle.nts_theory.proofs.Refutation.PlainTerms.{opened_none, none_is_alias, free_none, no_head}
 use Rattle.nts_theory.proofs.Refutation.Saying.{said_no_handlers}
@@ -31,7 +31,8 @@ use Rattle.nts_model.specs.declared.labels.AliasHead.TheVariants as alias_of
 use Rattle.nts_model.specs.declared.labels.Variance.TheVariants as variance
 use Rattle.nts_model.specs.declared.labels.AliasRelationDirection.TheVariants as direction
 use Rattle.nts_theory.specs.Aliasing.{alias_relation}
-use Rattle.nts_theory.proofs.Refutation.Covering.{related_equal}
+use Rattle.nts_theory.proofs.Refutation.Covering.{related_equal, related_by_left, related_by_right}
+use Rattle.nts_theory.proofs.Refutation.Together.{free_settled}
 use Rattle.nts_theory.proofs.Aliases.Unfolding.{unfold_alias}
 
 -- the goals that a plain proof reaches
@@ -82,7 +83,7 @@ equal_true : (truth : Truth) (x : Constraint) → HoldsIn truth x → x.relation
 equal_true truth x h e = subst (λ z. IsTrueBy truth z x.left x.right) e h
 
 -- an alias has one head and one list of arguments
-one_alias : (h k : AliasHead) (ts us : Tree) → alias h ts ≡ alias k us → (h ≡ k) × (ts ≡ us)
+pub one_alias : (h k : AliasHead) (ts us : Tree) → alias h ts ≡ alias k us → (h ≡ k) × (ts ≡ us)
 one_alias (alias_of.Ty i) (alias_of.Ty j) ts us e = (cc e, cc e)
 one_alias (alias_of.Const i) (alias_of.Const j) ts us e = (cc e, cc e)
 one_alias (alias_of.Ty i) (alias_of.Const j) ts us e = cc e
@@ -196,23 +197,6 @@ module _ (h : Handler) (V : ℕ → List Variance) (truth : Truth) where
     rested : (q : Premise) → (let r = p.reached in RestsOnAt m r.node r.at q) → Proves q.environment q.predicate
     rested q t = (let r = p.reached in rests_proved p.of_proof r.node r.at r.reached q t)
 
-    used_unbound : (s : Tree) → g ≡ unbound s → IsHandlers s → IsClosed s → UsesClause h truth Proves e s
-    used_unbound s is i c = (let r = p.reached in
-        uses_unbound h (strictly m) truth Proves (λ a x. x) are_ground shaped_goal IsAliasFree (GrantsAt r.node r.at) (HidesAt r.node r.at) (RestsOnAt m r.node r.at) (λ v k. k) granted rested e s i c
-        (subst (IsRule (strictly m) coherence IsAliasFree (GrantsAt r.node r.at) (HidesAt r.node r.at) (RestsOnAt m r.node r.at) e) is (goal_rule e g p)))
-
-    used_binding : (x xs s : Tree) → g ≡ binding x xs s → IsHandlers s → UsesOpened h truth Proves e (binding x xs s) s
-    used_binding x xs s is i = (let r = p.reached in
-        uses_binding h (strictly m) truth Proves (λ a y. y) are_ground shaped_goal IsAliasFree (GrantsAt r.node r.at) (HidesAt r.node r.at) (RestsOnAt m r.node r.at) (λ v k. k) granted rested e x xs s i
-        (subst (IsRule (strictly m) coherence IsAliasFree (GrantsAt r.node r.at) (HidesAt r.node r.at) (RestsOnAt m r.node r.at) e) is (goal_rule e g p)))
-
-    said_here : (s : Tree) (y : Constraint) → (let r = p.reached in Engine (strictly m) IsAliasFree (GrantsAt r.node r.at) (HidesAt r.node r.at) (RestsOnAt m r.node r.at) e s) → HasNoAlias s → SaysOfTwo y s → HoldsIn truth y
-    said_here s y b n says = (let r = p.reached in said_true h (strictly m) truth Proves (λ a z. z) are_ground shaped_goal IsAliasFree (GrantsAt r.node r.at) (HidesAt r.node r.at) (RestsOnAt m r.node r.at) (λ v k. k) granted rested e s y b n says)
-
-    formed_here : (s t : Tree) (ps : List Tree) (q : Tree) → (let r = p.reached in Engine (strictly m) IsAliasFree (GrantsAt r.node r.at) (HidesAt r.node r.at) (RestsOnAt m r.node r.at) e s) → s ≡ is_well_formed t → (let j = h.judges in j.well_formed e t ≡ Some ps) → Among ps q → IsGranted Proves e q
-    formed_here s t ps q b is given i = (let r = p.reached in
-        formed_proved h (strictly m) truth Proves (λ a y. y) are_ground shaped_goal IsAliasFree (GrantsAt r.node r.at) (HidesAt r.node r.at) (RestsOnAt m r.node r.at) (λ v k. k) granted rested e s t (goals_there e ps) b is (ap (goals_in e) given) (asked_there e q) (asked_among e ps q i))
-
   -- what an alias is equal to, in which no alias stands, is what it normalizes to
   module _ (e a t : Tree) (x : IsAlias a) (closed : IsClosed t) (none : HasNoAlias t) where
     same_parts : (y : IsAlias a) (r : Tree) → normalization_goal y.head y.parts r ≡ normalization_goal x.head x.parts r
@@ -256,6 +240,131 @@ module _ (h : Handler) (V : ℕ → List Variance) (truth : Truth) where
         let u = unfold_alias (strictly m) coherence IsAliasFree (GrantsAt r.node r.at) (HidesAt r.node r.at) (RestsOnAt m r.node r.at) e direction.Equate t a closed x.closed (goal_rule e (alias_relation direction.Equate t a) p) in
         by_results (alias_relation direction.Equate t a) p variance.Invariant refl u.right u.left u.of_right (one_result IsAliasFree (Rests (alias_relation direction.Equate t a) p variance.Invariant refl) u.left u.of_left) (inr u.relate)
 
+  -- two aliases that are equal have one result
+  module _ (e a b : Tree) (x : IsAlias a) (y : IsAlias b) (p : Proves e (alias_relation direction.Equate a b)) where
+    abbrev RestsThere : Premise → Type 0
+    RestsThere = (let r = p.reached in Stands IsAliasFree (RestsOnAt m r.node r.at) (goal_kind m (alias_relation direction.Equate a b)))
+
+    -- the result of an alias is none
+    record IsNormal (c r : Tree) : Type 0 where
+      pub alias : IsAlias c
+      pub ends : IsClosed r
+      pub free : IsAliasFree r
+      pub kind : kind_of r ≡ kind_of c
+      pub proved : Proves e (normalization_goal alias.head alias.parts r)
+
+    normal_result : (c r : Tree) → IsAlias c → IsResult IsAliasFree RestsThere e c r → IsNormal c r
+    normal_result c r z (inl (same, may)) = absurd (none_is_alias c (free_none c (may z)) z)
+    normal_result c r z (inr (i, term, free, inl (k, rests), kinds)) =
+        record { alias = i; ends = term.closed; free = free; kind = kinds; proved = rested e (alias_relation direction.Equate a b) p (relating e (normalization_goal i.head i.parts r)) rests }
+    normal_result c r z (inr (i, term, free, inr (loose, stands), kinds)) = absurd (loose tt)
+
+    one_term : (r s : Tree) → IsAliasFree r → IsAliasFree s → AreResultsRelated (strictly m) IsAliasFree (let q = p.reached in GrantsAt q.node q.at) RestsThere e variance.Invariant r s → r ≡ s
+    one_term r s fr fs (inl k) =
+        related_equal V IsAliasFree (let q = p.reached in GrantsAt q.node q.at) (λ z. RestsThere (relating e z)) (λ i j k. granted e (alias_relation direction.Equate a b) p (record { relation = relation.Equal; left = i; right = j }) k) variance.Invariant r s refl (free_none r fr) (free_none s fs) k
+    one_term r s fr fs (inr (h, ts, us, is, other, rest)) = absurd (no_head h ts (subst HasNoAlias is (free_none r fr)))
+
+    equates_both : NormalizeToOne Proves e a b
+    equates_both =
+        let r = p.reached in
+        let u = unfold_alias (strictly m) coherence IsAliasFree (GrantsAt r.node r.at) (HidesAt r.node r.at) (RestsOnAt m r.node r.at) e direction.Equate a b x.closed y.closed (goal_rule e (alias_relation direction.Equate a b) p) in
+        let one = normal_result a u.left x u.of_left in
+        let other = normal_result b u.right y u.of_right in
+        let same : u.left ≡ u.right = one_term u.left u.right one.free other.free u.relate in
+        let i = other.alias in
+        record { left = one.alias; right = i; term = u.left; ends = one.ends; free = one.free; kind = one.kind; kind_too = ap kind_of same ∙ other.kind; first = one.proved; second = subst (λ z. Proves e (normalization_goal i.head i.parts z)) (sym same) other.proved }
+
+  -- two terms that are equal come to one, if one of them is an alias
+  normal_alias : (e a t : Tree) (x : IsAlias a) → IsClosed t → HasNoAlias t → Proves e (normalization_goal x.head x.parts t) → kind_of t ≡ kind_of a → IsNormalAlias (IsGranted Proves) e a t
+  normal_alias e a t x closed none p kinds =
+      record {
+        alias = x;
+        ends = closed;
+        none = none;
+        kind = kinds;
+        granted = record { ground = ground_goal e (normalization_goal x.head x.parts t) p; proved = λ s. p; with_values = λ n. absurd (n tt) };
+      }
+
+  module _ (e a b : Tree) (ca : IsClosed a) (cb : IsClosed b) (p : Proves e (alias_relation direction.Equate a b)) where
+    abbrev RestsHere : Premise → Type 0
+    RestsHere = (let r = p.reached in Stands IsAliasFree (RestsOnAt m r.node r.at) (goal_kind m (alias_relation direction.Equate a b)))
+
+    -- a side that is no alias is its own result
+    abbrev IsSideOf : Tree → Tree → Type 0
+    IsSideOf c r = (r ≡ c) × (IsAlias c → ⊥) ⊎ IsNormalAlias (IsGranted Proves) e c r × IsAliasFree r × IsFormed r
+
+    of_side : (c r : Tree) → IsResult IsAliasFree RestsHere e c r → IsSideOf c r
+    of_side c r (inl (same, may)) = inl (same, λ z. none_is_alias c (free_none c (may z)) z)
+    of_side c r (inr (i, term, free, inl (k, rests), kinds)) =
+        let q = rested e (alias_relation direction.Equate a b) p (relating e (normalization_goal i.head i.parts r)) rests in
+        let f = formed_goal e (normalization_goal i.head i.parts r) q in
+        inr (normal_alias e c r i term.closed (free_none r free) q kinds, free, f.1.0.1.1.0.1.1.0)
+    of_side c r (inr (i, term, free, inr (loose, stands), kinds)) = absurd (loose tt)
+
+    proved_here : (x y : Tree) → RestsHere (relating e (alias_relation direction.Equate x y)) → Proves e (alias_relation direction.Equate x y)
+    proved_here x y (inl (k, rests)) = rested e (alias_relation direction.Equate a b) p (relating e (alias_relation direction.Equate x y)) rests
+    proved_here x y (inr (loose, stands)) = absurd (loose tt)
+
+    of_left : (x y : Tree) → IsAlias x → IsClosed y → HasNoAlias y → RestsHere (relating e (alias_relation direction.Equate x y)) → IsNormalAlias (IsGranted Proves) e x y
+    of_left x y i closed none q = (let n = equates e x y i closed none (inl (proved_here x y q)) in normal_alias e x y i closed none n.0 n.1)
+
+    of_right : (x y : Tree) → IsAlias y → IsClosed x → HasNoAlias x → RestsHere (relating e (alias_relation direction.Equate x y)) → IsNormalAlias (IsGranted Proves) e y x
+    of_right x y i closed none q = (let n = equates e y x i closed none (inr (proved_here x y q)) in normal_alias e y x i closed none n.0 n.1)
+
+    same_region : (x y : Tree) → (let r = p.reached in GrantsAt r.node r.at (record { relation = relation.Equal; left = x; right = y })) → x ≡ y
+    same_region x y k = granted e (alias_relation direction.Equate a b) p (record { relation = relation.Equal; left = x; right = y }) k
+
+    by_sides : (r s : Tree) → IsSideOf a r → IsSideOf b s → AreResultsRelated (strictly m) IsAliasFree (let q = p.reached in GrantsAt q.node q.at) RestsHere e variance.Invariant r s → IsAlias a ⊎ IsAlias b → AreMadeOne (IsGranted Proves) e a b
+    by_sides r s (inl (x, n)) (inl (y, o)) z i = absurd (elim i [ inl j ↦ n j | inr j ↦ o j ])
+    by_sides r s (inr (x, fr, f)) (inl (y, o)) (inl z) i =
+        let back = related_by_right V IsAliasFree (let q = p.reached in GrantsAt q.node q.at) (λ z. RestsHere (relating e z)) same_region (IsNormalAlias (IsGranted Proves) e) of_right variance.Invariant r b refl (free_none r fr)
+        (subst (RelatedIn (strictly m) IsAliasFree (let q = p.reached in GrantsAt q.node q.at) RestsHere e variance.Invariant r) y z) in
+        record { term = r; formed = f; settled = free_settled r fr; left = by_alias x; right = back }
+    by_sides r s (inr (x, fr, f)) (inl (y, o)) (inr (h, ts, us, is, other, rest)) i = absurd (no_head h ts (subst HasNoAlias is (free_none r fr)))
+    by_sides r s (inl (x, n)) (inr (y, fs, f)) (inl z) i =
+        let forth = related_by_left V IsAliasFree (let q = p.reached in GrantsAt q.node q.at) (λ z. RestsHere (relating e z)) same_region (IsNormalAlias (IsGranted Proves) e) of_left variance.Invariant a s refl (free_none s fs)
+        (subst (λ v. RelatedIn (strictly m) IsAliasFree (let q = p.reached in GrantsAt q.node q.at) RestsHere e variance.Invariant v s) x z) in
+        record { term = s; formed = f; settled = free_settled s fs; left = forth; right = by_alias y }
+    by_sides r s (inl (x, n)) (inr (y, fs, f)) (inr (h, ts, us, is, other, rest)) i = absurd (no_head h us (subst HasNoAlias other (free_none s fs)))
+    by_sides r s (inr (x, fr, f)) (inr (y, fs, g)) (inl z) i =
+        let same : r ≡ s = related_equal V IsAliasFree (let q = p.reached in GrantsAt q.node q.at) (λ z. RestsHere (relating e z)) same_region variance.Invariant r s refl (free_none r fr) (free_none s fs) z in
+        record { term = r; formed = f; settled = free_settled r fr; left = by_alias x; right = by_alias (subst (IsNormalAlias (IsGranted Proves) e b) (sym same) y) }
+    by_sides r s (inr (x, fr, f)) (inr (y, fs, g)) (inr (h, ts, us, is, other, rest)) i = absurd (no_head h ts (subst HasNoAlias is (free_none r fr)))
+
+    resolves : IsAlias a ⊎ IsAlias b → AreMadeOne (IsGranted Proves) e a b
+    resolves i =
+        let r = p.reached in
+        let u = unfold_alias (strictly m) coherence IsAliasFree (GrantsAt r.node r.at) (HidesAt r.node r.at) (RestsOnAt m r.node r.at) e direction.Equate a b ca cb (goal_rule e (alias_relation direction.Equate a b) p) in
+        by_sides u.left u.right (of_side a u.left u.of_left) (of_side b u.right u.of_right) u.relate i
+
+  -- so a rule for a goal is a use of a clause
+  module _ (e g : Tree) (p : Proves e g) where
+    granted_here : (x : Constraint) → (let r = p.reached in GrantsAt r.node r.at x) → HoldsIn truth x
+    granted_here = granted e g p
+
+    rested_here : (q : Premise) → (let r = p.reached in RestsOnAt m r.node r.at q) → Proves q.environment q.predicate
+    rested_here = rested e g p
+
+    comes_together : (f a b : Tree) → IsAlias a ⊎ IsAlias b → IsClosed a → IsClosed b → Proves f (alias_relation direction.Equate a b) → AreMadeOne (IsGranted Proves) f a b
+    comes_together f a b i ca cb q = resolves f a b ca cb q i
+
+    used_unbound : (s : Tree) → g ≡ unbound s → IsHandlers s → IsClosed s → UsesClause h truth Proves e s
+    used_unbound s is i c = (let r = p.reached in
+        uses_unbound h (strictly m) truth Proves (λ a x. x) are_ground shaped_goal IsAliasFree (GrantsAt r.node r.at) (HidesAt r.node r.at) (RestsOnAt m r.node r.at) (λ v k. k) granted_here rested_here comes_together e s (subst (λ z. IsFormed (pair e z)) is (formed_goal e g p)) i c
+        (subst (IsRule (strictly m) coherence IsAliasFree (GrantsAt r.node r.at) (HidesAt r.node r.at) (RestsOnAt m r.node r.at) e) is (goal_rule e g p)))
+
+    used_binding : (x xs s : Tree) → g ≡ binding x xs s → IsHandlers s → UsesOpened h truth Proves e (binding x xs s) s
+    used_binding x xs s is i = (let r = p.reached in
+        uses_binding h (strictly m) truth Proves (λ a y. y) are_ground shaped_goal IsAliasFree (GrantsAt r.node r.at) (HidesAt r.node r.at) (RestsOnAt m r.node r.at) (λ v k. k) granted_here rested_here comes_together e x xs s (subst (λ z. IsFormed (pair e z)) is (formed_goal e g p)) i
+        (subst (IsRule (strictly m) coherence IsAliasFree (GrantsAt r.node r.at) (HidesAt r.node r.at) (RestsOnAt m r.node r.at) e) is (goal_rule e g p)))
+
+    said_here : (s : Tree) (y : Constraint) → (let r = p.reached in Engine (strictly m) IsAliasFree (GrantsAt r.node r.at) (HidesAt r.node r.at) (RestsOnAt m r.node r.at) e s) → HasNoAlias s → SaysOfTwo y s → HoldsIn truth y
+    said_here s y b n says = (let r = p.reached in said_true h (strictly m) truth Proves (λ a z. z) are_ground shaped_goal IsAliasFree (GrantsAt r.node r.at) (HidesAt r.node r.at) (RestsOnAt m r.node r.at) (λ v k. k) granted_here rested_here comes_together e s y b n says)
+
+    formed_here : (s t : Tree) (ps : List Tree) (q : Tree) → (let r = p.reached in Engine (strictly m) IsAliasFree (GrantsAt r.node r.at) (HidesAt r.node r.at) (RestsOnAt m r.node r.at) e s) → s ≡ is_well_formed t → (let j = h.judges in j.well_formed e t ≡ Some ps) → Among ps q → IsGranted Proves e q
+    formed_here s t ps q b is given i = (let r = p.reached in
+        formed_proved h (strictly m) truth Proves (λ a y. y) are_ground shaped_goal IsAliasFree (GrantsAt r.node r.at) (HidesAt r.node r.at) (RestsOnAt m r.node r.at) (λ v k. k) granted_here rested_here comes_together e s t (goals_there e ps) b is (ap (goals_in e) given) (asked_there e q) (asked_among e ps q i))
+
   formed_no_handlers : (s t : Tree) → s ≡ is_well_formed t → IsHandlers s → ⊥
   formed_no_handlers s t is i = subst IsHandlers is i
 
@@ -268,6 +377,7 @@ module _ (h : Handler) (V : ℕ → List Variance) (truth : Truth) where
         says = λ e s y p says closed n. (let none = said_no_handlers y s says in said_here e (unbound s) p s y (by_engine e s p none closed) n says);
         formed = λ e s p closed t ps is given q i. (let none = formed_no_handlers s t is in formed_here e (unbound s) p s t ps q (by_engine e s p none closed) is given i);
         equates = λ e a t x p closed none. equates e a t x closed none p;
+        equates_both = equates_both;
         formed_opened = λ e x xs s p. (let o = opened_engine e x xs s p in
             record {
               fresh = o.fresh;
@@ -287,6 +397,11 @@ module _ (h : Handler) (V : ℕ → List Variance) (truth : Truth) where
                   said_here e (binding x xs s) p (opened o.fresh 0 s) y (o.follows none) (opened_none o.fresh 0 s n) says);
             });
       }
+
+  -- where its names are its own
+  pub plain_unmoved : (e s : Tree) (p : Proves e (unbound s)) (i : IsHandlers s) (c : IsClosed s) → (let u = plain_used in (u.plain e s p i c).carrier) ≡ unmoved
+  unfolding plain_used used_unbound
+  plain_unmoved e s p i c = (let r = p.reached in unbound_unmoved h (strictly m) truth Proves (λ a x. x) are_ground shaped_goal IsAliasFree (GrantsAt r.node r.at) (HidesAt r.node r.at) (RestsOnAt m r.node r.at) (λ v k. k) (granted_here e (unbound s) p) (rested_here e (unbound s) p) (comes_together e (unbound s) p) e s _ i c _)
 
   -- a goal that has such a proof is reached
   pub root_reached : (p : GroundProof m (HoldsIn truth)) → (let w = p.proof in Proves (instance_of w.at w.node.sequent.environment) (instance_of w.at w.node.sequent.predicate))

@@ -14,10 +14,10 @@ use Rattle.nts_model.specs.Derivations.Handlers.{Handler, meaning, IsLawfulHandl
 use Rattle.nts_model.specs.Refutation.Containing.{Truth, IsTrueBy, IsSolution, AnswerContains, HasNoSolution}
 use Rattle.nts_model.specs.Refutation.Coherence.{RulesAreOffered}
 use Rattle.nts_model.specs.Canonical.Inputs.{CanonicalInput}
-use Rattle.nts_theory.specs.Refutation.Refutation.{IsPlainFor, IsGrantedAsAsked, IsFair, RespectsLeaks, IsTheory, TurnsEqualities, HasMetProof, HasNoSolutionIn, KeepsSolutionsOf}
+use Rattle.nts_theory.specs.Refutation.Refutation.{IsPlainFor, IsGrantedAsAsked, IsFair, RespectsLeaks, IsTheory, JoinsEqualities, HasMetProof, HasNoSolutionIn, KeepsSolutionsOf}
 use Rattle.nts_theory.proofs.Refutation.Entering.{entered as enters}
 use Rattle.nts_theory.proofs.Refutation.Theories.{Carried, carried_itself, carried_theory}
-use Rattle.nts_theory.proofs.Refutation.Turned.{Turned, turned_theory, turned_equalities}
+use Rattle.nts_theory.proofs.Refutation.Joined.{Joined, joined_theory, joined_equalities}
 use Rattle.nts_theory.proofs.Refutation.ReachedGoals.{InPlainProof, plain_used, root_reached, ground_proof}
 use Rattle.nts_theory.specs.Telling.{Verdict, Queries, Asked, Refused, QueryTells, QueryRefutes}
 use Rattle.nts_theory.proofs.Refutation.Queried.{BeginsEach, IsFirst, first_query}
@@ -31,16 +31,16 @@ module _ (Q : Queries) (begins : BeginsEach Q) (h : Handler) (V : ℕ → List V
   Reached = Carried (InPlainProof (meaning h V) Holds)
 
   abbrev Proves : Tree → Tree → Type 0
-  Proves = Turned Reached
+  Proves = Joined Reached
 
   reached_theory : IsTheory h truth Reached
   reached_theory = carried_theory h truth (InPlainProof (meaning h V) Holds) lawful.rules lawful.judges fair (plain_used h V truth)
 
   pub theory : IsTheory h truth Proves
-  theory = turned_theory h truth Reached reached_theory
+  theory = joined_theory h truth Reached reached_theory
 
-  pub turns : TurnsEqualities Proves
-  turns = turned_equalities h truth Reached reached_theory
+  pub joins : JoinsEqualities Proves
+  joins = joined_equalities h truth Reached reached_theory
 
   proved : (e g : Tree) → HasMetProof (meaning h V) truth e g → Proves e g
   proved e g x =
@@ -53,18 +53,18 @@ module _ (Q : Queries) (begins : BeginsEach Q) (h : Handler) (V : ℕ → List V
 
   -- the root: no solution of the caller's table gives the goal a plain proof
   pub refused_has_no_proof : (c : Content) (e g : Tree) → Refused Q h coherence c e g → Knows c (pair e g) → AreCurrent c → (w : World) → IsSolution truth c.universe c w → IsPlainFor w (pair e g) → HasMetProof (meaning h V) truth (inst w e) (inst w g) → ⊥
-  refused_has_no_proof c e g r k current w s f p = refused_none Q begins h truth Proves theory turns fair respects lawful law r k current c.universe w s f (granted (inst w e) (inst w g) p)
+  refused_has_no_proof c e g r k current w s f p = refused_none Q begins h truth Proves theory joins fair respects lawful law r k current c.universe w s f (granted (inst w e) (inst w g) p)
 
   -- each answer of a query contains each solution of its input, and what a query refutes has none
   pub answer_contains_all : (f : CanonicalInput) (v : Verdict) → IsFirst f (Q.table f.kinds) (Q.values f.kinds) → QueryTells Q h coherence f v → AnswerContains truth (IsGrantedAsAsked Proves) f v.response
   answer_contains_all f v first t ts s =
       let e = enters truth (IsGrantedAsAsked Proves) f (Q.table f.kinds) (Q.values f.kinds) ts first.begins s in
-      tells_contain Q begins h truth Proves theory turns fair respects lawful law t (first_query f (Q.table f.kinds) (Q.values f.kinds) first) ts e.world (record { values = s.values; plain = s.plain; solution = e.solution; free = e.plain; images = e.images; proved = e.proved })
+      tells_contain Q begins h truth Proves theory joins fair respects lawful law t (first_query f (Q.table f.kinds) (Q.values f.kinds) first) ts e.world (record { values = s.values; plain = s.plain; solution = e.solution; free = e.plain; images = e.images; proved = e.proved })
 
   pub refuted_has_none : (f : CanonicalInput) → IsFirst f (Q.table f.kinds) (Q.values f.kinds) → QueryRefutes Q h coherence f → HasNoSolution (IsGrantedAsAsked Proves) f
   refuted_has_none f first t ts s =
       let e = enters truth (IsGrantedAsAsked Proves) f (Q.table f.kinds) (Q.values f.kinds) ts first.begins s in
-      refutes_none Q begins h truth Proves theory turns fair respects lawful law t (first_query f (Q.table f.kinds) (Q.values f.kinds) first) ts e.world (record { values = s.values; plain = s.plain; solution = e.solution; free = e.plain; images = e.images; proved = e.proved })
+      refutes_none Q begins h truth Proves theory joins fair respects lawful law t (first_query f (Q.table f.kinds) (Q.values f.kinds) first) ts e.world (record { values = s.values; plain = s.plain; solution = e.solution; free = e.plain; images = e.images; proved = e.proved })
 
   -- .. so each solution in which the goal has a plain proof
   pub answer_contains_each : (f : CanonicalInput) (v : Verdict) → IsFirst f (Q.table f.kinds) (Q.values f.kinds) → QueryTells Q h coherence f v → AnswerContains truth (HasMetProof (meaning h V) truth) f v.response
@@ -92,7 +92,7 @@ module _ (Q : Queries) (begins : BeginsEach Q) (h : Handler) (lawful : IsLawfulH
       record {
         each = λ truth fair respects v w s f p.
             (let t = theory Q begins h v truth lawful law fair respects in
-            let l = asked_leads Q begins h truth _ t (turns Q begins h v truth lawful law fair respects) fair respects lawful law a known_there current in
+            let l = asked_leads Q begins h truth _ t (joins Q begins h v truth lawful law fair respects) fair respects lawful law a known_there current in
             let x = l.each c.universe w s f (granted Q begins h v truth lawful law fair respects _ _ (proof_there truth v w s p)) in
             (x.world, x.agrees, x.solution));
       }

@@ -23,19 +23,19 @@ use Rattle.nts_model.specs.Tables.Passing.{AllLabels}
 use Rattle.nts_model.specs.Terms.Substitutions.{leaf_tree, put, Occurs, StaysItself, leaf_sort, Renaming, rename}
 use Rattle.nts_model.specs.Derivations.Related.{Constraint, pair, unbound, alias, IsAlias}
 use Rattle.nts_model.specs.Lists.{Among}
-use Rattle.nts_model.specs.Derivations.Rules.{coherence, statement_of, Equation, related, alike, opened, opened_at, AreFresh, IsHandlers, normalization_goal}
+use Rattle.nts_model.specs.Derivations.Rules.{statement_of, Equation, related, alike, opened, opened_at, AreFresh, IsHandlers, normalization_goal}
 use Rattle.nts_model.specs.Canonical.Numbered.{seen, AreDistinct}
 use Rattle.nts_model.specs.Refutation.Opening.{placeholder_in}
 use Rattle.nts_model.specs.Refutation.Choosing.{left_of, right_of}
-use Rattle.nts_model.specs.Derivations.Handlers.{Handler, equation_by, constraint_by, premise_by, application_under, InstancesAreRules, JudgementsAreKept}
-use Rattle.nts_model.specs.Refutation.Containing.{IsAliasFree, Truth, IsTrueBy, IsGroundLabel}
+use Rattle.nts_model.specs.Derivations.Handlers.{Handler, equation_by, constraint_by, InstancesAreRules, JudgementsAreKept}
+use Rattle.nts_model.specs.Refutation.Containing.{Truth, IsTrueBy, IsGroundLabel}
 use Rattle.nts_theory.specs.Affirming.{IsDenied, SaysOfTwo, is_well_formed}
 use Rattle.nts_theory.proofs.Refutation.OpenedTerms.{opened_formed}
 use Rattle.nts_theory.proofs.Refutation.Affirming.{denied_replaced}
 use Rattle.nts_theory.proofs.Refutation.Outliving.{true_again}
 use Rattle.nts_theory.proofs.Refutation.Saying.{was_formed, said_renamed, both_formed, said_before, said_opened, both_moved}
 use Rattle.nts_theory.specs.RelatingCandidates.{may_be_argument, AreTypesApart}
-use Rattle.nts_theory.specs.Refutation.Refutation.{HasNoAlias, HasPlainSides, IsGranted, IsGrantedAsAsked, IsCarrying, IsFair, IsEqualAlias, EqualsBy, same_tree, by_alias, by_row, by_node, AreEqualSides, UsesClause, UsesNamed, binding, GrantsFormed, AreUsed, IsTheory}
+use Rattle.nts_theory.specs.Refutation.Refutation.{HasNoAlias, HasPlainSides, IsGranted, IsGrantedAsAsked, NormalizeToOne, IsCarrying, IsFair, IsNormalAlias, AreMadeOne, Carrier, unmoved, moves, carry, ComesTo, same_tree, by_alias, by_row, by_node, UsesClause, UsesNamed, binding, GrantsFormed, AreUsed, IsTheory}
 use Rattle.nts_model.proofs.Terms.Substituting.{replace-equal, replace-leaf, kind_of-replace}
 use Rattle.nts_model.proofs.Terms.Composing.{IsFormed-instance, IsClosed-instance, instance_kinds}
 use Rattle.nts_model.proofs.Tables.Solving.{NamesAll-more}
@@ -49,6 +49,8 @@ use Rattle.nts_theory.proofs.Refutation.OpenedGoals.{rename_opened, kept_tree}
 use Rattle.nts_theory.proofs.Refutation.Carrying.{names_replaced}
 use Rattle.nts_theory.proofs.Refutation.Carriers.{forward_others, forward_property, none_renamed, none_carrying, then_by, then_carrying, rename_then, back_to, back_carrying, region_carried, instance_by, AreMovable, extension_carrying, shifted, shifted_carrying, shifted_low}
 use Rattle.nts_theory.proofs.Refutation.PlainTerms.{no_alias_renamed, no_alias_before, free_renamed, statement_before, kept_before, rules_before}
+use Rattle.nts_theory.proofs.Refutation.ReachedGoals.{one_alias}
+use Rattle.nts_theory.proofs.Refutation.Together.{settled_renamed}
 use Rattle.nts_theory.proofs.Refutation.WithValues.{still_alias, values_renamed, kept_later}
 use Rattle.nts_theory.proofs.Refutation.UsedRules.{handlers_replaced, handlers_before}
 use Rattle.nts_model.specs.declared.labels.AliasHead.{AliasHead}
@@ -164,61 +166,72 @@ true_renamed truth fair ρ k relation.RegionOutlives a b (inl e) = inl (ap (rena
 true_renamed truth fair ρ k relation.RegionOutlives a b (inr e) = inr (fair.renamed ρ k a b ∙ e)
 true_renamed truth fair ρ k relation.TypeOutlives a b e = fair.renamed ρ k a b ∙ e
 
--- what aliases are equal to, renamed
+-- what aliases normalize to, renamed
 module _ (Granted Later : Tree → Tree → Type 0) (ρ : Renaming) (k : IsCarrying ρ) (later : (e g : Tree) → Granted e g → Later (rename ρ e) (rename ρ g)) where
-  equal_alias_renamed : (e a t : Tree) → IsEqualAlias Granted e a t → IsEqualAlias Later (rename ρ e) (rename ρ a) (rename ρ t)
-  equal_alias_renamed e a t x =
+  pub normal_renamed : (e a t : Tree) → IsNormalAlias Granted e a t → IsNormalAlias Later (rename ρ e) (rename ρ a) (rename ρ t)
+  normal_renamed e a t x =
+      let kinds = instance_kinds (instance_by ρ k) in
+      let i = x.alias in
       record {
-        alias = still_alias ρ k a x.alias;
+        alias = still_alias ρ k a i;
         ends = IsClosed-instance (instance_by ρ k) t x.ends;
         none = no_alias_renamed ρ t x.none;
-        granted = elim x.granted [ inl g ↦ inl (later e (alias_relation direction.Equate a t) g) | inr g ↦ inr (later e (alias_relation direction.Equate t a) g) ];
+        kind = kind_of-replace (λ z. leaf_tree (ρ.to z)) kinds t ∙ x.kind ∙ sym (kind_of-replace (λ z. leaf_tree (ρ.to z)) kinds a);
+        granted = later e (normalization_goal i.head i.parts t) x.granted;
       }
 
-  put_equal : (R : Tree → Tree → Type 0) (f : Leaf → Tree) (l : Label) (c d : Tree) → EqualsBy R c d → EqualsBy R (put f l c) (put f l d)
-  put_equal R f (label.Leaf x) c d q = same_tree
-  put_equal R f (label.Bound s i n) c d q = by_node q
-  put_equal R f (label.Ty x) c d q = by_node q
-  put_equal R f (label.Const x) c d q = by_node q
-  put_equal R f (label.Clause x) c d q = by_node q
-  put_equal R f (label.Predicate x) c d q = by_node q
-  put_equal R f (label.List x) c d q = by_node q
+  put_comes : (R : Tree → Tree → Type 0) (f : Leaf → Tree) (l : Label) (c d : Tree) → ComesTo R c d → ComesTo R (put f l c) (put f l d)
+  put_comes R f (label.Leaf x) c d q = same_tree
+  put_comes R f (label.Bound s i n) c d q = by_node q
+  put_comes R f (label.Ty x) c d q = by_node q
+  put_comes R f (label.Const x) c d q = by_node q
+  put_comes R f (label.Clause x) c d q = by_node q
+  put_comes R f (label.Predicate x) c d q = by_node q
+  put_comes R f (label.List x) c d q = by_node q
 
-  equal_renamed : (e a b : Tree) → EqualsBy (IsEqualAlias Granted e) a b → EqualsBy (IsEqualAlias Later (rename ρ e)) (rename ρ a) (rename ρ b)
-  equal_renamed e a b same_tree = same_tree
-  equal_renamed e a b (by_alias x) = by_alias (equal_alias_renamed e a b x)
-  equal_renamed e (more a s) (more b t) (by_row p q) = by_row (equal_renamed e a b p) (equal_renamed e s t q)
-  equal_renamed e (node l c) (node m d) (by_node p) = put_equal _ (λ x. leaf_tree (ρ.to x)) l (rename ρ c) (rename ρ d) (equal_renamed e c d p)
+  comes_renamed : (e a b : Tree) → ComesTo (IsNormalAlias Granted e) a b → ComesTo (IsNormalAlias Later (rename ρ e)) (rename ρ a) (rename ρ b)
+  comes_renamed e a b same_tree = same_tree
+  comes_renamed e a b (by_alias x) = by_alias (normal_renamed e a b x)
+  comes_renamed e (more a s) (more b t) (by_row p q) = by_row (comes_renamed e a b p) (comes_renamed e s t q)
+  comes_renamed e (node l c) (node m d) (by_node p) = put_comes _ (λ x. leaf_tree (ρ.to x)) l (rename ρ c) (rename ρ d) (comes_renamed e c d p)
 
-  sides_renamed : (e a b : Tree) (q : Equation) → related a b ≡ equation_by (rename ρ) q → ((x y : Tree) → q ≡ related x y → AreEqualSides Granted e x y) → AreEqualSides Later (rename ρ e) a b
-  sides_renamed e a b (related x y) is h =
-      let left : rename ρ x ≡ a = cc is in
-      let right : rename ρ y ≡ b = cc is in
-      let s = h x y refl in
-      subst (AreEqualSides Later (rename ρ e) a) right
-      (subst (λ z. AreEqualSides Later (rename ρ e) z (rename ρ y)) left
-      (record { from_left = λ n. equal_renamed e x y (s.from_left (no_alias_before ρ y n)); from_right = λ n. equal_renamed e y x (s.from_right (no_alias_before ρ x n)) }))
-  sides_renamed e a b (alike x y) is h = cc is
+  made_renamed : (e a b : Tree) → AreMadeOne Granted e a b → AreMadeOne Later (rename ρ e) (rename ρ a) (rename ρ b)
+  made_renamed e a b m =
+      record {
+        term = rename ρ m.term;
+        formed = IsFormed-instance (instance_by ρ k) m.term m.formed;
+        settled = settled_renamed ρ m.term m.formed m.settled;
+        left = comes_renamed e a m.term m.left;
+        right = comes_renamed e b m.term m.right;
+      }
+
+-- carried on by a renaming
+abbrev pub then_carried : (ρ : Renaming) → IsCarrying ρ → Carrier → Carrier
+then_carried ρ k unmoved = moves ρ k
+then_carried ρ k (moves σ j) = moves (then_by σ ρ) (then_carrying σ ρ j k)
+
+carry_then : (ρ : Renaming) (k : IsCarrying ρ) (c : Carrier) (t : Tree) → carry (then_carried ρ k c) t ≡ rename ρ (carry c t)
+carry_then ρ k unmoved t = refl
+carry_then ρ k (moves σ j) t = sym (rename_then σ ρ t)
 
 -- a use of a clause, renamed
-pub uses_renamed : (h : Handler) (truth : Truth) (Proves Later : Tree → Tree → Type 0) (rules : InstancesAreRules h) → IsFair truth → (ρ : Renaming) (k : IsCarrying ρ)
+pub uses_renamed : (h : Handler) (truth : Truth) (Proves Later : Tree → Tree → Type 0) → IsFair truth → (ρ : Renaming) (k : IsCarrying ρ)
     → ((e g : Tree) → IsGranted Proves e g → IsGranted Later (rename ρ e) (rename ρ g)) → (e s : Tree) → UsesClause h truth Proves e s → UsesClause h truth Later (rename ρ e) (rename ρ s)
-uses_renamed h truth Proves Later rules fair ρ k later e s x =
+uses_renamed h truth Proves Later fair ρ k later e s x =
+    let c = x.carrier in
     record {
-      use_of = application_under (instance_by ρ k) x.use_of;
-      applies = rules.closed coherence x.use_of (instance_by ρ k) x.applies;
-      environment = ap (rename ρ) x.environment;
-      conclusion = ap (rename ρ) x.conclusion;
-      values = λ v i. (let r = mapped (rename ρ) x.use_of.values v i in subst IsAliasFree (sym r.2) (free_renamed ρ r.0 (x.values r.0 r.1)));
-      equal = λ q i n. (let r = mapped (equation_by (rename ρ)) x.use_of.equations q i in
-          subst (λ z. left_of z ≡ right_of z) (sym r.2) (equal_by (rename ρ) r.0 (x.equal r.0 r.1 (plain_before_renaming ρ r.0 (subst HasPlainSides r.2 n)))));
-      aliased = λ a b i. (let r = mapped (equation_by (rename ρ)) x.use_of.equations (related a b) i in
-          sides_renamed (IsGranted Proves) (IsGranted Later) ρ k later e a b r.0 r.2 (λ y z is. x.aliased y z (subst (Among x.use_of.equations) is r.1)));
-      apart = λ a b i t. (let r = mapped (equation_by (rename ρ)) x.use_of.equations (related a b) i in apart_before ρ x.use_of.equations r.0 a b r.2 t x.apart r.1);
-      met = λ y i. (let r = mapped (constraint_by (rename ρ)) x.use_of.constraints y i in
-          subst (λ z. IsTrueBy truth z.relation z.left z.right) (sym r.2) (true_renamed truth fair ρ k r.0.relation r.0.left r.0.right (x.met r.0 r.1)));
-      goals = λ p i. (let r = mapped (premise_by (rename ρ)) x.use_of.goals p i in
-          subst (λ z. IsGranted Later z.environment z.predicate) (sym r.2) (later r.0.environment r.0.predicate (x.goals r.0 r.1)));
+      use_of = x.use_of;
+      carrier = then_carried ρ k c;
+      applies = x.applies;
+      formed = x.formed;
+      environment = carry_then ρ k c _ ∙ ap (rename ρ) x.environment;
+      conclusion = carry_then ρ k c _ ∙ ap (rename ρ) x.conclusion;
+      values = x.values;
+      equal = x.equal;
+      aliased = λ a b i f. rw (carry_then ρ k c a, carry_then ρ k c b) (made_renamed (IsGranted Proves) (IsGranted Later) ρ k later e (carry c a) (carry c b) (x.aliased a b i f));
+      apart = x.apart;
+      met = λ y i. rw (carry_then ρ k c y.left, carry_then ρ k c y.right) (true_renamed truth fair ρ k y.relation (carry c y.left) (carry c y.right) (x.met y i));
+      goals = λ p i. rw (carry_then ρ k c p.environment, carry_then ρ k c p.predicate) (later (carry c p.environment) (carry c p.predicate) (x.goals p i));
     }
 
 -- a universe that names a tree, and trees
@@ -398,21 +411,27 @@ module _ (t : Tree) (formed : IsFormed t) (u : ℕ) (low : NamesAll leaf_level u
       (NamesAll-more leaf_level (top_of vs) bound_up v (le-max_right u (top_of vs)) (named_tops vs v i))
 
 -- so uses of clauses have named values
-pub uses_named : (h : Handler) (truth : Truth) (Proves : Tree → Tree → Type 0) (rules : InstancesAreRules h) → IsFair truth → ((ρ : Renaming) → IsCarrying ρ → (e g : Tree) → Proves e g → Proves (rename ρ e) (rename ρ g))
+carried_among : (c : Carrier) (vs : List Tree) (v : Tree) → Among vs v → Among (map (carry c) vs) (carry c v)
+carried_among c [] v i = absurd i
+carried_among c (x ∷ vs) v (inl e) = inl (ap (carry c) e)
+carried_among c (x ∷ vs) v (inr i) = inr (carried_among c vs v i)
+
+pub uses_named : (h : Handler) (truth : Truth) (Proves : Tree → Tree → Type 0) → IsFair truth → ((ρ : Renaming) → IsCarrying ρ → (e g : Tree) → Proves e g → Proves (rename ρ e) (rename ρ g))
     → (u : ℕ) (e s : Tree) → IsFormed (pair e s) → NamesAll leaf_level u (pair e s) → UsesClause h truth Proves e s → UsesNamed h truth Proves u e s
 unfolding uses_renamed
-uses_named h truth Proves rules fair kept u e s f n x =
+uses_named h truth Proves fair kept u e s f n x =
     let t = pair e s in
-    let vs = x.use_of.values in
+    let c = x.carrier in
+    let vs = (let a = x.use_of in map (carry c) a.values) in
     let ρ = homed t f u n vs in
     let k = homed_carrying t f u n vs in
     let same = homed_same t f u n vs in
-    let y = uses_renamed h truth Proves Proves rules fair ρ k (granted_renamed Proves Proves ρ k (kept ρ k)) e s x in
+    let y = uses_renamed h truth Proves Proves fair ρ k (granted_renamed Proves Proves ρ k (kept ρ k)) e s x in
     let left : rename ρ e ≡ e = first _ _ _ _ same in
     let right : rename ρ s ≡ s = second _ _ _ _ same in
     let here : UsesNamed h truth Proves u (rename ρ e) (rename ρ s) = record {
       uses = y;
-      named = λ v i. (let r = mapped (rename ρ) vs v i in subst (NamesAll leaf_level u) (sym r.2) (homed_named t f u n vs r.0 r.1));
+      named = λ v i. rw (carry_then ρ k c v) (homed_named t f u n vs (carry c v) (carried_among c x.use_of.values v i));
     } in
     subst (λ z. UsesNamed h truth Proves u z s) left (subst (λ z. UsesNamed h truth Proves u (rename ρ e) z) right here)
   where
@@ -663,7 +682,7 @@ module _ (e s : Tree) (formed : IsFormed (pair e s)) (f p : Sort → ℕ → Lea
   uses_swapped h truth Proves rules fair kept u =
       subst (λ z. UsesClause h truth Proves z (opened p 0 s)) (first_same _ _ _ _ swap_keeps)
       (subst (λ z. UsesClause h truth Proves (rename swap e) z) swap_opened
-      (uses_renamed h truth Proves Proves rules fair swap swap_carrying (granted_renamed Proves Proves swap swap_carrying (kept swap swap_carrying)) e (opened f 0 s) u))
+      (uses_renamed h truth Proves Proves fair swap swap_carrying (granted_renamed Proves Proves swap swap_carrying (kept swap swap_carrying)) e (opened f 0 s) u))
 
 -- a goal that is opened with placeholders of the next universe is named by that
 level_in : (u : ℕ) (s : Sort) (n : ℕ) → CanName u (leaf_level (label.Leaf (placeholder_in u s n)))
@@ -779,14 +798,14 @@ module _ (h : Handler) (truth : Truth) (Proves : Tree → Tree → Type 0) (rule
       let t = rename b s in
       let is : c.predicate ≡ unbound t = before e (unbound s) c in
       let u = used.plain c.environment t (subst (Proves c.environment) is c.proved) (handlers_replaced (λ l. leaf_tree (b.to l)) s i) (IsClosed-instance (instance_by b k) s z) in
-      let v = uses_renamed h truth Proves Later rules fair c.by c.carrying (granted_later c.by c.carrying) c.environment t u in
+      let v = uses_renamed h truth Proves Later fair c.by c.carrying (granted_later c.by c.carrying) c.environment t u in
       let f = formed_later e (unbound s) c in
       subst (λ y. UsesClause h truth Later y s) c.is_environment (subst (λ y. UsesClause h truth Later (rename c.by c.environment) y) (forth_again c.by s (let y = f.1.0 in y.1.1.0)) v)
 
   plain_named : (u : ℕ) (e s : Tree) → Later e (unbound s) → IsHandlers s → IsClosed s → NamesAll leaf_level u (pair e s) → UsesNamed h truth Later u e s
   plain_named u e s c i z n =
       let f = formed_later e (unbound s) c in
-      uses_named h truth Later rules fair carried_kept u e s (f.0, ((let y = f.1.0 in y.1.1.0), tt)) n (plain_before e s c i z)
+      uses_named h truth Later fair carried_kept u e s (f.0, ((let y = f.1.0 in y.1.1.0), tt)) n (plain_before e s c i z)
 
   -- .. and of one that binds variables
   opened_before : (e x xs s : Tree) (p : Sort → ℕ → Leaf) → Later e (binding x xs s) → IsHandlers (opened p 0 s) → AreAbsent (pair e s) p → UsesClause h truth Later e (opened p 0 s)
@@ -797,7 +816,7 @@ module _ (h : Handler) (truth : Truth) (Proves : Tree → Tree → Type 0) (rule
       let is : c.predicate ≡ binding (rename b x) (rename b xs) t = before e (binding x xs s) c in
       let hs = handlers_replaced (λ l. leaf_tree (b.to l)) s (handlers_before p 0 s i) in
       let u = used.opened c.environment (rename b x) (rename b xs) t (subst (Proves c.environment) is c.proved) hs in
-      let v = uses_renamed h truth Proves Later rules fair c.by c.carrying (granted_later c.by c.carrying) c.environment (opened u.fresh 0 t) u.uses in
+      let v = uses_renamed h truth Proves Later fair c.by c.carrying (granted_later c.by c.carrying) c.environment (opened u.fresh 0 t) u.uses in
       let f = formed_later e (binding x xs s) c in
       let fs : IsFormed s = (let y = f.1.0 in y.1.1.0) in
       let back : rename c.by t ≡ s = forth_again c.by s fs in
@@ -815,7 +834,7 @@ module _ (h : Handler) (truth : Truth) (Proves : Tree → Tree → Type 0) (rule
       let f = formed_later e (binding x xs s) c in
       let fresh = absent_fresh (pair e s) (placeholder_in (u + 1)) (fresh_in u (u + 1) (pair e s) (omega arith) n) in
       let up = NamesAll-more leaf_level u (u + 1) (pair e s) (omega arith) n in
-      uses_named h truth Later rules fair carried_kept (u + 1) e (opened (placeholder_in (u + 1)) 0 s) (f.0, (fo, tt)) (up.0, (named_opened (u + 1) 0 s up.1.0, tt))
+      uses_named h truth Later fair carried_kept (u + 1) e (opened (placeholder_in (u + 1)) 0 s) (f.0, (fo, tt)) (up.0, (named_opened (u + 1) 0 s up.1.0, tt))
       (opened_before e x xs s (placeholder_in (u + 1)) c i fresh)
 
   -- what is said of two terms before is so later
@@ -966,6 +985,43 @@ module _ (h : Handler) (truth : Truth) (Proves : Tree → Tree → Type 0) (rule
       let w = f.1.0 in
       equated_carried e (alias_relation direction.Equate t a) a t x c w.1.1.0.1.1.0 w.1.1.0.1.0 closed none (inr (before e (alias_relation direction.Equate t a) c))
 
+  -- what an alias normalizes to before it does later
+  normal_carried : (e g : Tree) (c : Later e g) (v a : Tree) (x : IsAlias a) → IsFormed a → (y : IsAlias (rename (back_to c.by) a)) → Proves c.environment (normalization_goal y.head y.parts v) → Later e (normalization_goal x.head x.parts (rename c.by v))
+  normal_carried e g c v a x fa y p =
+      let b = back_to c.by in
+      let k = back_carrying c.by c.carrying in
+      let z = still_alias b k a x in
+      let s = one_alias y.head x.head y.parts (rename b x.parts) (sym y.is ∙ z.is) in
+      let q : Proves c.environment (normalization_goal x.head (rename b x.parts) v) = subst (λ h. Proves c.environment (normalization_goal h (rename b x.parts) v)) s.0 (subst (λ h. Proves c.environment (normalization_goal y.head h v)) s.1 p) in
+      let l = carried_later c.by c.carrying c.environment (normalization_goal x.head (rename b x.parts) v) q in
+      let parts = forth_again c.by x.parts (parts_formed x.head x.parts (subst IsFormed x.is fa)) in
+      subst (λ h. Later h (normalization_goal x.head x.parts (rename c.by v))) c.is_environment (subst (λ h. Later (rename c.by c.environment) (normalization_goal x.head h (rename c.by v))) parts l)
+
+  -- .. and so are two aliases that are equal before
+  both_carried : (e a t : Tree) (c : Later e (alias_relation direction.Equate a t)) → IsAlias a → IsAlias t → NormalizeToOne Later e a t
+  both_carried e a t c x y =
+      let b = back_to c.by in
+      let k = back_carrying c.by c.carrying in
+      let f = formed_later e (alias_relation direction.Equate a t) c in
+      let w = f.1.0 in
+      let fa : IsFormed a = w.1.1.0.1.0 in
+      let ft : IsFormed t = w.1.1.0.1.1.0 in
+      let p = used.equates_both c.environment (rename b a) (rename b t) (still_alias b k a x) (still_alias b k t y) (subst (Proves c.environment) (before e (alias_relation direction.Equate a t) c) c.proved) in
+      let kinds = instance_kinds (instance_by b k) in
+      let forth = instance_kinds (instance_by c.by c.carrying) in
+      let there = normal_carried e (alias_relation direction.Equate a t) c p.term in
+      record {
+        left = x;
+        right = y;
+        term = rename c.by p.term;
+        ends = IsClosed-instance (instance_by c.by c.carrying) p.term p.ends;
+        free = free_renamed c.by p.term p.free;
+        kind = kind_of-replace (λ z. leaf_tree (let r = c.by in r.to z)) forth p.term ∙ p.kind ∙ kind_of-replace (λ z. leaf_tree (b.to z)) kinds a;
+        kind_too = kind_of-replace (λ z. leaf_tree (let r = c.by in r.to z)) forth p.term ∙ p.kind_too ∙ kind_of-replace (λ z. leaf_tree (b.to z)) kinds t;
+        first = there a x fa p.left p.first;
+        second = there t y ft p.right p.second;
+      }
+
   -- what is carried is a theory
   pub carried_theory : IsTheory h truth Later
   carried_theory =
@@ -978,6 +1034,7 @@ module _ (h : Handler) (truth : Truth) (Proves : Tree → Tree → Type 0) (rule
         denies = denies_later;
         formed = formed_carried;
         equates = equates_later;
+        equates_both = λ e a t x y c. both_carried e a t c x y;
         formed_opened = opened_carried;
         says_opened = says_opened_later;
       }

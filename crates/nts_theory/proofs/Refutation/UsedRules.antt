@@ -1,5 +1,5 @@
 -- What follows by a rule in coherence, by values without aliases, follows by a use of a clause.
-use Rattle.std.proofs.Common.{◌≡◌, inl, inr, ℕ, ◌+◌, Bool, true, false, Some, List, refl, sym, ap, subst, ◌∙◌}
+use Rattle.std.proofs.Common.{◌≡◌, ◌⊎◌, inl, inr, ℕ, ◌+◌, Bool, true, false, Some, List, refl, sym, ap, subst, ◌∙◌}
 use Rattle.std.specs.Prelude.{◌==◌, if◌then◌else◌}
 use Rattle.nts_model.specs.declared.labels.Sort.{Sort}
 use Rattle.nts_model.specs.declared.labels.Variance.TheVariants as variance
@@ -12,7 +12,7 @@ use Rattle.nts_model.specs.declared.labels.AliasHead.{AliasHead}
 use Rattle.nts_model.specs.declared.labels.AliasHead.TheVariants as alias_of
 use Rattle.nts_model.specs.declared.labels.Label.{Label}
 use Rattle.nts_model.specs.declared.labels.Label.TheVariants as label
-use Rattle.nts_model.specs.Terms.Trees.{Tree, empty, more, node, kind_of, binders, any_term, FitsPlace, IsClosed, IsFormed}
+use Rattle.nts_model.specs.Terms.Trees.{Tree, empty, more, node, kind_of, statement, binders, any_term, FitsPlace, IsClosed, IsFormed}
 use Rattle.nts_model.specs.Tables.Passing.{AllLabels}
 use Rattle.nts_model.specs.Terms.Substitutions.{leaf_tree, put, replace}
 use Rattle.nts_model.specs.Derivations.Related.{Constraint, pair, unbound, value, alias, alias_goal, IsAlias}
@@ -23,13 +23,15 @@ use Rattle.nts_model.specs.Derivations.Rules.{region_lives, type_lives, subtyped
 use Rattle.nts_model.specs.Refutation.Choosing.{left_of, right_of}
 use Rattle.nts_model.specs.Derivations.Handlers.{Handler}
 use Rattle.nts_model.specs.Refutation.Containing.{IsAliasFree, Truth, IsTrueBy, IsGroundLabel, AreGround}
-use Rattle.nts_theory.specs.Refutation.Refutation.{HasNoAlias, StandsAsIs, HasPlainSides, HasBareLeaves, IsProvedWithValues, IsGranted, IsEqualAlias, AreEqualSides, UsesClause, UsesOpened, binding}
+use Rattle.nts_theory.specs.Refutation.Refutation.{HasNoAlias, StandsAsIs, HasPlainSides, HasBareLeaves, IsProvedWithValues, IsGranted, IsNormalAlias, AreMadeOne, unmoved, UsesClause, UsesOpened, binding}
 use Rattle.nts_theory.specs.Affirming.{has_type, is_well_formed, SaysOfTwo, outlives_it, is_its_type}
 use Rattle.nts_theory.proofs.Derivations.ClosedStatements.{opened_closed}
 use Rattle.nts_theory.proofs.Refutation.Outliving.{built_in_holds}
 use Rattle.nts_theory.proofs.Derivations.Monotone.{replaced_more}
+use Rattle.nts_theory.proofs.Refutation.OpenedTerms.{opened_formed}
+use Rattle.nts_theory.proofs.Refutation.Together.{related_together}
 use Rattle.nts_theory.proofs.Refutation.WithValues.{bare_formed, bare_replaced}
-use Rattle.nts_theory.proofs.Refutation.Covering.{related_equal, related_by_left, related_by_right, related_other, related_apart, alike_equal, predicate_with, unreplaced_goal, replaced_labels, not_built_in, applied_by_rule}
+use Rattle.nts_theory.proofs.Refutation.Covering.{related_equal, related_other, related_apart, alike_equal, predicate_with, unreplaced_goal, replaced_labels, not_built_in, applied_by_rule}
 
 -- statements of a handler, by their labels
 abbrev HandlersHead : Label → Type 0
@@ -138,7 +140,8 @@ module _ (m : Meaning) (G : Tree → Type 0) (H : Constraint → Type 0) (D : Hi
 
 -- where what may be chosen has no aliases, rules of the handler are uses of clauses
 module _ (h : Handler) (m : Meaning) (truth : Truth) (Proves : Tree → Tree → Type 0) (same : (a : Application) → m.applies coherence a → h.applies coherence a) (ground : AreGround Proves) (shaped : (e g : Tree) → Proves e g → IsPredicate g)
-    (G : Tree → Type 0) (H : Constraint → Type 0) (D : Hidden → Type 0) (P : Premise → Type 0) (unaliased : (v : Tree) → G v → IsAliasFree v) (holds : (x : Constraint) → H x → IsTrueBy truth x.relation x.left x.right) (premised : (q : Premise) → P q → Proves q.environment q.predicate) where
+    (G : Tree → Type 0) (H : Constraint → Type 0) (D : Hidden → Type 0) (P : Premise → Type 0) (unaliased : (v : Tree) → G v → IsAliasFree v) (holds : (x : Constraint) → H x → IsTrueBy truth x.relation x.left x.right) (premised : (q : Premise) → P q → Proves q.environment q.predicate)
+    (resolves : (e a b : Tree) → IsAlias a ⊎ IsAlias b → IsClosed a → IsClosed b → Proves e (alias_goal variance.Invariant a b) → AreMadeOne (IsGranted Proves) e a b) where
   abbrev Chosen : GoalKind → Premise → Tree → Tree → Type 0
   Chosen k p a v = G v × P (choice k p a v) × IsTerm v
 
@@ -199,51 +202,65 @@ module _ (h : Handler) (m : Meaning) (truth : Truth) (Proves : Tree → Tree →
   equation_equal k e (related a b) (inr n) r = related_equal m.variances G H (λ z. Stands G P k (relating e z)) one_side variance.Invariant a b refl n.0 n.1 r
   equation_equal k e (alike a b) n r = alike_equal _ one_side a b r
 
-  -- an alias that a premise relates with a term is equal to it
-  left_alias : (k : GoalKind) (e a b : Tree) → IsAlias a → IsClosed b → HasNoAlias b → Stands G P k (relating e (alias_goal variance.Invariant a b)) → IsEqualAlias (IsGranted Proves) e a b
-  left_alias k e a b i c n s = record { alias = i; ends = c; none = n; granted = inl (stands_granted k (relating e (alias_goal variance.Invariant a b)) s) }
+  -- the sides of an equation come to one tree
+  normal_is : (e a t : Tree) → IsNormalAlias (IsGranted Proves) e a t → IsAlias a × IsClosed t × (kind_of t ≡ kind_of a)
+  normal_is e a t x = (x.alias, x.ends, x.kind)
 
-  right_alias : (k : GoalKind) (e a b : Tree) → IsAlias b → IsClosed a → HasNoAlias a → Stands G P k (relating e (alias_goal variance.Invariant a b)) → IsEqualAlias (IsGranted Proves) e b a
-  right_alias k e a b i c n s = record { alias = i; ends = c; none = n; granted = inr (stands_granted k (relating e (alias_goal variance.Invariant a b)) s) }
+  made_one : (k : GoalKind) (e a b : Tree) → IsFormed a → HoldsEquation m G H (Stands G P k) e (related a b) → AreMadeOne (IsGranted Proves) e a b
+  made_one k e a b f r =
+      related_together m.variances G H (λ z. Stands G P k (relating e z)) (IsNormalAlias (IsGranted Proves) e) one_side unaliased (normal_is e)
+      (λ x y i cx cy p. resolves e x y i cx cy (stands_proved k (relating e (alias_goal variance.Invariant x y)) p (inr tt))) variance.Invariant a b refl f r
 
-  equal_sides : (k : GoalKind) (e a b : Tree) → HoldsEquation m G H (Stands G P k) e (related a b) → AreEqualSides (IsGranted Proves) e a b
-  equal_sides k e a b r =
-      record {
-        from_left = λ n. related_by_left m.variances G H (λ z. Stands G P k (relating e z)) one_side (IsEqualAlias (IsGranted Proves) e) (left_alias k e) variance.Invariant a b refl n r;
-        from_right = λ n. related_by_right m.variances G H (λ z. Stands G P k (relating e z)) one_side (IsEqualAlias (IsGranted Proves) e) (right_alias k e) variance.Invariant a b refl n r;
-      }
-
-  uses_applied : (k : GoalKind) (e s : Tree) → IsApplied m coherence G H D (Stands G P k) e (unbound s) → UsesClause h truth Proves e s
-  uses_applied k e s a =
+  uses_applied : (k : GoalKind) (e s : Tree) → IsFormed (pair e (unbound s)) → IsApplied m coherence G H D (Stands G P k) e (unbound s) → UsesClause h truth Proves e s
+  uses_applied k e s f a =
       record {
         use_of = a.use_of;
+        carrier = unmoved;
         applies = same a.use_of a.applies;
+        formed = (subst IsFormed (sym a.environment) f.0, (subst IsFormed (sym a.conclusion) f.1.0, tt));
         environment = a.environment;
         conclusion = a.conclusion;
         values = λ v i. (let x = a.values v i in unaliased v x.0);
         equal = λ q i n. equation_equal k e q n (a.equations q i);
-        aliased = λ x y i. equal_sides k e x y (a.equations (related x y) i);
+        aliased = λ x y i fx. made_one k e x y fx (a.equations (related x y) i);
         apart = λ x y i t. related_apart m.variances G H (λ z. Stands G P k (relating e z)) one_side variance.Invariant x y refl t (a.equations (related x y) i);
         met = λ x i. holds x (a.constraints x i);
         goals = λ p i. stands_granted k p (a.goals p i);
       }
 
-  uses_plain : (e s : Tree) → IsHandlers s → IsPlainRule m coherence G H D P e s → UsesClause h truth Proves e s
-  uses_plain e s i (inl (j, a)) = uses_applied (goal_kind m (unbound s)) e s a
-  uses_plain e s i (inr b) = absurd (not_built_in m G H _ e s i b)
+  uses_plain : (e s : Tree) → IsFormed (pair e (unbound s)) → IsHandlers s → IsPlainRule m coherence G H D P e s → UsesClause h truth Proves e s
+  uses_plain e s f i (inl (j, a)) = uses_applied (goal_kind m (unbound s)) e s f a
+  uses_plain e s f i (inr b) = absurd (not_built_in m G H _ e s i b)
 
-  pub uses_unbound : (e s : Tree) → IsHandlers s → IsClosed s → IsRule m coherence G H D P e (unbound s) → UsesClause h truth Proves e s
-  uses_unbound e s i c r = uses_applied (goal_kind m (unbound s)) e s (applied_by_rule m coherence G H D P e s i c r)
+  pub uses_unbound : (e s : Tree) → IsFormed (pair e (unbound s)) → IsHandlers s → IsClosed s → IsRule m coherence G H D P e (unbound s) → UsesClause h truth Proves e s
+  uses_unbound e s f i c r = uses_applied (goal_kind m (unbound s)) e s f (applied_by_rule m coherence G H D P e s i c r)
+
+  pub unbound_unmoved : (e s : Tree) (f : IsFormed (pair e (unbound s))) (i : IsHandlers s) (c : IsClosed s) (r : IsRule m coherence G H D P e (unbound s)) → (uses_unbound e s f i c r).carrier ≡ unmoved
+  unfolding uses_unbound uses_applied
+  unbound_unmoved e s f i c r = refl
+
+  handlers_statement : (s : Tree) → IsHandlers s → kind_of s ≡ Some statement
+  handlers_statement (node (label.Clause x) c) i = refl
+  handlers_statement (node (label.Predicate x) c) i = refl
+  handlers_statement (node (label.Leaf x) c) i = absurd i
+  handlers_statement (node (label.Bound x y z) c) i = absurd i
+  handlers_statement (node (label.Ty x) c) i = absurd i
+  handlers_statement (node (label.Const x) c) i = absurd i
+  handlers_statement (node (label.List x) c) i = absurd i
+  handlers_statement empty i = absurd i
+  handlers_statement (more a b) i = absurd i
 
   -- .. opened with fresh placeholders
-  pub uses_binding : (e x xs s : Tree) → IsHandlers s → IsRule m coherence G H D P e (binding x xs s) → UsesOpened h truth Proves e (binding x xs s) s
-  uses_binding e x xs s i (inl (t, is, r)) = absurd (not_unbound x xs s t is)
-  uses_binding e x xs s i (inr (y, t, f, is, fresh, r)) =
+  pub uses_binding : (e x xs s : Tree) → IsFormed (pair e (binding x xs s)) → IsHandlers s → IsRule m coherence G H D P e (binding x xs s) → UsesOpened h truth Proves e (binding x xs s) s
+  uses_binding e x xs s g i (inl (t, is, r)) = absurd (not_unbound x xs s t is)
+  uses_binding e x xs s g i (inr (y, t, f, is, fresh, r)) =
       let same : s ≡ t = bound_statement x xs s y t is in
+      let there = handlers_opened f 0 s i in
+      let inside : IsFormed (opened f 0 s) = opened_formed f fresh.sorts 0 s (let b = g.1.0 in b.1.1.0) in
       record {
         fresh = f;
         are_fresh = fresh;
-        uses = uses_plain e (opened f 0 s) (handlers_opened f 0 s i) (subst (λ z. IsPlainRule m coherence G H D P e (opened f 0 z)) (sym same) r);
+        uses = uses_plain e (opened f 0 s) (g.0, (((refl, (handlers_statement (opened f 0 s) there, tt)), ((tt, tt), (inside, tt))), tt)) there (subst (λ z. IsPlainRule m coherence G H D P e (opened f 0 z)) (sym same) r);
       }
 
   -- the type of a value is the one that it has

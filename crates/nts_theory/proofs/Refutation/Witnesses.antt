@@ -18,7 +18,7 @@ use Rattle.nts_model.specs.Refutation.Containing.{IsAliasFree, IsPlainWorld, Tru
 use Rattle.nts_model.specs.Refutation.Coherence.{RulesAreOffered}
 use Rattle.nts_model.specs.Derivations.Rules.{statement_of}
 use Rattle.nts_theory.specs.AskedGoals.{asked_in}
-use Rattle.nts_theory.specs.Refutation.Refutation.{IsPlainFor, IsGranted, IsGrantedAsAsked, IsFair, RespectsLeaks, IsTheory, TurnsEqualities}
+use Rattle.nts_theory.specs.Refutation.Refutation.{IsPlainFor, IsGranted, IsGrantedAsAsked, IsFair, RespectsLeaks, IsTheory, JoinsEqualities}
 use Rattle.nts_model.proofs.Tables.Instances.{Agrees-trans}
 use Rattle.nts_model.proofs.Tables.Slots.{KeepsKinds-refl, KeepsKinds-trans}
 use Rattle.nts_theory.proofs.Refutation.AskingWorlds.{image, contained_granted}
@@ -34,7 +34,7 @@ use Rattle.nts_theory.proofs.Refutation.AskedGoals.{granted_weakly, begun_asked}
 use Rattle.nts_theory.proofs.Refutation.Posed.{posed_begun}
 use Rattle.nts_theory.proofs.Refutation.Affirming.{denied_inst, denied_before, denied_plain}
 use Rattle.nts_theory.proofs.Refutation.Stating.{own_begins}
-use Rattle.nts_theory.proofs.Refutation.Equating.{equality_begins, equality_no_lesser}
+use Rattle.nts_theory.proofs.Refutation.EquatingBoth.{normal_begins, normal_no_lesser}
 use Rattle.nts_theory.specs.Telling.{Verdict, Queries, kind_for, AreTermsOfKinds, StandsForAll, SaysOf, IsFound, without_constraints, IsPlainResponse, Tells, tells_nothing, says_nothing, tells_one, tells_outlives, tells_affirmed, tells_own, tells_subtype, tells_alias, tells_normal, Refutes, all_fail, is_denied, own_fails, is_no_subtype, subtype_refused, aliases_fail, normal_refused, by_lesser, by_one, Outcomes, no_outcome, then_fails, then_replies, Replies, replies, Fails, is_unmet, has_types_apart, is_unrelated, is_refused, is_leaky, Reaches, asks_nothing, then_asks, RefusesOne, refuses_one, cuts_one, Asked, asked_by, Refused, by_query, by_response}
 use Rattle.nts_theory.proofs.Refutation.Queried.{BeginsEach, Leads, Reached, IsSolved, IsQuery, first_query, IsTried, tried, tried_knows, found_table, solution_without, plain_without, entered_solution, entered_plain, says_contains, says_long}
 use Rattle.nts_theory.proofs.Refutation.Begun.{asked_from, originals_plain, BegunAt, asks_more, goal_known, goal_plain, goal_there}
@@ -63,7 +63,7 @@ pub record OneContains (truth : Truth) (vs : List Verdict) (ts : List Tree) : Ty
   pub contains : ContainsSolution truth verdict.response ts
 
 -- the theorem: in coherence each answer contains each solution, and what is refused has none
-module _ (Q : Queries) (begins : BeginsEach Q) (h : Handler) (truth : Truth) (Proves : Tree → Tree → Type 0) (theory : IsTheory h truth Proves) (turns : TurnsEqualities Proves) (fair : IsFair truth) (respects : RespectsLeaks h truth) (lawful : IsLawfulHandler h) (law : RulesAreOffered h) where
+module _ (Q : Queries) (begins : BeginsEach Q) (h : Handler) (truth : Truth) (Proves : Tree → Tree → Type 0) (theory : IsTheory h truth Proves) (joins : JoinsEqualities Proves) (fair : IsFair truth) (respects : RespectsLeaks h truth) (lawful : IsLawfulHandler h) (law : RulesAreOffered h) where
   abbrev Granted : Tree → Tree → Type 0
   Granted = IsGrantedAsAsked Proves
 
@@ -130,9 +130,9 @@ module _ (Q : Queries) (begins : BeginsEach Q) (h : Handler) (truth : Truth) (Pr
         let one = outcomes_contain all (tried ks c e g qs q) w x.solution (entered_plain c g w s.free) x.candidate x.offered x.begins in
         stands_contains ks qs vs v ts q.numbered q.kinds s.values s.plain (outcome_long all) stands (subst (OneContains truth vs) s.images one)
     tells_contain (tells_normal ps met found (inl outside) left reach is says) q ts w s = absurd (outside refl)
-    tells_contain {ks} {c} {e} {g} {qs} {v} (tells_normal ps met found (inr plain) (by_lesser left) reach is says) q ts w s = absurd (equality_no_lesser c g left.left left.right plain left.is)
+    tells_contain {ks} {c} {e} {g} {qs} {v} (tells_normal ps met found (inr plain) (by_lesser left) reach is says) q ts w s = absurd (normal_no_lesser c g left.left left.right plain left.is)
     tells_contain {ks} {c} {e} {g} {qs} {v} (tells_normal ps met found (inr plain) (by_one left refused) reach is says) q ts w s =
-        let b = equality_begins h truth Proves theory c w e g s.solution s.free q.knows s.proved plain met ps left in
+        let b = normal_begins h truth Proves theory ks c w e g qs s.solution s.free q.current q.table q.knows s.proved plain met ps left in
         subst (ContainsSolution truth v.response) s.images
         (some_says ks (entered_table c g) met found w e (opened_in c g) qs v ps (tried ks c e g qs q) is (entered_solution truth c g w s.solution) (entered_plain c g w s.free) b (reaches_keep reach b.terms) says)
 
@@ -154,7 +154,7 @@ module _ (Q : Queries) (begins : BeginsEach Q) (h : Handler) (truth : Truth) (Pr
         one.among
     refutes_none (normal_refused ps met (inl outside) left refused other) q ts w s = outside refl
     refutes_none {ks} {c} {e} {g} {qs} (normal_refused ps met (inr plain) left refused other) q ts w s =
-        let b = equality_begins h truth Proves theory c w e g s.solution s.free q.knows s.proved plain met ps left in
+        let b = normal_begins h truth Proves theory ks c w e g qs s.solution s.free q.current q.table q.knows s.proved plain met ps left in
         refuses_goals refused b.terms b.reaches.world b.goals
 
     outcomes_contain : {ks : List PositionKind} {c : Content} {e g : Tree} {qs : List Tree} {xs : List Candidate} {vs : List Verdict} → Outcomes Q h coherence c e g qs xs vs → IsTried ks c e g qs
@@ -179,21 +179,20 @@ module _ (Q : Queries) (begins : BeginsEach Q) (h : Handler) (truth : Truth) (Pr
     replies_contain : {ks : List PositionKind} {c : Content} {e g : Tree} {qs : List Tree} {x : Candidate} {v : Verdict} → Replies Q h coherence c e g qs x v → IsTried ks c e g qs
         → (w : World) → IsSolution truth 0 c w → IsPlainWorld c w → CanBegin truth Weakly c w e x → ContainsSolution truth v.response (map (inst w) qs)
     replies_contain {ks} {c} {e} {g} {qs} {x} {v} (replies ps gs met posed found begun poses reach is says) t w s f k =
-        let first = begun_with h truth Proves theory fair turns Q.variances c w e x f k met ps begun in
+        let first = begun_with h truth Proves theory fair joins Q.variances c w e x f k met ps begun in
         let b = begun_asked truth Proves c posed w gs (posed_begun h truth Proves theory (kind_for h g) c met posed w ps gs f first poses) in
         some_says ks c posed found w e g qs v (asked_in coherence gs) t is s f b (reaches_keep reach b.terms) says
 
     fails_never : {k : GoalKind} {c : Content} {e : Tree} {x : Candidate} → Fails Q h coherence k c e x → (w : World) → IsSolution truth 0 c w → IsPlainWorld c w → CanBegin truth Weakly c w e x → ⊥
     fails_never {c = c} {x = x} (is_unmet n) w s f k = n k.is_met
     fails_never {c = c} {x = x} (has_types_apart y) w s f k = k.apart y
-    fails_never (is_unrelated (inl outside) n) w s f k = outside refl
-    fails_never {c = c} {e = e} {x = x} (is_unrelated (inr sides) n) w s f k = never_unrelated h truth Proves theory fair turns Q.variances c w e x f k sides n
+    fails_never {c = c} {e = e} {x = x} (is_unrelated n) w s f k = never_unrelated h truth Proves theory fair joins Q.variances c w e x f k n
     fails_never {k = z} {c = c} {e = e} {x = x} (is_refused ps gs met posed begun poses refused) w s f k =
-        let first = begun_with h truth Proves theory fair turns Q.variances c w e x f k met ps begun in
+        let first = begun_with h truth Proves theory fair joins Q.variances c w e x f k met ps begun in
         let b = begun_asked truth Proves c posed w gs (posed_begun h truth Proves theory z c met posed w ps gs f first poses) in
         refuses_goals refused b.terms b.reaches.world b.goals
     fails_never {k = z} {c = c} {e = e} {x = x} (is_leaky ps gs met posed found begun poses reach leaks) w s f k =
-        let first = begun_with h truth Proves theory fair turns Q.variances c w e x f k met ps begun in
+        let first = begun_with h truth Proves theory fair joins Q.variances c w e x f k met ps begun in
         let b = begun_asked truth Proves c posed w gs (posed_begun h truth Proves theory z c met posed w ps gs f first poses) in
         let r = reaches_keep reach b.terms in
         let there = r.solutions.each b.reaches.world b.goals in

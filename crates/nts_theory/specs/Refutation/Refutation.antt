@@ -109,43 +109,81 @@ pub record IsFair (truth : Truth) : Type 0 where
 pub record RespectsLeaks (h : Handler) (truth : Truth) : Type 0 where
   pub none : (c : Content) (u : ℕ) (w : World) → h.leaks c u → IsSolution truth u c w → ⊥
 
--- an alias is granted to be equal to a closed term in which no alias stands, said the one way or the other
-pub record IsEqualAlias (Granted : Tree → Tree → Type 0) (e a t : Tree) : Type 0 where
+-- an alias is granted to normalize to a closed term of its kind, in which no alias stands
+pub record IsNormalAlias (Granted : Tree → Tree → Type 0) (e a t : Tree) : Type 0 where
   pub alias : IsAlias a
   pub ends : IsClosed t
   pub none : HasNoAlias t
-  pub granted : Granted e (alias_relation direction.Equate a t) ⊎ Granted e (alias_relation direction.Equate t a)
+  pub kind : kind_of t ≡ kind_of a
+  pub granted : Granted e (normalization_goal alias.head alias.parts t)
 
--- the first tree is the second, once aliases in it gave place to terms that they are equal to
-pub data EqualsBy (R : Tree → Tree → Type 0) : Tree → Tree → Type 0 where
-  same_tree : {t : Tree} → EqualsBy R t t
-  by_alias : {a t : Tree} → R a t → EqualsBy R a t
-  by_row : {a b s t : Tree} → EqualsBy R a b → EqualsBy R s t → EqualsBy R (more a s) (more b t)
-  by_node : {l : Label} {c d : Tree} → EqualsBy R c d → EqualsBy R (node l c) (node l d)
+-- the first tree is the second, once aliases in it gave place to terms that they normalize to
+pub data ComesTo (R : Tree → Tree → Type 0) : Tree → Tree → Type 0 where
+  same_tree : {t : Tree} → ComesTo R t t
+  by_alias : {a t : Tree} → R a t → ComesTo R a t
+  by_row : {a b s t : Tree} → ComesTo R a b → ComesTo R s t → ComesTo R (more a s) (more b t)
+  by_node : {l : Label} {c d : Tree} → ComesTo R c d → ComesTo R (node l c) (node l d)
 
--- the sides of an equation are equal so, if no alias stands in one of them
-pub record AreEqualSides (Granted : Tree → Tree → Type 0) (e a b : Tree) : Type 0 where
-  pub from_left : HasNoAlias b → EqualsBy (IsEqualAlias Granted e) a b
-  pub from_right : HasNoAlias a → EqualsBy (IsEqualAlias Granted e) b a
+-- no alias stands in a tree, but for those with escaping bound variables
+abbrev pub HasNoClosedAlias : Tree → Type 0
+HasNoClosedAlias empty = Unit {0}
+HasNoClosedAlias (more a b) = HasNoClosedAlias a × HasNoClosedAlias b
+HasNoClosedAlias (node l c) = (IsClosed (node l c) → IsNoAlias l) × HasNoClosedAlias c
 
--- a use of a clause: its values have no aliases, its equations are equalities, as far as no alias stands in them, and so are those with
--- aliases on one side, once aliases gave place; it equates no types that are apart, its constraints are true, and its goals are granted
+-- two trees come to one formed tree
+pub record ComeTogether (R : Tree → Tree → Type 0) (a b : Tree) : Type 0 where
+  pub term : Tree
+  pub formed : IsFormed term
+  pub settled : HasNoClosedAlias term
+  pub left : ComesTo R a term
+  pub right : ComesTo R b term
+
+-- .. where what aliases normalize to in an environment is granted
+abbrev pub AreMadeOne : (Tree → Tree → Type 0) → Tree → Tree → Tree → Type 0
+AreMadeOne Granted e a b = ComeTogether (IsNormalAlias Granted e) a b
+
+-- trees as they are, or with other names
+pub data Carrier : Type 0 where
+  unmoved : Carrier
+  moves : (ρ : Renaming) → IsCarrying ρ → Carrier
+
+abbrev pub carry : Carrier → Tree → Tree
+carry unmoved t = t
+carry (moves ρ k) t = rename ρ t
+
+-- two aliases are proved to normalize to one closed term of their kind, in which no alias stands
+pub record NormalizeToOne (Proves : Tree → Tree → Type 0) (e a b : Tree) : Type 0 where
+  pub left : IsAlias a
+  pub right : IsAlias b
+  pub term : Tree
+  pub ends : IsClosed term
+  pub free : IsAliasFree term
+  pub kind : kind_of term ≡ kind_of a
+  pub kind_too : kind_of term ≡ kind_of b
+  pub first : Proves e (normalization_goal left.head left.parts term)
+  pub second : Proves e (normalization_goal right.head right.parts term)
+
+-- a use of a clause, carried over to other names: its values have no aliases, its equations are equalities, as far as no alias stands in
+-- them, and the sides of the others come to one tree; it equates no types that are apart, its constraints are true, and its goals are
+-- granted
 pub record UsesClause (h : Handler) (truth : Truth) (Proves : Tree → Tree → Type 0) (e s : Tree) : Type 0 where
   pub use_of : Application
+  pub carrier : Carrier
   pub applies : h.applies coherence use_of
-  pub environment : use_of.environment ≡ e
-  pub conclusion : use_of.conclusion ≡ unbound s
+  pub formed : IsFormed (pair use_of.environment use_of.conclusion)
+  pub environment : carry carrier use_of.environment ≡ e
+  pub conclusion : carry carrier use_of.conclusion ≡ unbound s
   pub values : (v : Tree) → Among use_of.values v → IsAliasFree v
   pub equal : (q : Equation) → Among use_of.equations q → HasPlainSides q → left_of q ≡ right_of q
-  pub aliased : (a b : Tree) → Among use_of.equations (related a b) → AreEqualSides (IsGranted Proves) e a b
+  pub aliased : (a b : Tree) → Among use_of.equations (related a b) → IsFormed a → AreMadeOne (IsGranted Proves) e (carry carrier a) (carry carrier b)
   pub apart : (a b : Tree) → Among use_of.equations (related a b) → AreTypesApart a b → ⊥
-  pub met : (x : Constraint) → Among use_of.constraints x → IsTrueBy truth x.relation x.left x.right
-  pub goals : (p : Premise) → Among use_of.goals p → IsGranted Proves p.environment p.predicate
+  pub met : (x : Constraint) → Among use_of.constraints x → IsTrueBy truth x.relation (carry carrier x.left) (carry carrier x.right)
+  pub goals : (p : Premise) → Among use_of.goals p → IsGranted Proves (carry carrier p.environment) (carry carrier p.predicate)
 
 -- .. whose values the universe u names
 pub record UsesNamed (h : Handler) (truth : Truth) (Proves : Tree → Tree → Type 0) (u : ℕ) (e s : Tree) : Type 0 where
   pub uses : UsesClause h truth Proves e s
-  pub named : (v : Tree) → (let a = uses.use_of in Among a.values v) → NamesAll leaf_level u v
+  pub named : (v : Tree) → (let a = uses.use_of in Among a.values v) → NamesAll leaf_level u (carry uses.carrier v)
 
 -- a predicate that binds variables
 abbrev pub binding : Tree → Tree → Tree → Tree
@@ -158,7 +196,7 @@ GrantsFormed j Proves e s = (t : Tree) (ps : List Tree) → s ≡ is_well_formed
 -- what is proved: terms without region variables. Names of constants and regions play no part, and each goal that a handler's rules say follows by a
 -- use of a clause, as it stands or with the placeholders of a new universe for what it binds. What is proved to outlive a region does,
 -- and what is a value's type is, if no alias stands there; what an alias is equal to, in which none stands, it normalizes to, and is of its
--- kind; what is well formed is so by predicates that are granted; and nothing is
+-- kind; two aliases that are equal normalize to one term; what is well formed is so by predicates that are granted; and nothing is
 -- proved that the handler denies
 pub record IsTheory (h : Handler) (truth : Truth) (Proves : Tree → Tree → Type 0) : Type 0 where
   pub ground : AreGround Proves
@@ -168,14 +206,17 @@ pub record IsTheory (h : Handler) (truth : Truth) (Proves : Tree → Tree → Ty
   pub says_opened : (u : ℕ) (e x xs s : Tree) (y : Constraint) → Proves e (binding x xs s) → SaysOfTwo y (opened (placeholder_in (u + 1)) 0 s) → NamesAll leaf_level u (pair e s) → HasNoAlias s → IsTrueBy truth y.relation y.left y.right
   pub formed : (e s : Tree) → Proves e (unbound s) → IsClosed s → GrantsFormed h.judges Proves e s
   pub equates : (e a t : Tree) (x : IsAlias a) → Proves e (alias_relation direction.Equate a t) ⊎ Proves e (alias_relation direction.Equate t a) → IsClosed t → HasNoAlias t → Proves e (normalization_goal x.head x.parts t) × (kind_of t ≡ kind_of a)
+  pub equates_both : (e a b : Tree) → IsAlias a → IsAlias b → Proves e (alias_relation direction.Equate a b) → NormalizeToOne Proves e a b
   pub formed_opened : (u : ℕ) (e x xs s : Tree) → Proves e (binding x xs s) → NamesAll leaf_level u (pair e s) → GrantsFormed h.judges Proves e (opened (placeholder_in (u + 1)) 0 s)
   pub plain : (u : ℕ) (e s : Tree) → Proves e (unbound s) → IsHandlers s → IsClosed s → NamesAll leaf_level u (pair e s) → UsesNamed h truth Proves u e s
   pub opened : (u : ℕ) (e x xs s : Tree) → Proves e (binding x xs s) → IsHandlers (opened (placeholder_in (u + 1)) 0 s) → IsFormed (opened (placeholder_in (u + 1)) 0 s) → NamesAll leaf_level u (pair e s)
       → UsesNamed h truth Proves (u + 1) e (opened (placeholder_in (u + 1)) 0 s)
 
--- that two terms are equal is proved both ways or not at all
-abbrev pub TurnsEqualities : (Tree → Tree → Type 0) → Type 0
-TurnsEqualities Proves = (e a b : Tree) → Proves e (alias_relation direction.Equate a b) → Proves e (alias_relation direction.Equate b a)
+-- that two terms are equal is proved, either way round, if the one is an alias, and what it normalizes to is the other, or what that
+-- normalizes to
+abbrev pub JoinsEqualities : (Tree → Tree → Type 0) → Type 0
+JoinsEqualities Proves = (e a b t : Tree) → IsNormalAlias (IsGranted Proves) e a t → (b ≡ t) ⊎ IsNormalAlias (IsGranted Proves) e b t
+    → Proves e (alias_relation direction.Equate a b) × Proves e (alias_relation direction.Equate b a)
 
 -- what a goal that binds variables says of two terms is so with fresh placeholders for them
 pub record SaysOpened (truth : Truth) (e c s : Tree) : Type 0 where
@@ -206,6 +247,7 @@ pub record AreUsed (h : Handler) (truth : Truth) (Proves : Tree → Tree → Typ
   pub says_opened : (e x xs s : Tree) → Proves e (binding x xs s) → HasNoAlias s → SaysOpened truth e (binding x xs s) s
   pub formed : (e s : Tree) → Proves e (unbound s) → IsClosed s → GrantsFormed h.judges Proves e s
   pub equates : (e a t : Tree) (x : IsAlias a) → Proves e (alias_relation direction.Equate a t) ⊎ Proves e (alias_relation direction.Equate t a) → IsClosed t → HasNoAlias t → Proves e (normalization_goal x.head x.parts t) × (kind_of t ≡ kind_of a)
+  pub equates_both : (e a b : Tree) → IsAlias a → IsAlias b → Proves e (alias_relation direction.Equate a b) → NormalizeToOne Proves e a b
   pub formed_opened : (e x xs s : Tree) → Proves e (binding x xs s) → FormedOpened h Proves e (binding x xs s) s
 
 -- an instance that leaves no region variable: each has been assigned a free region

@@ -66,7 +66,7 @@ mod Equated
 mod Relating
 
 pub rows::compute_goal-evaluate_candidates-response-requires : goal.rows::compute_goal-evaluate_candidates-response-requires
-rows::compute_goal-evaluate_candidates-response-requires = candidates.compute_goal-evaluate_candidates-response-requires
+rows::compute_goal-evaluate_candidates-response-requires = candidates.rows::compute_goal-evaluate_candidates-response-requires
 
 pub rows::compute_goal-goal_row-requires : goal.rows::compute_goal-goal_row-requires
 rows::compute_goal-goal_row-requires g t c = opened_holds _ _ c.in_ok-opened.opened c.in_ok-opened.ensures.posed
@@ -82,7 +82,7 @@ rows::compute_goal-boxed_response-requires-in-Unanswered-clause-values g t c =
     args_later c.args.cx.now.nodes c.enter_forall.new.cx.nodes c.args.table.now.entries c.enter_forall.new.table.entries c.args.values.now o.goes.extends o.goes.continues c.requires.values
 
 pub rows::compute_goal-returns : goal.rows::compute_goal-returns
-rows::compute_goal-returns = candidates.compute_goal-returns
+rows::compute_goal-returns = candidates.rows::compute_goal-returns
 
 pub rows::compute_goal-returns-in-Unopened : goal.rows::compute_goal-returns-in-Unopened
 rows::compute_goal-returns-in-Unopened g t c =
@@ -192,193 +192,193 @@ rows::compute_goal-returns-in-Outlives g t c =
     }
 
 pub rows::compute_goal-evaluate_subtype-response-requires : goal.rows::compute_goal-evaluate_subtype-response-requires
-rows::compute_goal-evaluate_subtype-response-requires = subtypes.compute_goal-evaluate_subtype-response-requires
+rows::compute_goal-evaluate_subtype-response-requires = subtypes.rows::compute_goal-evaluate_subtype-response-requires
 
 pub rows::compute_goal-returns-in-Subtype : goal.rows::compute_goal-returns-in-Subtype
-rows::compute_goal-returns-in-Subtype = subtypes.compute_goal-returns-in-Subtype
+rows::compute_goal-returns-in-Subtype = subtypes.rows::compute_goal-returns-in-Subtype
 
 pub rows::evaluate_subtype-returns-in_err-snapshot : goal.rows::evaluate_subtype-returns-in_err-snapshot
-rows::evaluate_subtype-returns-in_err-snapshot = subtypes.evaluate_subtype-returns-in_err-snapshot
+rows::evaluate_subtype-returns-in_err-snapshot = subtypes.rows::evaluate_subtype-returns-in_err-snapshot
 
 pub rows::evaluate_subtype-returns-in_err-left : goal.rows::evaluate_subtype-returns-in_err-left
-rows::evaluate_subtype-returns-in_err-left = subtypes.evaluate_subtype-returns-in_err-left
+rows::evaluate_subtype-returns-in_err-left = subtypes.rows::evaluate_subtype-returns-in_err-left
 
 pub rows::evaluate_subtype-boxed_response-requires-clause-values : goal.rows::evaluate_subtype-boxed_response-requires-clause-values
-rows::evaluate_subtype-boxed_response-requires-clause-values = subtypes.evaluate_subtype-boxed_response-requires-clause-values
+rows::evaluate_subtype-boxed_response-requires-clause-values = subtypes.rows::evaluate_subtype-boxed_response-requires-clause-values
 
 pub rows::evaluate_subtype-returns-in_err-joined : goal.rows::evaluate_subtype-returns-in_err-joined
-rows::evaluate_subtype-returns-in_err-joined = subtypes.evaluate_subtype-returns-in_err-joined
+rows::evaluate_subtype-returns-in_err-joined = subtypes.rows::evaluate_subtype-returns-in_err-joined
 
 pub rows::evaluate_subtype-returns-in_default : goal.rows::evaluate_subtype-returns-in_default
-rows::evaluate_subtype-returns-in_default = subtypes.evaluate_subtype-returns-in_default
+rows::evaluate_subtype-returns-in_default = subtypes.rows::evaluate_subtype-returns-in_default
 
 pub rows::evaluate_subtype-try_evaluate_goals-requires : goal.rows::evaluate_subtype-try_evaluate_goals-requires
-rows::evaluate_subtype-try_evaluate_goals-requires = subtypes.evaluate_subtype-try_evaluate_goals-requires
+rows::evaluate_subtype-try_evaluate_goals-requires = subtypes.rows::evaluate_subtype-try_evaluate_goals-requires
 
 pub rows::evaluate_subtype-returns-in_err-certainty : goal.rows::evaluate_subtype-returns-in_err-certainty
-rows::evaluate_subtype-returns-in_err-certainty = subtypes.evaluate_subtype-returns-in_err-certainty
+rows::evaluate_subtype-returns-in_err-certainty = subtypes.rows::evaluate_subtype-returns-in_err-certainty
 
 pub rows::evaluate_subtype-boxed_response-requires-then-keeps_constraints-clause-values : goal.rows::evaluate_subtype-boxed_response-requires-then-keeps_constraints-clause-values
-rows::evaluate_subtype-boxed_response-requires-then-keeps_constraints-clause-values = subtypes.evaluate_subtype-boxed_response-requires-then-keeps_constraints-clause-values
+rows::evaluate_subtype-boxed_response-requires-then-keeps_constraints-clause-values = subtypes.rows::evaluate_subtype-boxed_response-requires-then-keeps_constraints-clause-values
 
 pub rows::evaluate_subtype-returns-in_err-response : goal.rows::evaluate_subtype-returns-in_err-response
-rows::evaluate_subtype-returns-in_err-response = subtypes.evaluate_subtype-returns-in_err-response
+rows::evaluate_subtype-returns-in_err-response = subtypes.rows::evaluate_subtype-returns-in_err-response
 
 pub rows::evaluate_subtype-returns-then-keeps_constraints : goal.rows::evaluate_subtype-returns-then-keeps_constraints
-rows::evaluate_subtype-returns-then-keeps_constraints = subtypes.evaluate_subtype-returns-then-keeps_constraints
+rows::evaluate_subtype-returns-then-keeps_constraints = subtypes.rows::evaluate_subtype-returns-then-keeps_constraints
 
 pub rows::evaluate_subtype-boxed_response-requires-2-clause-values : goal.rows::evaluate_subtype-boxed_response-requires-2-clause-values
-rows::evaluate_subtype-boxed_response-requires-2-clause-values = subtypes.evaluate_subtype-boxed_response-requires-2-clause-values
+rows::evaluate_subtype-boxed_response-requires-2-clause-values = subtypes.rows::evaluate_subtype-boxed_response-requires-2-clause-values
 
 pub rows::evaluate_subtype-returns-in_err-response-2 : goal.rows::evaluate_subtype-returns-in_err-response-2
-rows::evaluate_subtype-returns-in_err-response-2 = subtypes.evaluate_subtype-returns-in_err-response-2
+rows::evaluate_subtype-returns-in_err-response-2 = subtypes.rows::evaluate_subtype-returns-in_err-response-2
 
 pub rows::evaluate_subtype-returns : goal.rows::evaluate_subtype-returns
-rows::evaluate_subtype-returns = subtypes.evaluate_subtype-returns
+rows::evaluate_subtype-returns = subtypes.rows::evaluate_subtype-returns
 
 pub rows::compute_goal-evaluate_alias-response-requires : goal.rows::compute_goal-evaluate_alias-response-requires
-rows::compute_goal-evaluate_alias-response-requires = aliases.compute_goal-evaluate_alias-response-requires
+rows::compute_goal-evaluate_alias-response-requires = aliases.rows::compute_goal-evaluate_alias-response-requires
 
 pub rows::compute_goal-returns-in-Alias : goal.rows::compute_goal-returns-in-Alias
-rows::compute_goal-returns-in-Alias = aliases.compute_goal-returns-in-Alias
+rows::compute_goal-returns-in-Alias = aliases.rows::compute_goal-returns-in-Alias
 
 pub rows::evaluate_alias-evaluate_candidates-requires : goal.rows::evaluate_alias-evaluate_candidates-requires
-rows::evaluate_alias-evaluate_candidates-requires = aliases.evaluate_alias-evaluate_candidates-requires
+rows::evaluate_alias-evaluate_candidates-requires = aliases.rows::evaluate_alias-evaluate_candidates-requires
 
 pub rows::evaluate_alias-returns : goal.rows::evaluate_alias-returns
-rows::evaluate_alias-returns = aliases.evaluate_alias-returns
+rows::evaluate_alias-returns = aliases.rows::evaluate_alias-returns
 
 pub rows::evaluate_alias-returns-in_err-candidates : goal.rows::evaluate_alias-returns-in_err-candidates
-rows::evaluate_alias-returns-in_err-candidates = aliases.evaluate_alias-returns-in_err-candidates
+rows::evaluate_alias-returns-in_err-candidates = aliases.rows::evaluate_alias-returns-in_err-candidates
 
 pub rows::compute_goal-evaluate_equated-response-requires : goal.rows::compute_goal-evaluate_equated-response-requires
-rows::compute_goal-evaluate_equated-response-requires = equated.compute_goal-evaluate_equated-response-requires
+rows::compute_goal-evaluate_equated-response-requires = equated.rows::compute_goal-evaluate_equated-response-requires
 
 pub rows::compute_goal-returns-in-Equated : goal.rows::compute_goal-returns-in-Equated
-rows::compute_goal-returns-in-Equated = equated.compute_goal-returns-in-Equated
+rows::compute_goal-returns-in-Equated = equated.rows::compute_goal-returns-in-Equated
 
 pub rows::compute_goal-returns-in_err-doubt-in-Equated : goal.rows::compute_goal-returns-in_err-doubt-in-Equated
-rows::compute_goal-returns-in_err-doubt-in-Equated = equated.compute_goal-returns-in_err-doubt-in-Equated
+rows::compute_goal-returns-in_err-doubt-in-Equated = equated.rows::compute_goal-returns-in_err-doubt-in-Equated
 
 pub rows::compute_goal-boxed_response-requires-then-not-is_open_to_normalizing-clause-values : goal.rows::compute_goal-boxed_response-requires-then-not-is_open_to_normalizing-clause-values
-rows::compute_goal-boxed_response-requires-then-not-is_open_to_normalizing-clause-values = equated.compute_goal-boxed_response-requires-then-not-is_open_to_normalizing-clause-values
+rows::compute_goal-boxed_response-requires-then-not-is_open_to_normalizing-clause-values = equated.rows::compute_goal-boxed_response-requires-then-not-is_open_to_normalizing-clause-values
 
 pub rows::compute_goal-returns-then-not-is_open_to_normalizing : goal.rows::compute_goal-returns-then-not-is_open_to_normalizing
-rows::compute_goal-returns-then-not-is_open_to_normalizing = equated.compute_goal-returns-then-not-is_open_to_normalizing
+rows::compute_goal-returns-then-not-is_open_to_normalizing = equated.rows::compute_goal-returns-then-not-is_open_to_normalizing
 
 pub equated::evaluate_equated-returns-then-not-matches : goal.equated::evaluate_equated-returns-then-not-matches
-equated::evaluate_equated-returns-then-not-matches = equated.evaluate_equated-returns-then-not-matches
+equated::evaluate_equated-returns-then-not-matches = equated.equated::evaluate_equated-returns-then-not-matches
 
 pub equated::evaluate_equated-evaluate_way-requires : goal.equated::evaluate_equated-evaluate_way-requires
-equated::evaluate_equated-evaluate_way-requires = equated.evaluate_equated-evaluate_way-requires
+equated::evaluate_equated-evaluate_way-requires = equated.equated::evaluate_equated-evaluate_way-requires
 
 pub equated::evaluate_equated-returns-in-Some : goal.equated::evaluate_equated-returns-in-Some
-equated::evaluate_equated-returns-in-Some = equated.evaluate_equated-returns-in-Some
+equated::evaluate_equated-returns-in-Some = equated.equated::evaluate_equated-returns-in-Some
 
 pub equated::evaluate_equated-returns : goal.equated::evaluate_equated-returns
-equated::evaluate_equated-returns = equated.evaluate_equated-returns
+equated::evaluate_equated-returns = equated.equated::evaluate_equated-returns
 
 pub equated::evaluate_way-returns-in_err-snapshot : goal.equated::evaluate_way-returns-in_err-snapshot
-equated::evaluate_way-returns-in_err-snapshot = equated.evaluate_way-returns-in_err-snapshot
+equated::evaluate_way-returns-in_err-snapshot = equated.equated::evaluate_way-returns-in_err-snapshot
 
 pub equated::evaluate_way-returns-in-Err : goal.equated::evaluate_way-returns-in-Err
-equated::evaluate_way-returns-in-Err = equated.evaluate_way-returns-in-Err
+equated::evaluate_way-returns-in-Err = equated.equated::evaluate_way-returns-in-Err
 
 pub equated::evaluate_way-boxed_response-response-requires-clause-values : goal.equated::evaluate_way-boxed_response-response-requires-clause-values
-equated::evaluate_way-boxed_response-response-requires-clause-values = equated.evaluate_way-boxed_response-response-requires-clause-values
+equated::evaluate_way-boxed_response-response-requires-clause-values = equated.equated::evaluate_way-boxed_response-response-requires-clause-values
 
 pub equated::evaluate_way-returns-in_err-response : goal.equated::evaluate_way-returns-in_err-response
-equated::evaluate_way-returns-in_err-response = equated.evaluate_way-returns-in_err-response
+equated::evaluate_way-returns-in_err-response = equated.equated::evaluate_way-returns-in_err-response
 
 pub equated::evaluate_way-returns-then-keeps_constraints : goal.equated::evaluate_way-returns-then-keeps_constraints
-equated::evaluate_way-returns-then-keeps_constraints = equated.evaluate_way-returns-then-keeps_constraints
+equated::evaluate_way-returns-then-keeps_constraints = equated.equated::evaluate_way-returns-then-keeps_constraints
 
 pub equated::evaluate_way-boxed_response-requires-clause-values : goal.equated::evaluate_way-boxed_response-requires-clause-values
-equated::evaluate_way-boxed_response-requires-clause-values = equated.evaluate_way-boxed_response-requires-clause-values
+equated::evaluate_way-boxed_response-requires-clause-values = equated.equated::evaluate_way-boxed_response-requires-clause-values
 
 pub equated::evaluate_way-returns-in_err-response-2 : goal.equated::evaluate_way-returns-in_err-response-2
-equated::evaluate_way-returns-in_err-response-2 = equated.evaluate_way-returns-in_err-response-2
+equated::evaluate_way-returns-in_err-response-2 = equated.equated::evaluate_way-returns-in_err-response-2
 
 pub equated::evaluate_way-returns : goal.equated::evaluate_way-returns
-equated::evaluate_way-returns = equated.evaluate_way-returns
+equated::evaluate_way-returns = equated.equated::evaluate_way-returns
 
 pub equated::try_way-returns-in_err-goals : goal.equated::try_way-returns-in_err-goals
-equated::try_way-returns-in_err-goals = equated.try_way-returns-in_err-goals
+equated::try_way-returns-in_err-goals = equated.equated::try_way-returns-in_err-goals
 
 pub equated::try_way-try_evaluate_goals-requires : goal.equated::try_way-try_evaluate_goals-requires
-equated::try_way-try_evaluate_goals-requires = equated.try_way-try_evaluate_goals-requires
+equated::try_way-try_evaluate_goals-requires = equated.equated::try_way-try_evaluate_goals-requires
 
 pub equated::try_way-returns-in_err-certainty : goal.equated::try_way-returns-in_err-certainty
-equated::try_way-returns-in_err-certainty = equated.try_way-returns-in_err-certainty
+equated::try_way-returns-in_err-certainty = equated.equated::try_way-returns-in_err-certainty
 
 pub equated::try_way-returns : goal.equated::try_way-returns
-equated::try_way-returns = equated.try_way-returns
+equated::try_way-returns = equated.equated::try_way-returns
 
 pub rows::compute_goal-evaluate_own-response-requires : goal.rows::compute_goal-evaluate_own-response-requires
-rows::compute_goal-evaluate_own-response-requires = own.compute_goal-evaluate_own-response-requires
+rows::compute_goal-evaluate_own-response-requires = own.rows::compute_goal-evaluate_own-response-requires
 
 pub rows::compute_goal-returns-in-Own : goal.rows::compute_goal-returns-in-Own
-rows::compute_goal-returns-in-Own = own.compute_goal-returns-in-Own
+rows::compute_goal-returns-in-Own = own.rows::compute_goal-returns-in-Own
 
 pub rows::evaluate_own-judge-requires-clause-plain : goal.rows::evaluate_own-judge-requires-clause-plain
-rows::evaluate_own-judge-requires-clause-plain = own.evaluate_own-judge-requires-clause-plain
+rows::evaluate_own-judge-requires-clause-plain = own.rows::evaluate_own-judge-requires-clause-plain
 
 pub rows::evaluate_own-returns-in_err-judged : goal.rows::evaluate_own-returns-in_err-judged
-rows::evaluate_own-returns-in_err-judged = own.evaluate_own-returns-in_err-judged
+rows::evaluate_own-returns-in_err-judged = own.rows::evaluate_own-returns-in_err-judged
 
 pub rows::evaluate_own-boxed_response-requires-clause-table : goal.rows::evaluate_own-boxed_response-requires-clause-table
-rows::evaluate_own-boxed_response-requires-clause-table = own.evaluate_own-boxed_response-requires-clause-table
+rows::evaluate_own-boxed_response-requires-clause-table = own.rows::evaluate_own-boxed_response-requires-clause-table
 
 pub rows::evaluate_own-boxed_response-requires-clause-values : goal.rows::evaluate_own-boxed_response-requires-clause-values
-rows::evaluate_own-boxed_response-requires-clause-values = own.evaluate_own-boxed_response-requires-clause-values
+rows::evaluate_own-boxed_response-requires-clause-values = own.rows::evaluate_own-boxed_response-requires-clause-values
 
 pub rows::evaluate_own-returns-in_err-response-in-Yes : goal.rows::evaluate_own-returns-in_err-response-in-Yes
-rows::evaluate_own-returns-in_err-response-in-Yes = own.evaluate_own-returns-in_err-response-in-Yes
+rows::evaluate_own-returns-in_err-response-in-Yes = own.rows::evaluate_own-returns-in_err-response-in-Yes
 
 pub rows::evaluate_own-boxed_response-requires-in-Unknown-clause-table : goal.rows::evaluate_own-boxed_response-requires-in-Unknown-clause-table
-rows::evaluate_own-boxed_response-requires-in-Unknown-clause-table = own.evaluate_own-boxed_response-requires-in-Unknown-clause-table
+rows::evaluate_own-boxed_response-requires-in-Unknown-clause-table = own.rows::evaluate_own-boxed_response-requires-in-Unknown-clause-table
 
 pub rows::evaluate_own-boxed_response-requires-in-Unknown-clause-values : goal.rows::evaluate_own-boxed_response-requires-in-Unknown-clause-values
-rows::evaluate_own-boxed_response-requires-in-Unknown-clause-values = own.evaluate_own-boxed_response-requires-in-Unknown-clause-values
+rows::evaluate_own-boxed_response-requires-in-Unknown-clause-values = own.rows::evaluate_own-boxed_response-requires-in-Unknown-clause-values
 
 pub rows::evaluate_own-returns-in_err-response-in-Unknown : goal.rows::evaluate_own-returns-in_err-response-in-Unknown
-rows::evaluate_own-returns-in_err-response-in-Unknown = own.evaluate_own-returns-in_err-response-in-Unknown
+rows::evaluate_own-returns-in_err-response-in-Unknown = own.rows::evaluate_own-returns-in_err-response-in-Unknown
 
 pub rows::evaluate_own-probe_candidate-response-requires : goal.rows::evaluate_own-probe_candidate-response-requires
-rows::evaluate_own-probe_candidate-response-requires = own.evaluate_own-probe_candidate-response-requires
+rows::evaluate_own-probe_candidate-response-requires = own.rows::evaluate_own-probe_candidate-response-requires
 
 pub rows::evaluate_own-returns-in-No : goal.rows::evaluate_own-returns-in-No
-rows::evaluate_own-returns-in-No = own.evaluate_own-returns-in-No
+rows::evaluate_own-returns-in-No = own.rows::evaluate_own-returns-in-No
 
 pub rows::evaluate_own-returns-in_ok-response-in-Yes : goal.rows::evaluate_own-returns-in_ok-response-in-Yes
-rows::evaluate_own-returns-in_ok-response-in-Yes = own.evaluate_own-returns-in_ok-response-in-Yes
+rows::evaluate_own-returns-in_ok-response-in-Yes = own.rows::evaluate_own-returns-in_ok-response-in-Yes
 
 pub rows::evaluate_own-returns-in_ok-response-in-Unknown : goal.rows::evaluate_own-returns-in_ok-response-in-Unknown
-rows::evaluate_own-returns-in_ok-response-in-Unknown = own.evaluate_own-returns-in_ok-response-in-Unknown
+rows::evaluate_own-returns-in_ok-response-in-Unknown = own.rows::evaluate_own-returns-in_ok-response-in-Unknown
 
 pub rows::evaluate_own-returns-in-Way : goal.rows::evaluate_own-returns-in-Way
-rows::evaluate_own-returns-in-Way = own.evaluate_own-returns-in-Way
+rows::evaluate_own-returns-in-Way = own.rows::evaluate_own-returns-in-Way
 
 pub steps::evaluate_added-evaluate_goal-requires : goal.steps::evaluate_added-evaluate_goal-requires
-steps::evaluate_added-evaluate_goal-requires = steps.evaluate_added-evaluate_goal-requires
+steps::evaluate_added-evaluate_goal-requires = steps.steps::evaluate_added-evaluate_goal-requires
 
 pub steps::evaluate_added-returns-in_err-asked : goal.steps::evaluate_added-returns-in_err-asked
-steps::evaluate_added-returns-in_err-asked = steps.evaluate_added-returns-in_err-asked
+steps::evaluate_added-returns-in_err-asked = steps.steps::evaluate_added-returns-in_err-asked
 
 pub steps::evaluate_added-returns-in-Some : goal.steps::evaluate_added-returns-in-Some
-steps::evaluate_added-returns-in-Some = steps.evaluate_added-returns-in-Some
+steps::evaluate_added-returns-in-Some = steps.steps::evaluate_added-returns-in-Some
 
 pub steps::evaluate_added-returns-in-None : goal.steps::evaluate_added-returns-in-None
-steps::evaluate_added-returns-in-None = steps.evaluate_added-returns-in-None
+steps::evaluate_added-returns-in-None = steps.steps::evaluate_added-returns-in-None
 
 pub steps::evaluate_added-returns-in-Some-next : goal.steps::evaluate_added-returns-in-Some-next
-steps::evaluate_added-returns-in-Some-next = steps.evaluate_added-returns-in-Some-next
+steps::evaluate_added-returns-in-Some-next = steps.steps::evaluate_added-returns-in-Some-next
 
 pub candidates::evaluate_candidates-loop-candidate-init : goal.candidates::evaluate_candidates-loop-candidate-init
-candidates::evaluate_candidates-loop-candidate-init = candidates.evaluate_candidates-loop-candidate-init
+candidates::evaluate_candidates-loop-candidate-init = candidates.candidates::evaluate_candidates-loop-candidate-init
 
 pub candidates::evaluate_candidates-loop-candidate-preserved : goal.candidates::evaluate_candidates-loop-candidate-preserved
-candidates::evaluate_candidates-loop-candidate-preserved = candidates.evaluate_candidates-loop-candidate-preserved
+candidates::evaluate_candidates-loop-candidate-preserved = candidates.candidates::evaluate_candidates-loop-candidate-preserved
 
 pub candidates::evaluate_candidates-merge_responses-requires-clause-table : goal.candidates::evaluate_candidates-merge_responses-requires-clause-table
 candidates::evaluate_candidates-merge_responses-requires-clause-table g t c = (let i = c.loop-candidate.invariant in let goes = goes-back c.requires.posed.table i.grows.extends i.same in goes.table)
@@ -390,7 +390,7 @@ candidates::evaluate_candidates-merge_responses-requires-clause-values g t c =
     args_later c.args.cx.now.nodes c.loop-candidate.cx.nodes c.args.table.now.entries c.loop-candidate.table.entries c.args.values.now goes.extends goes.continues c.requires.values
 
 pub candidates::evaluate_candidates-probe_candidate-answer-requires : goal.candidates::evaluate_candidates-probe_candidate-answer-requires
-candidates::evaluate_candidates-probe_candidate-answer-requires = candidates.evaluate_candidates-probe_candidate-answer-requires
+candidates::evaluate_candidates-probe_candidate-answer-requires = candidates.candidates::evaluate_candidates-probe_candidate-answer-requires
 
 pub candidates::evaluate_candidates-returns : goal.candidates::evaluate_candidates-returns
 candidates::evaluate_candidates-returns g t c =
@@ -438,7 +438,7 @@ pub queries::evaluate_goal-apply_answer-evaluated-requires-clause-table : goal.q
 queries::evaluate_goal-apply_answer-evaluated-requires-clause-table g t c = IsTable-extended (Extends-trans c.in_ok-originals.ensures.grows.extends c.in_ok-answer.ensures.grows.extends) c.requires.posed.table
 
 pub queries::evaluate_goal-returns : goal.queries::evaluate_goal-returns
-queries::evaluate_goal-returns = queries.evaluate_goal-returns
+queries::evaluate_goal-returns = queries.queries::evaluate_goal-returns
 
 pub queries::evaluate_goal-returns-in_err-answer : goal.queries::evaluate_goal-returns-in_err-answer
 queries::evaluate_goal-returns-in_err-answer g t c =
@@ -480,10 +480,10 @@ queries::evaluate_goal-returns-in_err-originals g t c =
     }
 
 pub queries::evaluate_goal-search-requires : goal.queries::evaluate_goal-search-requires
-queries::evaluate_goal-search-requires = queries.evaluate_goal-search-requires
+queries::evaluate_goal-search-requires = queries.queries::evaluate_goal-search-requires
 
 pub queries::evaluate_round-compute_goal-response-requires : goal.queries::evaluate_round-compute_goal-response-requires
-queries::evaluate_round-compute_goal-response-requires = queries.evaluate_round-compute_goal-response-requires
+queries::evaluate_round-compute_goal-response-requires = queries.queries::evaluate_round-compute_goal-response-requires
 
 pub queries::evaluate_round-end_round-requires : goal.queries::evaluate_round-end_round-requires
 queries::evaluate_round-end_round-requires g t c =
@@ -494,7 +494,7 @@ queries::evaluate_round-end_round-requires g t c =
     omega (arith, long, new, more)
 
 pub queries::evaluate_round-returns : goal.queries::evaluate_round-returns
-queries::evaluate_round-returns = queries.evaluate_round-returns
+queries::evaluate_round-returns = queries.queries::evaluate_round-returns
 
 pub queries::evaluate_round-returns-in_err-push_query : goal.queries::evaluate_round-returns-in_err-push_query
 queries::evaluate_round-returns-in_err-push_query g t c =
@@ -529,13 +529,13 @@ queries::evaluate_round-returns-in_err-table g t c =
     }
 
 pub queries::evaluate_rounds-evaluate_round-requires : goal.queries::evaluate_rounds-evaluate_round-requires
-queries::evaluate_rounds-evaluate_round-requires = queries.evaluate_rounds-evaluate_round-requires
+queries::evaluate_rounds-evaluate_round-requires = queries.queries::evaluate_rounds-evaluate_round-requires
 
 pub queries::evaluate_rounds-loop-round-init : goal.queries::evaluate_rounds-loop-round-init
-queries::evaluate_rounds-loop-round-init = queries.evaluate_rounds-loop-round-init
+queries::evaluate_rounds-loop-round-init = queries.queries::evaluate_rounds-loop-round-init
 
 pub queries::evaluate_rounds-loop-round-preserved : goal.queries::evaluate_rounds-loop-round-preserved
-queries::evaluate_rounds-loop-round-preserved = queries.evaluate_rounds-loop-round-preserved
+queries::evaluate_rounds-loop-round-preserved = queries.queries::evaluate_rounds-loop-round-preserved
 
 pub queries::evaluate_rounds-returns : goal.queries::evaluate_rounds-returns
 queries::evaluate_rounds-returns g t c =
@@ -581,10 +581,10 @@ queries::evaluate_rounds-returns-in_err-asked-2 g t c =
     query_failed c.from_residual-in_err-asked-2.result (search rules) (search rules) (search rules) (Searches-trans noted c.in_ok-ended.ensures.searches)
 
 pub queries::evaluate_rounds-returns-then-round_is_last : goal.queries::evaluate_rounds-returns-then-round_is_last
-queries::evaluate_rounds-returns-then-round_is_last = queries.evaluate_rounds-returns-then-round_is_last
+queries::evaluate_rounds-returns-then-round_is_last = queries.queries::evaluate_rounds-returns-then-round_is_last
 
 pub queries::evaluate_rounds-round_is_last-requires-clause-answer : goal.queries::evaluate_rounds-round_is_last-requires-clause-answer
-queries::evaluate_rounds-round_is_last-requires-clause-answer = queries.evaluate_rounds-round_is_last-requires-clause-answer
+queries::evaluate_rounds-round_is_last-requires-clause-answer = queries.queries::evaluate_rounds-round_is_last-requires-clause-answer
 
 pub queries::evaluate_rounds-round_is_last-requires-clause-entry : goal.queries::evaluate_rounds-round_is_last-requires-clause-entry
 queries::evaluate_rounds-round_is_last-requires-clause-entry g t c =
@@ -599,25 +599,25 @@ queries::evaluate_rounds-returns-in_err-asked g t c =
     query_failed c.from_residual.result (search rules) (search rules) (search rules) (Searches-refl (c.args.depth + 1) c.requires.search c.first_round.ensures.grows)
 
 pub steps::evaluate_step-evaluate_added-requires : goal.steps::evaluate_step-evaluate_added-requires
-steps::evaluate_step-evaluate_added-requires = steps.evaluate_step-evaluate_added-requires
+steps::evaluate_step-evaluate_added-requires = steps.steps::evaluate_step-evaluate_added-requires
 
 pub steps::evaluate_step-loop-added-init : goal.steps::evaluate_step-loop-added-init
-steps::evaluate_step-loop-added-init = steps.evaluate_step-loop-added-init
+steps::evaluate_step-loop-added-init = steps.steps::evaluate_step-loop-added-init
 
 pub steps::evaluate_step-loop-added-preserved : goal.steps::evaluate_step-loop-added-preserved
-steps::evaluate_step-loop-added-preserved = steps.evaluate_step-loop-added-preserved
+steps::evaluate_step-loop-added-preserved = steps.steps::evaluate_step-loop-added-preserved
 
 pub steps::evaluate_step-returns : goal.steps::evaluate_step-returns
-steps::evaluate_step-returns = steps.evaluate_step-returns
+steps::evaluate_step-returns = steps.steps::evaluate_step-returns
 
 pub steps::evaluate_step-returns-in_err-answer : goal.steps::evaluate_step-returns-in_err-answer
-steps::evaluate_step-returns-in_err-answer = steps.evaluate_step-returns-in_err-answer
+steps::evaluate_step-returns-in_err-answer = steps.steps::evaluate_step-returns-in_err-answer
 
 pub steps::evaluate_step-returns-in_err-note : goal.steps::evaluate_step-returns-in_err-note
-steps::evaluate_step-returns-in_err-note = steps.evaluate_step-returns-in_err-note
+steps::evaluate_step-returns-in_err-note = steps.steps::evaluate_step-returns-in_err-note
 
 pub candidates::probe_candidate-boxed_response-requires-clause-values : goal.candidates::probe_candidate-boxed_response-requires-clause-values
-candidates::probe_candidate-boxed_response-requires-clause-values = candidates.probe_candidate-boxed_response-requires-clause-values
+candidates::probe_candidate-boxed_response-requires-clause-values = candidates.candidates::probe_candidate-boxed_response-requires-clause-values
 
 pub candidates::probe_candidate-boxed_response-response-requires-clause-values : goal.candidates::probe_candidate-boxed_response-response-requires-clause-values
 candidates::probe_candidate-boxed_response-response-requires-clause-values g t c =
@@ -628,7 +628,7 @@ candidates::probe_candidate-boxed_response-response-requires-clause-values g t c
     args_later c.args.cx.now.nodes c.run_candidate.new.cx.nodes c.args.table.now.entries c.run_candidate.new.table.entries c.args.values.now went.extends went.continues c.requires.values
 
 pub candidates::probe_candidate-returns : goal.candidates::probe_candidate-returns
-candidates::probe_candidate-returns = candidates.probe_candidate-returns
+candidates::probe_candidate-returns = candidates.candidates::probe_candidate-returns
 
 pub candidates::probe_candidate-returns-in_err-response-2 : goal.candidates::probe_candidate-returns-in_err-response-2
 candidates::probe_candidate-returns-in_err-response-2 g t c =
@@ -646,7 +646,7 @@ candidates::probe_candidate-returns-in_err-snapshot g t c =
     try_failed c.from_residual.result fails (search rules) (λ m q plain. IfOk-from_err c.from_residual.result _ fails) (search rules) (search rules) (Searches-refl c.args.depth c.requires.search (record { extends = Extends-refl _; rest = KeepsRest-refl _ }))
 
 pub candidates::probe_candidate-returns-then-keeps_constraints : goal.candidates::probe_candidate-returns-then-keeps_constraints
-candidates::probe_candidate-returns-then-keeps_constraints = candidates.probe_candidate-returns-then-keeps_constraints
+candidates::probe_candidate-returns-then-keeps_constraints = candidates.candidates::probe_candidate-returns-then-keeps_constraints
 
 pub candidates::run_candidate-check_leaks-requires-clause-table : goal.candidates::run_candidate-check_leaks-requires-clause-table
 candidates::run_candidate-check_leaks-requires-clause-table g t c = (let e = c.try_candidate-tried.ensures in e.runs.goes.table)
@@ -657,7 +657,7 @@ candidates::run_candidate-check_leaks-requires-clause-ready g t c =
     g.met.H.GoalHandler.ready_kept _ _ _ c.requires.ready e.runs.goes.extends
 
 pub candidates::run_candidate-returns : goal.candidates::run_candidate-returns
-candidates::run_candidate-returns = candidates.run_candidate-returns
+candidates::run_candidate-returns = candidates.candidates::run_candidate-returns
 
 pub candidates::run_candidate-try_candidate-tried-requires : goal.candidates::run_candidate-try_candidate-tried-requires
 candidates::run_candidate-try_candidate-tried-requires g t c = λ κs k. (omega (arith, c.decreases), (k, (c.requires.posed, (c.requires.ready, (c.requires.candidate, c.requires.search)))))
@@ -692,10 +692,10 @@ pub candidates::try_candidate-record_constraints-requires-clause-posed : goal.ca
 candidates::try_candidate-record_constraints-requires-clause-posed g t c = IsPosed-later c.in_ok-values.ensures.runs.goes c.requires.posed
 
 pub candidates::try_candidate-returns : goal.candidates::try_candidate-returns
-candidates::try_candidate-returns = candidates.try_candidate-returns
+candidates::try_candidate-returns = candidates.candidates::try_candidate-returns
 
 pub candidates::try_candidate-returns-in_err-certainty : goal.candidates::try_candidate-returns-in_err-certainty
-candidates::try_candidate-returns-in_err-certainty = candidates.try_candidate-returns-in_err-certainty
+candidates::try_candidate-returns-in_err-certainty = candidates.candidates::try_candidate-returns-in_err-certainty
 
 pub candidates::try_candidate-returns-in_err-goals : goal.candidates::try_candidate-returns-in_err-goals
 candidates::try_candidate-returns-in_err-goals g t c =
@@ -749,7 +749,7 @@ candidates::try_candidate-returns-in_err-values g t c =
     }
 
 pub queries::search-evaluate_rounds-answer-requires : goal.queries::search-evaluate_rounds-answer-requires
-queries::search-evaluate_rounds-answer-requires = queries.search-evaluate_rounds-answer-requires
+queries::search-evaluate_rounds-answer-requires = queries.queries::search-evaluate_rounds-answer-requires
 
 pub queries::search-returns : goal.queries::search-returns
 queries::search-returns g t c =
@@ -757,7 +757,7 @@ queries::search-returns g t c =
     record {
       grows = e.grows;
       counted = e.counted;
-      searches = search_marked_again false c.if-graph.graph e.searches (λ m. elim c.if-graph.branch [ search-then-graph w ↦ w.graph-is ∙ w.if-graph.true | search-else-graph w ↦ w.graph-is ∙ m ]);
+      searches = search_marked_again false c.if-graph.graph e.searches (λ m. elim c.if-graph.branch [ queries::search-then-graph w ↦ w.graph-is ∙ w.if-graph.true | queries::search-else-graph w ↦ w.graph-is ∙ m ]);
       fits = e.fits;
       proved = e.proved;
       told = e.told;
@@ -769,13 +769,13 @@ queries::search-returns g t c =
           let x = e.decided s n b d (record { deep = can.deep; above = can.above; unmarked = refl; steps = can.steps; rounds = can.rounds; tight = can.tight; fair = can.fair }) in
           record {
             answer = x.answer;
-            search = marked_again _ _ _ _ c.evaluate_rounds-answer.result x.search refl refl refl (λ m. elim c.if-graph.branch [ search-then-graph w ↦ absurd (let yes = w.if-graph.true in cc (m, yes)) | search-else-graph w ↦ w.graph-is ]);
+            search = marked_again _ _ _ _ c.evaluate_rounds-answer.result x.search refl refl refl (λ m. elim c.if-graph.branch [ queries::search-then-graph w ↦ absurd (let yes = w.if-graph.true in cc (m, yes)) | queries::search-else-graph w ↦ w.graph-is ]);
           };
       facts = λ s tells f none can.
           let x = e.facts s tells f none (record { deep = can.deep; above = can.above; unmarked = refl; steps = can.steps; rounds = can.rounds; tight = can.tight; fair = can.fair }) in
           record {
             answer = x.answer;
-            search = marked_again _ _ _ _ c.evaluate_rounds-answer.result x.search refl refl refl (λ m. elim c.if-graph.branch [ search-then-graph w ↦ absurd (let yes = w.if-graph.true in cc (m, yes)) | search-else-graph w ↦ w.graph-is ]);
+            search = marked_again _ _ _ _ c.evaluate_rounds-answer.result x.search refl refl refl (λ m. elim c.if-graph.branch [ queries::search-then-graph w ↦ absurd (let yes = w.if-graph.true in cc (m, yes)) | queries::search-else-graph w ↦ w.graph-is ]);
           };
     }
 
@@ -794,55 +794,52 @@ queries::search-returns-in-Some g t c =
     }
 
 pub steps::try_evaluate_goals-evaluate_step-requires : goal.steps::try_evaluate_goals-evaluate_step-requires
-steps::try_evaluate_goals-evaluate_step-requires = steps.try_evaluate_goals-evaluate_step-requires
+steps::try_evaluate_goals-evaluate_step-requires = steps.steps::try_evaluate_goals-evaluate_step-requires
 
 pub steps::try_evaluate_goals-loop-step-init : goal.steps::try_evaluate_goals-loop-step-init
-steps::try_evaluate_goals-loop-step-init = steps.try_evaluate_goals-loop-step-init
+steps::try_evaluate_goals-loop-step-init = steps.steps::try_evaluate_goals-loop-step-init
 
 pub steps::try_evaluate_goals-loop-step-preserved : goal.steps::try_evaluate_goals-loop-step-preserved
-steps::try_evaluate_goals-loop-step-preserved = steps.try_evaluate_goals-loop-step-preserved
+steps::try_evaluate_goals-loop-step-preserved = steps.steps::try_evaluate_goals-loop-step-preserved
 
 pub steps::try_evaluate_goals-returns : goal.steps::try_evaluate_goals-returns
-steps::try_evaluate_goals-returns = steps.try_evaluate_goals-returns
+steps::try_evaluate_goals-returns = steps.steps::try_evaluate_goals-returns
 
 pub steps::try_evaluate_goals-returns-in_err-stepped : goal.steps::try_evaluate_goals-returns-in_err-stepped
-steps::try_evaluate_goals-returns-in_err-stepped = steps.try_evaluate_goals-returns-in_err-stepped
+steps::try_evaluate_goals-returns-in_err-stepped = steps.steps::try_evaluate_goals-returns-in_err-stepped
 
 pub steps::try_evaluate_goals-returns-then-not-stepped : goal.steps::try_evaluate_goals-returns-then-not-stepped
-steps::try_evaluate_goals-returns-then-not-stepped = steps.try_evaluate_goals-returns-then-not-stepped
+steps::try_evaluate_goals-returns-then-not-stepped = steps.steps::try_evaluate_goals-returns-then-not-stepped
 
 pub candidates::try_relating-returns-in_err-begun : goal.candidates::try_relating-returns-in_err-begun
-candidates::try_relating-returns-in_err-begun = relating.try_relating-returns-in_err-begun
+candidates::try_relating-returns-in_err-begun = relating.candidates::try_relating-returns-in_err-begun
 
 pub candidates::try_relating-returns-in_err-certainty : goal.candidates::try_relating-returns-in_err-certainty
-candidates::try_relating-returns-in_err-certainty = relating.try_relating-returns-in_err-certainty
+candidates::try_relating-returns-in_err-certainty = relating.candidates::try_relating-returns-in_err-certainty
 
 pub candidates::try_relating-returns : goal.candidates::try_relating-returns
-candidates::try_relating-returns = relating.try_relating-returns
+candidates::try_relating-returns = relating.candidates::try_relating-returns
 
 pub candidates::try_relating-returns-then-not-may_ask : goal.candidates::try_relating-returns-then-not-may_ask
-candidates::try_relating-returns-then-not-may_ask = relating.try_relating-returns-then-not-may_ask
-
-pub candidates::try_candidate-returns-then-not-may_relate : goal.candidates::try_candidate-returns-then-not-may_relate
-candidates::try_candidate-returns-then-not-may_relate = relating.try_candidate-returns-then-not-may_relate
+candidates::try_relating-returns-then-not-may_ask = relating.candidates::try_relating-returns-then-not-may_ask
 
 pub candidates::try_candidate-try_relating-requires : goal.candidates::try_candidate-try_relating-requires
-candidates::try_candidate-try_relating-requires g t c = λ κs k. (omega (arith, c.decreases), (k, (c.requires.posed, (c.requires.ready, (c.requires.candidate, (rw c.typing_mode.ensures at (c.may_relate.ensures.yes c.if-not-may_relate.false), (c.needs_relating.ensures.yes c.if-needs_relating.true, c.requires.search)))))))
+candidates::try_candidate-try_relating-requires g t c = λ κs k. (omega (arith, c.decreases), (k, (c.requires.posed, (c.requires.ready, (c.requires.candidate, (c.needs_relating.ensures.yes c.if-needs_relating.true, c.requires.search))))))
 
 pub candidates::try_candidate-pose_asked-requires : goal.candidates::try_candidate-pose_asked-requires
-candidates::try_candidate-pose_asked-requires = candidates.try_candidate-pose_asked-requires
+candidates::try_candidate-pose_asked-requires = candidates.candidates::try_candidate-pose_asked-requires
 
 pub candidates::try_candidate-try_evaluate_goals-requires : goal.candidates::try_candidate-try_evaluate_goals-requires
-candidates::try_candidate-try_evaluate_goals-requires = candidates.try_candidate-try_evaluate_goals-requires
+candidates::try_candidate-try_evaluate_goals-requires = candidates.candidates::try_candidate-try_evaluate_goals-requires
 
 pub candidates::try_candidate-returns-in_err-kept : goal.candidates::try_candidate-returns-in_err-kept
-candidates::try_candidate-returns-in_err-kept = candidates.try_candidate-returns-in_err-kept
+candidates::try_candidate-returns-in_err-kept = candidates.candidates::try_candidate-returns-in_err-kept
 
 pub candidates::try_relating-pose_asked-requires : goal.candidates::try_relating-pose_asked-requires
-candidates::try_relating-pose_asked-requires = relating.try_relating-pose_asked-requires
+candidates::try_relating-pose_asked-requires = relating.candidates::try_relating-pose_asked-requires
 
 pub candidates::try_relating-try_evaluate_goals-requires : goal.candidates::try_relating-try_evaluate_goals-requires
-candidates::try_relating-try_evaluate_goals-requires = relating.try_relating-try_evaluate_goals-requires
+candidates::try_relating-try_evaluate_goals-requires = relating.candidates::try_relating-try_evaluate_goals-requires
 
 pub candidates::try_relating-returns-in_err-kept : goal.candidates::try_relating-returns-in_err-kept
-candidates::try_relating-returns-in_err-kept = relating.try_relating-returns-in_err-kept
+candidates::try_relating-returns-in_err-kept = relating.candidates::try_relating-returns-in_err-kept

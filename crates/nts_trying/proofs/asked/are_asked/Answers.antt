@@ -7,7 +7,7 @@ use Rattle.nts_terms.specs.declared.handles.Goal.{Goal}
 use Rattle.nts_store.specs.Growth.{tree_at}
 use Rattle.nts_theory.specs.AskedGoals.{is_asked}
 use Rattle.nts_trying.specs.Asking.{IsAskedIn}
-use Rattle.nts_trying.proofs.OneSidedEquations.{get_or-any}
+use Rattle.nts_trying.proofs.BegunInMode.{get_or-any}
 use Rattle.nts_trying.proofs.AskedData.{asked_not, some_item}
 use Rattle.nts_trying.proofs.asked.are_asked.Goals as goal
 

@@ -4,7 +4,6 @@ use Rattle.nts_model.specs.Terms.Trees.{kind_of}
 use Rattle.nts_store.specs.Growth.{tree_at}
 use Rattle.nts_store.proofs.Growing.{Extends-trans, Extends-refl, IsIn-extended}
 use Rattle.nts_unify.specs.Lawful.{content_of-extended}
-use Rattle.nts_model.specs.Derivations.Handlers.{kind_of_sort}
 use Rattle.nts_terms.proofs.Moved.{KeepsRest-trans}
 use Rattle.nts_meaning.proofs.Evaluating.{Runs-trans, Runs-extends}
 use Rattle.nts_trying.proofs.NormalGoals.{begins_two, normal_of, equated_both}
@@ -64,7 +63,7 @@ returns-clause-begins c =
     let of_kind : kind_of (tree_at at.nodes c.in_ok-variable.variable) ≡ kind_of (tree_at a.nodes r.alias.node) = search rules in
     let env = (let i = e.is in i.environment) in
     let there = Runs-trans made.runs (Runs-extends made.runs.goes.table up (KeepsRest-trans n.grows.rest m.grows.rest)) in
-    begins_two a b c.args.table.now c.fresh_value.new.table c.args.goal c.in_ok-first.first c.in_ok-second.second (tree_at a.nodes r.alias.node) (tree_at a.nodes r.term.node) c.in_ok-variable.variable (kind_of_sort c.match-kind.sort) c.push-2.new.self.items (equated_both c.terms_are_formed.ensures e c.requires.alias) env
+    begins_two a b c.args.table.now c.fresh_value.new.table c.args.goal c.in_ok-first.first c.in_ok-second.second (tree_at a.nodes r.alias.node) (tree_at a.nodes r.term.node) c.in_ok-variable.variable c.match-kind.sort c.push-2.new.self.items (equated_both c.terms_are_formed.ensures e c.requires.alias) env
     (c.in_ok-push-2.ensures.items ∙ rw (c.in_ok-push.ensures.items, c.in_ok-goals.ensures.items) refl)
     (IsIn-extended up c.in_ok-variable.variable made.within) (ap kind_of kept ∙ of_kind) (rw (kept, same) made.new) (rw same made.labels)
     (normal_of a.nodes at.nodes c.normal_goal.new.cx.nodes b.nodes r.alias.node c.in_ok-variable.variable c.args.goal c.in_ok-first.first alias.within made.within first n.grows.extends m.grows.extends n.environment n.holds n.tree)

@@ -42,7 +42,7 @@ use Rattle.nts_theory.specs.RelatingCandidates.{IsCutIn}
 pub rows::compute_goal-evaluate_equated-response-requires : goal.rows::compute_goal-evaluate_equated-response-requires
 rows::compute_goal-evaluate_equated-response-requires g t c = λ κs k.
     let o = c.in_ok-opened.ensures in
-    let normal : IsOpenToNormalizing (mode_of c.enter_forall.new.table.mode) (tree_at c.enter_forall.new.cx.nodes c.in-Equated.opened.predicate.node) = elim (c.is_open_to_normalizing.ensures c.if-not-is_open_to_normalizing.false) [
+    let normal : IsOpenToNormalizing (mode_of c.enter_forall.new.table.mode) (tree_at c.enter_forall.new.cx.nodes c.in-Equated.opened.predicate.node) = elim (c.is_open_to_normalizing.ensures.open c.if-not-is_open_to_normalizing.false) [
       | inl x ↦ inl (rw c.typing_mode.ensures at x)
       | inr y ↦ inr y.1
     ] in (
@@ -111,7 +111,7 @@ rows::compute_goal-returns-in-Equated g t c =
     let posed = rw c.in-Equated.ensures.0 at o.posed in
     let says = c.in-Equated.ensures.1 in
     let before = c.in-Equated.ensures.2 in
-    let bound : IsCutIn (mode_of c.args.table.now.mode) ⊎ (c.args.goal.predicate ≡ c.in-Equated.opened.predicate) = elim (c.is_open_to_normalizing.ensures c.if-not-is_open_to_normalizing.false) [
+    let bound : IsCutIn (mode_of c.args.table.now.mode) ⊎ (c.args.goal.predicate ≡ c.in-Equated.opened.predicate) = elim (c.is_open_to_normalizing.ensures.open c.if-not-is_open_to_normalizing.false) [
       | inl x ↦ inl (rw (c.typing_mode.ensures, o.goes.mode) at x)
       | inr y ↦ inr y.0
     ] in

@@ -33,29 +33,9 @@ use Rattle.nts_certainty.specs.Certainties.{ambiguous}
 use Rattle.nts_certainty.specs.declared.certainty.Certainty.{Certainty}
 use Rattle.nts_certainty.specs.declared.certainty.Certainty.TheVariants as certainty
 use Rattle.nts_store.specs.declared.fault.EvalError.{EvalError as EvalFault}
-use Rattle.nts_trying.proofs.OneSidedEquations.{begins_in, doubted_in, may_be_asked}
+use Rattle.nts_trying.proofs.BegunInMode.{begins_in, doubted_in, may_be_asked}
 use Rattle.nts_model.proofs.Tables.Bringing.{only-refl}
 use Rattle.nts_evaluation.proofs.evaluate.+evaluate.Goals as goal
-
--- what is in doubt is no yes
-doubt_no_yes : (r : Result Certainty EvalFault) → IfOk r (λ y. y ≡ ambiguous) → r ≡ Ok certainty.Yes → ⊥
-doubt_no_yes r h e = (let same : certainty.Yes ≡ ambiguous = subst (λ z. IfOk z (λ y. y ≡ ambiguous)) e h in cc same)
-
--- in coherence such a candidate is begun in part, and in doubt
-pub candidates::try_candidate-returns-then-not-may_relate : goal.candidates::try_candidate-returns-then-not-may_relate
-candidates::try_candidate-returns-then-not-may_relate g t c =
-    let b = c.begin_in_part.ensures in
-    let some = c.needs_relating.ensures.yes c.if-needs_relating.true in
-    let inside : mode_of c.args.table.now.mode ≡ coherence = ap mode_of (sym c.typing_mode.ensures) ∙ c.may_relate.ensures.no c.if-not-may_relate.true in
-    record {
-      runs = b.runs;
-      searches = Searches-refl c.args.depth c.requires.search (ran b.runs);
-      labels = OnOk-map c.begin_in_part.result (λ h. h.labels) b.begins;
-      proved = λ s y. absurd (doubt_no_yes c.begin_in_part.result b.doubt y);
-      told = λ s tells. OnOk-map c.begin_in_part.result (λ h. record { left = h.left; met = content_of c.begin_in_part.new.cx.nodes c.begin_in_part.new.table.entries; begun = inr (inr (inside, inl h.begun)); goals = h.left; posed = content_of c.begin_in_part.new.cx.nodes c.begin_in_part.new.table.entries; poses = posed_in_as_it_is _ _ _ h.left; reaches = asks_nothing }) b.begins;
-      refuted = λ s tells n. is_unmet (b.no n);
-      decided = λ s n k d can. absurd (some d.plain);
-    }
 
 pub candidates::try_relating-returns-in_err-begun : goal.candidates::try_relating-returns-in_err-begun
 candidates::try_relating-returns-in_err-begun g t c =
@@ -68,7 +48,7 @@ candidates::try_relating-returns-in_err-begun g t c =
       told = λ s tells. IfOk-from_err c.from_residual.result _ fails;
       refuted = λ s tells n.
           let no : c.begin_relating.result ≡ Err EvalError.NoSolution = search rules in
-          elim (c.begin_relating.ensures.no no) [ inl u ↦ is_unmet u | inr u ↦ is_unrelated c.requires.may (rw s.declared u) ];
+          elim (c.begin_relating.ensures.no no) [ inl u ↦ is_unmet u | inr u ↦ is_unrelated (rw s.declared u) ];
       decided = λ s n b d can. absurd (c.requires.some d.plain);
     }
 
@@ -92,7 +72,7 @@ candidates::try_relating-try_evaluate_goals-requires g t c = λ κs k-1.
       ),
     )
 
--- in coherence it is in doubt where relating left another goal than that an alias is equal to a term without aliases
+-- in coherence it is in doubt where relating left another goal than that an alias is equal to a term without aliases, or to another alias
 pub candidates::try_relating-returns-then-not-may_ask : goal.candidates::try_relating-returns-then-not-may_ask
 candidates::try_relating-returns-then-not-may_ask g t c =
     let b = c.in_ok-begun.ensures in
@@ -111,7 +91,7 @@ candidates::try_relating-returns-then-not-may_ask g t c =
           record {
             left = goals_with first.values asks.goals;
             met = content_of m.nodes u.entries;
-            begun = rw s.declared (doubted_in _ _ _ _ _ _ _ begins.begun begins.continues c.requires.may (ap mode_of (sym b.runs.goes.mode) ∙ inside));
+            begun = rw s.declared (doubted_in _ _ _ _ _ _ _ begins.begun begins.continues (ap mode_of (sym b.runs.goes.mode) ∙ inside));
             goals = goals_with first.values asks.goals;
             posed = content_of m.nodes u.entries;
             poses = posed_in_as_it_is _ _ _ (goals_with first.values asks.goals);
@@ -140,7 +120,7 @@ candidates::try_relating-returns-in_err-certainty g t c =
           let refused : c.try_evaluate_goals.result ≡ Err EvalError.NoSolution = search rules in
           let no = e.refuted (Since-later (ran b.runs) s) (tell_grown h c.args.depth c.requires.search (ran b.runs) tells) (joined_fails _ c.in_ok-kept.kept refused) in
           let o = rw (c.goal_kind-kind.ensures.kind s.base s.variances) at no in
-          is_refused (goals_at m.nodes c.in_ok-begun.begun.goals.items) o.goals (content_of m.nodes u.entries) o.posed (rw s.declared (begins_in _ _ _ _ _ _ _ begins.begun begins.continues c.requires.may (may_be_asked begins.equalities (ap mode_of (c.typing_mode.ensures ∙ b.runs.goes.mode)) (c.may_ask.ensures.yes c.if-not-may_ask.false)))) o.poses o.refuses;
+          is_refused (goals_at m.nodes c.in_ok-begun.begun.goals.items) o.goals (content_of m.nodes u.entries) o.posed (rw s.declared (begins_in _ _ _ _ _ _ _ begins.begun begins.continues (may_be_asked begins.equalities (ap mode_of (c.typing_mode.ensures ∙ b.runs.goes.mode)) (c.may_ask.ensures.yes c.if-not-may_ask.false)))) o.poses o.refuses;
       decided = λ s n k d can. absurd (c.requires.some d.plain);
     }
 
@@ -174,7 +154,7 @@ candidates::try_relating-returns g t c =
           record {
             left = goals_at m.nodes gs;
             met = content_of m.nodes u.entries;
-            begun = rw s.declared (begins_in _ _ _ _ _ _ _ begins.begun begins.continues c.requires.may (may_be_asked begins.equalities (ap mode_of (c.typing_mode.ensures ∙ b.runs.goes.mode)) (c.may_ask.ensures.yes c.if-not-may_ask.false)));
+            begun = rw s.declared (begins_in _ _ _ _ _ _ _ begins.begun begins.continues (may_be_asked begins.equalities (ap mode_of (c.typing_mode.ensures ∙ b.runs.goes.mode)) (c.may_ask.ensures.yes c.if-not-may_ask.false)));
             goals = o.goals;
             posed = o.posed;
             poses = o.poses;

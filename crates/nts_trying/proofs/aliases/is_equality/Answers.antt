@@ -3,11 +3,11 @@ use Rattle.nts_model.specs.Derivations.Rules.{statement_of}
 use Rattle.nts_store.specs.Growth.{tree_at}
 use Rattle.nts_terms.specs.Kinds.{tree_of_statement}
 use Rattle.nts_trying.specs.Aliasing.{IsEquality}
-use Rattle.nts_trying.proofs.PlainEqualities.{plain_equality}
-use Rattle.nts_trying.proofs.aliases.is_plain_equality.Goals as goal
+use Rattle.nts_trying.proofs.SaidEqual.{says_equal}
+use Rattle.nts_trying.proofs.aliases.is_equality.Goals as goal
 
 pub returns : goal.returns
 returns c =
     let ts = c.args.cx.now.nodes in
     let says : statement_of (tree_at ts c.args.goal.predicate.node) ≡ tree_of_statement ts c.kind-predicate.result.value = ap statement_of c.kind-predicate.ensures.tree in
-    λ yes. plain_equality ts c.args.goal c.args.equated c.requires.equated (search rules) (subst IsEquality (sym says) (c.says_equal.ensures yes ts))
+    λ yes. says_equal ts c.args.goal c.args.equated (search rules) c.requires.equated (c.is_alias_or_plain.ensures (search rules)) (subst IsEquality (sym says) (c.says_equal.ensures yes ts))
