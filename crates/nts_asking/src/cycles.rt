@@ -1,7 +1,8 @@
 //! What a cycle is answered, and what a query is answered before its first round and after too many.
-ghost use Rattle.std.specs.Prelude.{ℕ, ◌≡◌, ◌<◌, ◌+◌, ◌≢◌, ◌⊎◌, length, get_or, Option, Some, None, IfOk, IsOkUnless};
+ghost use Rattle.std.specs.Prelude.{ℕ, suc, ◌≡◌, ◌<◌, ◌+◌, ◌-◌, ◌≢◌, ◌⊎◌, length, get_or, Option, Some, None, IfOk, IsOkUnless};
 ghost use Rattle.nts_model.specs.Derivations.Proofs.{passed};
-ghost use Rattle.nts_model.specs.Searching.Stacks.{IsUsable};
+ghost use Rattle.nts_model.specs.Derivations.Sequents.{coinductive};
+ghost use Rattle.nts_model.specs.Searching.Stacks.{IsUsable, path_kind};
 ghost use Rattle.nts_model.specs.Answers.Responses.{answer_sequent};
 ghost use Rattle.nts_terms.specs.Rest.{Grows};
 ghost use Rattle.nts_candidates.specs.Offered.{path_kind_of};
@@ -11,6 +12,7 @@ ghost use Rattle.nts_canonical.specs.Forms.{form_of};
 ghost use Rattle.nts_model.specs.Searching.Driving.{unconstrained};
 ghost use Rattle.nts_meaning.specs.nts_response.specs.Forms.{response_at, HoldsResponse};
 ghost use Rattle.nts_meaning.specs.nts_search.specs.declared.stack.StackEntry.{StackEntry};
+ghost use Rattle.nts_meaning.specs.nts_search.specs.Searching.{entries_at};
 ghost use Rattle.nts_meaning.specs.Answering.{IsQueryInput, IsAnswerTo, IfCertain, IfAnswered};
 ghost use Rattle.nts_meaning.specs.Rounds.{IsBoxed};
 ghost use Rattle.nts_meaning.specs.Searching.{IsSearch, Searches, IsCut, IsCopiedAnswer, IsReadAt, HasNoneAt, assumed_in};
@@ -104,6 +106,9 @@ pub fn answer_cycle(
         (response_at cx.new.nodes r))) }
     ensures some { IfAnswered result (λ r. IsReadAt graph.old.stack.items head r ⊎
         SaysNothing (kinds_of input.now) (response_at cx.new.nodes r)) }
+    ensures read { path_kind (entries_at cx.old.nodes graph.old) (length graph.old.stack.items -
+        suc head) (path_kind_of step) ≡ coinductive → IfAnswered result
+        (IsReadAt graph.old.stack.items head) }
     ensures none { result ≡ Err EvalError.NoSolution → HasNoneAt graph.old.stack.items head ⊎
         IsCut cx.old.nodes graph.old (form_of cx.old.nodes input.now)
         input.now.typing_mode step }

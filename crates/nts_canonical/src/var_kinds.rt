@@ -58,6 +58,7 @@ pub fn sub_roots(
     Ok(roots)
 }
 
+/// The variable that stands for those which a leaf was made a subtype of, or a supertype, if the leaf is a type variable.
 pub fn sub_root_of(table: &InferCtxt, leaf: Leaf) -> Option<usize>
     requires descends { LinksDescend table.now.entries }
     requires owned { IsOwned table.now.entries leaf }

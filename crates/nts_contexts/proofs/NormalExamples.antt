@@ -1,5 +1,5 @@
 -- What normalizing a term in a context comes to, by example.
-use Rattle.std.proofs.Common.{◌≡◌, refl, sym, subst, inl, ◌+◌, List, [], ◌∷◌, ◌++◌, map, length, ap, ◌∙◌, arith, ◌<◌, Option, None, Ok, false}
+use Rattle.std.proofs.Common.{◌≡◌, refl, sym, subst, inl, ◌+◌, List, [], ◌∷◌, ◌++◌, map, length, ap, ◌∙◌, arith, ◌<◌, Option, None, Ok, true, false}
 use Rattle.std.proofs.lemmas.List.{length-append}
 use Rattle.nts_model.specs.Terms.Trees.{Tree}
 use Rattle.nts_store.specs.declared.nodes.NodeId.{NodeId}
@@ -108,6 +108,7 @@ normal_in_doubt {R = R} {a = a} {m = m} {b = b} {x = x} {v = v} begun store tabl
       counts = λ s. record {
         between = b;
         answer = Ok ambiguous;
+        rests = λ i. true;
         counts = (false, rw (steps, store, table, goals) (then_steps no_step (asked s)), inl refl);
         steps = refl;
         left = refl;

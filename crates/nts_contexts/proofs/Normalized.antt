@@ -1,5 +1,5 @@
 -- What normalizing a term in a context comes to.
-use Rattle.std.proofs.Common.{◌≡◌, List, Option, None, sym, ap, subst, ◌∙◌}
+use Rattle.std.proofs.Common.{◌≡◌, List, Option, None, true, sym, ap, subst, ◌∙◌}
 use Rattle.std.specs.Prelude.{◌≤◌, IfOk, IfSome, IsErrAnd, Result, Ok, Err}
 use Rattle.nts_model.specs.Terms.Trees.{Tree, Place, NodeKind, kind_of, any_term}
 use Rattle.nts_model.specs.Tables.Resolving.{Knows, deeply_resolved}
@@ -93,7 +93,7 @@ normalized {H} {ready} {a} {m} {n} {b} R env x v y r h w k e up table goals side
       is = is ∙ ap (λ c. deeply_resolved c (tree_in n v)) (sym same) ∙ ap (deeply_resolved (content_in b)) (sym (up.kept v side.holds.within));
       told = λ s. subst (Reaches (ruling_since R.handler s) (mode_of m.table.now.mode) (goals_at m.cx.now.nodes m.state.now.nested_goals.items) (content_in m)) (sym same) (asked.told s);
       steps = rw last (asked.steps h.sound);
-      counts = λ s. record { between = n; answer = Ok y; counts = asked.counts s h.sound; steps = last; left = goals; table = table };
+      counts = λ s. record { between = n; answer = Ok y; rests = λ i. true; counts = asked.counts s h.sound; steps = last; left = goals; table = table };
     }
 
 -- .. whatever that reading came to

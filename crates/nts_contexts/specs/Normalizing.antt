@@ -1,5 +1,5 @@
 -- Terms that are normalized in a context.
-use Rattle.std.specs.Prelude.{◌≡◌, ◌≤◌, List, None, Result, Ok}
+use Rattle.std.specs.Prelude.{◌≡◌, ◌≤◌, List, None, Result, Ok, IsOk}
 use Rattle.nts_model.specs.Terms.Trees.{Tree, kind_of}
 use Rattle.nts_model.specs.Derivations.Handlers.{Handler}
 use Rattle.nts_model.specs.Tables.Resolving.{deeply_resolved}
@@ -37,7 +37,7 @@ pub record Normalizes {H : Type 0} (ready : List Tree → H → Type 0) (R : Rul
   -- it rests on what was asked, in as many steps as are counted, and no more than the store allows
   pub told : Always R between.cx.now (λ s. ReachesAdded (ruling_since R.handler s) between b)
   pub steps : b.state.now.last_steps ≤ between.cx.now.step_limit
-  pub counts : Always R between.cx.now (λ s. CountsBefore (ruling_since R.handler s) between b)
+  pub counts : Always R between.cx.now (λ s. CountsBefore IsOk (ruling_since R.handler s) between b)
 
 -- an alias is asked to be equal to a new variable, and a goal of the context is refused
 pub record RefusesNormal {H : Type 0} (ready : List Tree → H → Type 0) (R : Rules) (a : EvalCtxt H) (env : ParamEnv) (x : NodeId) : Type 0 where

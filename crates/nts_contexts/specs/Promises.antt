@@ -1,6 +1,6 @@
 -- What the calls of a context promise: one record for each family of calls.
 use Rattle.std.specs.Global.{Vec}
-use Rattle.std.specs.Prelude.{◌≡◌, ◌≢◌, List, None, All, Result, Err, IfOk, IfSome, OnOk, OnErr}
+use Rattle.std.specs.Prelude.{◌≡◌, ◌≢◌, List, None, All, Result, Ok, Err, IfOk, IfSome, OnOk, OnErr}
 use Rattle.nts_model.specs.declared.labels.Variance.{Variance}
 use Rattle.nts_model.specs.declared.labels.Variance.TheVariants as variance
 use Rattle.nts_model.specs.Terms.Trees.{Tree}
@@ -10,6 +10,7 @@ use Rattle.nts_store.specs.declared.fault.EvalError.{EvalError}
 use Rattle.nts_store.specs.declared.fault.EvalError.TheVariants as error
 use Rattle.nts_store.specs.Errors.{error_of}
 use Rattle.nts_certainty.specs.declared.certainty.Certainty.{Certainty}
+use Rattle.nts_certainty.specs.Certainties.{both}
 use Rattle.nts_certainty.specs.declared.sources.GoalSource.{GoalSource}
 use Rattle.nts_terms.specs.declared.handles.Goal.{Goal}
 use Rattle.nts_terms.specs.declared.handles.ParamEnv.{ParamEnv}
@@ -38,14 +39,21 @@ abbrev pub CountsAdded : {H X : Type 0} → Ruling → EvalCtxt H → EvalCtxt H
 CountsAdded h a b r =
     CountsSteps (AsksOnce h a.table.now.mode (available.Root a.state.now.root_depth)) a.cx.now.step_limit (a.cx.now, a.table.now) a.state.now.nested_goals.items b.state.now.last_steps (b.cx.now, b.table.now) b.state.now.nested_goals.items r
 
--- .. and then no goal was asked any more
-pub record CountsBefore {H : Type 0} (h : Ruling) (a b : EvalCtxt H) : Type 0 where
+-- .. and then no goal was asked any more; what is answered rests on what they answered
+pub record CountsBefore {H : Type 0} (Rests : Result Certainty EvalError → Type 0) (h : Ruling) (a b : EvalCtxt H) : Type 0 where
   pub between : EvalCtxt H
   pub answer : Result Certainty EvalError
+  pub rests : Rests answer
   pub counts : CountsAdded h a between answer
   pub steps : b.state.now.last_steps ≡ between.state.now.last_steps
   pub left : b.state.now.nested_goals.items ≡ between.state.now.nested_goals.items
   pub table : b.table.now ≡ between.table.now
+
+-- a certainty is that of both, another one and what goals answered
+pub record IsOfBoth (shallow : Certainty) (answer : Result Certainty EvalError) (sure : Certainty) : Type 0 where
+  pub goals : Certainty
+  pub answered : answer ≡ Ok goals
+  pub is : sure ≡ both shallow goals
 
 -- the goals that were added to the context are evaluated in steps: some are left, and each other one is proved
 pub record EvaluatesAdded {H : Type 0} {X : Type 0} (R : Rules) (a b : EvalCtxt H) (r : Result X EvalError) : Type 0 where

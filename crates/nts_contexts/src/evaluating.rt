@@ -10,7 +10,7 @@ ghost use Rattle.nts_evaluation.specs.nts_meaning.specs.Answering.{told_in};
 ghost use Rattle.nts_evaluation.specs.nts_meaning.specs.Meant.{rules_of, ruling_since, Always};
 ghost use Rattle.nts_nested_goals.specs.Faults.{fault_after, tainted_after};
 ghost use Rattle.nts_contexts.specs.Contexts.{IsContextReady, KeepsContext, content_in};
-ghost use Rattle.nts_contexts.specs.Promises.{EvaluatesAdded, ReachesAdded, RefusesOneAdded, CountsAdded, CountsBefore};
+ghost use Rattle.nts_contexts.specs.Promises.{EvaluatesAdded, ReachesAdded, RefusesOneAdded, CountsAdded, CountsBefore, IsOfBoth};
 
 use crate::context::EvalCtxt;
 use nts_certainty::Certainty;
@@ -91,7 +91,8 @@ impl<H: GoalHandler> EvalCtxt<'_, H> {
             self.new.state.now.last_steps ≤ self.old.cx.now.step_limit }
         ensures counts { Always (rules_of H.ready H.handler self.old.handler.now) self.old.cx.now
             (λ s. self.old.state.now.fault ≡ None → self.old.state.now.is_tainted ≡ false →
-            CountsBefore (ruling_since (λ ts. H.handler ts self.old.handler.now) s) self.old
+            CountsBefore (λ answer. IfOk result (λ r. IsOfBoth shallow_certainty answer
+            r.value.certainty)) (ruling_since (λ ts. H.handler ts self.old.handler.now) s) self.old
             self.new) }
         ensures told { Always (rules_of H.ready H.handler self.old.handler.now) self.old.cx.now
             (λ s. ReachesAdded (ruling_since (λ ts. H.handler ts self.old.handler.now) s) self.old

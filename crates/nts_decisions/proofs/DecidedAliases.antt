@@ -1,5 +1,5 @@
 -- A goal that rules of a handler say has no alias if it is decided. So in coherence too decided goals are asked as they stand.
-use Rattle.std.proofs.Common.{◌≡◌, inl, inr, ℕ, suc, ◌+◌, true, false, List, [], ◌∷◌, Some, refl, sym, ap, subst, ◌∙◌}
+use Rattle.std.proofs.Common.{◌≡◌, inl, inr, ℕ, suc, ◌+◌, true, false, List, Some, refl, sym, ap, subst, ◌∙◌}
 use Rattle.std.specs.Prelude.{Bool, ◌⊎◌, ◌||◌}
 use Rattle.nts_model.specs.declared.labels.Sort.{Sort}
 use Rattle.nts_model.specs.declared.labels.Leaf.{Leaf}
@@ -9,7 +9,7 @@ use Rattle.nts_model.specs.declared.labels.Label.TheVariants as label
 use Rattle.nts_model.specs.Terms.Trees.{Tree, empty, more, node, any_label, is_alias, binders, kind_of, one_sort, is, AllFit, IsFormed}
 use Rattle.nts_model.specs.Terms.Substitutions.{put, replace}
 use Rattle.nts_model.specs.Tables.Contents.{Content}
-use Rattle.nts_model.specs.Tables.Resolving.{Knows, deeply_resolved}
+use Rattle.nts_model.specs.Tables.Resolving.{deeply_resolved}
 use Rattle.nts_model.specs.Lists.{Among}
 use Rattle.nts_model.specs.Derivations.Related.{pair, unbound}
 use Rattle.nts_model.specs.Derivations.Sequents.{Premise}

@@ -1,6 +1,5 @@
 -- Goals that are decided stay so where others are posed with variables in place of their aliases.
-use Rattle.std.proofs.Common.{◌≡◌, inl, inr, ℕ, Bool, true, false, not, List, [], ◌∷◌, ◌++◌, refl, sym, ap, subst, ◌∙◌}
-use Rattle.std.specs.Prelude.{◌||◌}
+use Rattle.std.proofs.Common.{◌≡◌, inl, inr, ℕ, Bool, true, false, not, List, [], ◌∷◌, ◌++◌, refl, sym, subst}
 use Rattle.nts_model.specs.declared.labels.ClauseHead.TheVariants as clause
 use Rattle.nts_model.specs.declared.labels.Label.TheVariants as label
 use Rattle.nts_model.specs.Terms.Trees.{Tree, node, any_label, is_alias}
@@ -9,11 +8,11 @@ use Rattle.nts_model.specs.Tables.Holding.{Continues}
 use Rattle.nts_model.specs.Tables.Resolving.{deeply_resolved}
 use Rattle.nts_model.specs.Lists.{Among}
 use Rattle.nts_model.specs.Derivations.Sequents.{Premise}
-use Rattle.nts_model.specs.Derivations.Rules.{Mode, coherence, post_analysis, erased, analysis, borrowck, post_borrowck, GoalKind, statement_of}
+use Rattle.nts_model.specs.Derivations.Rules.{Mode, GoalKind, statement_of}
 use Rattle.nts_model.specs.Derivations.Handlers.{Handler}
 use Rattle.nts_theory.specs.AskedGoals.{is_engines, is_asked}
 use Rattle.nts_variance_model.specs.Variances.Relations.{Relating as Pair}
-use Rattle.nts_theory.specs.Posing.{TakesValues, posed_with, PutsNew, Poses, poses_none, as_it_is, with_variables, PosesIn}
+use Rattle.nts_theory.specs.Posing.{TakesValues, posed_with, PutsNew, Poses, poses_none, as_it_is, with_variables}
 use Rattle.nts_theory.proofs.Refutation.Answered.{among_split}
 use Rattle.nts_theory.proofs.Refutation.PosedGoals.{plain_posed}
 use Rattle.nts_decisions.specs.Deciding.{IsGoalDecided}

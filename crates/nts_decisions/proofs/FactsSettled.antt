@@ -35,7 +35,6 @@ use Rattle.nts_model.specs.Derivations.Handlers.{Handler}
 use Rattle.nts_theory.specs.AskedGoals.{asked_in}
 use Rattle.nts_theory.proofs.Refutation.AskedGoals.{asks_none}
 use Rattle.nts_theory.specs.Telling.{Queries, Reaches, asks_nothing, then_asks}
-use Rattle.nts_theory.specs.RelatingCandidates.{goals_with}
 use Rattle.nts_theory.specs.Telling.{IsResponseOf, AreTermsOfKinds}
 use Rattle.nts_theory.specs.RelatingCandidates.{IsBegun}
 use Rattle.nts_theory.proofs.Refutation.Freshening.{knows_leaf}

@@ -4,7 +4,7 @@ use Rattle.nts_model.specs.Terms.Trees.{Tree, any_label, is_infer, IsFormed}
 use Rattle.nts_model.specs.Derivations.Related.{pair}
 use Rattle.nts_model.specs.Derivations.Rules.{Mode, coherence}
 use Rattle.nts_model.specs.Derivations.Handlers.{Handler, Certainty, certain, perhaps, never_leaks, no_judgements, IsAsked, FastAnswersHold}
-use Rattle.nts_decisions.specs.Deciding.{blurred_environment, IsUniform, IsDecided, by_candidates, none_left, IsGoalDecided, IsFairAtOnce}
+use Rattle.nts_decisions.specs.Deciding.{blurred_environment, IsUniform, by_candidates, none_left, IsGoalDecided, IsFairAtOnce}
 use Rattle.nts_theory.proofs.Examples.InputExamples.{no_clauses as nowhere}
 use Rattle.nts_decisions.proofs.DecidedInfer.{decided_no_infer}
 use Rattle.nts_decisions.proofs.DecidingExamples.{list_goal, plain}

@@ -1,6 +1,6 @@
 -- Goals that are as a handler judges: objects can be made of the first trait, so that is yes, and of no other, so that is no; a type
 -- for which nothing is asked is well formed; and whether an unstable feature is allowed that no environment is known to allow is decided neither way.
-use Rattle.std.proofs.Common.{◌≡◌, inl, Some, ℕ, Bool, true, false, [], refl, sym, subst, ◌∙◌}
+use Rattle.std.proofs.Common.{◌≡◌, Some, ℕ, Bool, true, false, [], refl, sym, subst, ◌∙◌}
 use Rattle.std.specs.Prelude.{◌==◌}
 use Rattle.nts_model.specs.declared.labels.ClauseHead.TheVariants as clause
 use Rattle.nts_model.specs.declared.labels.Leaf.{Leaf}
@@ -11,7 +11,7 @@ use Rattle.nts_model.specs.Terms.Trees.{Tree, empty, more, node, IsInRow}
 use Rattle.nts_model.specs.Derivations.Related.{unbound}
 use Rattle.nts_model.specs.Derivations.Rules.{coherence}
 use Rattle.nts_model.specs.Derivations.Handlers.{Handler, never_leaks, never_at_once, no_judgements}
-use Rattle.nts_theory.specs.Affirming.{IsAffirmed, has_objects, feature_allowed, by_goals, plain_way, is_well_formed, IsDenied, IsOwnWay}
+use Rattle.nts_theory.specs.Affirming.{has_objects, feature_allowed, by_goals, plain_way, is_well_formed, IsOwnWay}
 use Rattle.nts_decisions.specs.Deciding.{blurred, IsDecidable, SaysOfRegion, IsJudged, IsJudgedGoal, IsOwnWayGoal, IsDecided, by_candidates, by_region, by_judgement, by_own_way, is_met, all_yes}
 use Rattle.nts_theory.proofs.Examples.InputExamples.{no_clauses as nowhere}
 use Rattle.nts_theory.proofs.Examples.ProofExamples.{no_predicates}

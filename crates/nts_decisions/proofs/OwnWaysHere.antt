@@ -1,6 +1,5 @@
 -- The one way of a goal without variables is a candidate of constants.
-use Rattle.std.proofs.Common.{◌≡◌, inl, inr, ℕ, List, [], ◌∷◌, sym, ap, subst}
-use Rattle.nts_model.specs.declared.labels.Leaf.{Leaf}
+use Rattle.std.proofs.Common.{◌≡◌, inl, inr, ℕ, [], ◌∷◌, sym, ap, subst}
 use Rattle.nts_model.specs.Terms.Trees.{Tree, IsFormed}
 use Rattle.nts_model.specs.Lists.{Among}
 use Rattle.nts_model.specs.Tables.Contents.{Content}

@@ -13,7 +13,6 @@ use Rattle.nts_model.specs.Terms.Substitutions.{leaf_tree, filled}
 use Rattle.nts_model.specs.Derivations.Related.{Constraint, pair}
 use Rattle.nts_model.specs.declared.labels.ClauseHead.TheVariants as clause
 use Rattle.nts_model.specs.declared.labels.Label.TheVariants as label
-use Rattle.nts_theory.specs.AskedGoals.{asked_in}
 use Rattle.nts_decisions.proofs.FactsSettled.{reached_nothing}
 use Rattle.nts_theory.specs.Affirming.{SaysAffirmed, IsDenied, HasOwnWay}
 use Rattle.nts_theory.specs.Outliving.{IsOutlives}
@@ -30,8 +29,8 @@ use Rattle.nts_model.specs.Canonical.Inputs.{Input, PositionKind, type_variable,
 use Rattle.nts_model.specs.Canonical.Numbered.{numbered, no_leaf}
 use Rattle.nts_model.specs.Refutation.Opening.{binds, opened_in, entered_table}
 use Rattle.nts_model.specs.Answers.Responses.{Response, IsResponseTo, IsQueryTable, read_in, RefusesResponse}
-use Rattle.nts_theory.specs.Telling.{Verdict, Queries, IsWay, IsInputFor, IsReady, StandsForAll, SaysOf, without_constraints, IsPlainResponse, Tells, tells_nothing, says_nothing, tells_one, tells_outlives, tells_affirmed, tells_own, tells_subtype, tells_alias, tells_normal, IsTraitStatement, IsAliasStatement, IsAliasReady, IsAliasGoal, IsTraitGoal, kind_for, Refutes, all_fail, is_denied, own_fails, is_no_subtype, subtype_refused, aliases_fail, normal_refused, Outcomes, no_outcome, then_fails, then_replies, Replies, replies, Fails, is_unmet, has_types_apart, is_unrelated, is_refused, is_leaky, Reaches, asks_nothing, then_asks, RefusesOne, Refused, by_query, by_response}
-use Rattle.nts_theory.specs.RelatingCandidates.{goals_with, HasPlainEquations}
+use Rattle.nts_theory.specs.Telling.{Verdict, Queries, IsWay, IsInputFor, IsReady, StandsForAll, SaysOf, without_constraints, IsPlainResponse, Tells, tells_nothing, says_nothing, tells_one, tells_outlives, tells_affirmed, tells_own, tells_subtype, tells_alias, tells_normal, IsTraitStatement, IsAliasStatement, IsAliasReady, IsAliasGoal, IsTraitGoal, kind_for, Refutes, all_fail, is_denied, own_fails, is_no_subtype, subtype_refused, aliases_fail, normal_refused, Outcomes, no_outcome, then_fails, then_replies, Replies, replies, Fails, is_unmet, has_types_apart, is_unrelated, is_refused, is_leaky, Refused, by_query, by_response}
+use Rattle.nts_theory.specs.RelatingCandidates.{HasPlainEquations}
 use Rattle.nts_theory.proofs.Refutation.Queried.{IsFirst, BeginsEach, IsQuery, first_query, IsTried, tried, tried_knows, found_table, says_long}
 use Rattle.nts_theory.proofs.Refutation.QueryLabels.{query_without}
 use Rattle.nts_theory.proofs.Refutation.Answered.{among_split}

@@ -23,9 +23,11 @@ use nts_store::{EvalError, Fault};
 use nts_terms::Cx;
 
 /// Answers a canonical goal that a step of that kind asks, in a search whose stack is empty: at its root depth. `None` is no
-/// solution: each candidate failed. In coherence the answer contains each solution of the input in which no alias is a value,
-/// and `None` says that it has none. A certain answer has a ranked proof of what it says of the input. Afterwards the stack is
-/// empty again, no query took more rounds than the store's limit says, and the counts of the search did not fall.
+/// solution: each candidate failed, or the engine's own way did; the handler denies the goal; the one type is no subtype of the
+/// other; or a goal was refused that the subtype, or normalizing an alias, asks for. In coherence the answer contains each
+/// solution of the input in which no alias is a value, and `None` says that it has none. A certain answer has a ranked proof of
+/// what it says of the input. Afterwards the stack is empty again, no query took more rounds than the store's limit says, and the
+/// counts of the search did not fall.
 pub fn evaluate_input<H: GoalHandler>(
     graph: &mut SearchGraph,
     cx: &mut Cx,

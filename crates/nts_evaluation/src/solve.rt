@@ -64,9 +64,10 @@ pub fn goal_is_admitted(table: &InferCtxt, cx: &mut Cx, goal: Goal) -> Result<bo
 /// and the response is applied to its leaves: nothing else is added to the table. The answer is certain exactly if the query's
 /// is. Where it is yes, the goal has a ranked proof, whatever cycles were met: each of its steps leads to a lower rank, or is
 /// coinductive. Each candidate is asked to its end: the response says nothing new, or it is the one that stands for those of
-/// all candidates that did not fail. One that is in doubt leaves no region constraints. `NoSolution` says that each candidate
-/// failed: its equations can't be met, or a goal that it asks for was refused; or that no solution of the table grants the
-/// response. A goal that a finite tree of goals decides, no higher than the recursion limit, is answered as it is decided, yes or
+/// all candidates that did not fail. One that is in doubt leaves no region constraints. `NoSolution` says that each candidate, or
+/// the engine's own way, failed: its equations can't be met, or a goal that it asks for was refused; that the handler denies the
+/// goal; that the one type is no subtype of the other; that a goal was refused which the subtype, or normalizing an alias, asks
+/// for; or that no solution of the table grants the response. A goal that a finite tree of goals decides, no higher than the recursion limit, is answered as it is decided, yes or
 /// no, whatever the rules say of other goals. A goal with a fact, variables or not, is not refused, and where no other candidate
 /// can be met it is answered yes: a candidate without goals is a fact if it is offered and a world of the table meets it. After an
 /// error the table is as it was. A fault is want of memory, or `Full` where a universe above the greatest is asked for.

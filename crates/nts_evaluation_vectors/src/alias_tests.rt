@@ -207,13 +207,35 @@ fn a_rule_for_an_alias_serves_its_type_in_coherence(rt: HostRuntime) {
     plays(&rt, rt.alloc(), TypingMode::Coherence, PAIR, PARTS);
 }
 
-/// In coherence goals of two aliases are in doubt, and so are subtypes of an alias.
+/// In coherence too two aliases are equal by the one type that both normalize to, and refused where there is none.
 #[test]
-fn two_aliases_are_in_doubt_in_coherence(rt: HostRuntime) {
+fn two_aliases_are_equal_by_one_type_in_coherence(rt: HostRuntime) {
+    const TO_ONE: &[Norm] = &[
+        Norm(&[], "byte", "word", None),
+        Norm(&[], "word", "word", None),
+    ];
+    const APART: &[Norm] = &[
+        Norm(&[], "byte", "word", None),
+        Norm(&[], "word", "byte", None),
+    ];
+    const ONLY_ONE: &[Norm] = &[Norm(&[], "byte", "word", None)];
+    const EQUAL: &[Asked] = &[Goal(Alias(Equal("alias", "other")), Is(YES, HasChanged::No))];
+    const UNEQUAL: &[Asked] = &[Goal(Alias(Equal("alias", "other")), Refused)];
+    const PARTS: &[Part] = &[
+        Part(By::Aliases(TO_ONE), &[], EQUAL),
+        Part(By::Aliases(APART), &[], UNEQUAL),
+        Part(By::Aliases(ONLY_ONE), &[], UNEQUAL),
+    ];
+    plays(&rt, rt.alloc(), TypingMode::Coherence, PAIR, PARTS);
+}
+
+/// In coherence an alias projects to another, or to itself, where both are one type. Subtypes of an alias are in doubt.
+#[test]
+fn an_alias_projects_to_an_alias_in_coherence(rt: HostRuntime) {
     const NORMS: &[Norm] = &[Norm(&[], "byte", "word", None)];
     const ASKED: &[Asked] = &[
-        Goal(Alias(Equal("alias", "other")), Is(DOUBT, HasChanged::No)),
-        Goal(Alias(Projects("byte", "alias")), Is(DOUBT, HasChanged::No)),
+        Goal(Alias(Projects("byte", "alias")), Is(YES, HasChanged::No)),
+        Goal(Alias(Projects("word", "alias")), Refused),
         Goal(Subtype("alias", "word"), Is(DOUBT, HasChanged::No)),
     ];
     const PARTS: &[Part] = &[Part(By::Aliases(NORMS), &[], ASKED)];

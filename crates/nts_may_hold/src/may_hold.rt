@@ -17,10 +17,9 @@ use nts_store::{EvalError, Fault};
 use nts_table::InferCtxt;
 use nts_terms::{Cx, Goal};
 
-/// Whether a goal may hold, where goals may be nested so deep. It is false exactly where the goal has no solution: then each
-/// candidate failed, or no solution of the table grants what the others say. In coherence no solution
-/// of the table, with no alias as a value, has a proof of the goal then. A goal that a finite tree of goals decides, no higher than that
-/// depth, gets true for a yes and false for a no. A goal with a fact does not get false, and gets true where no other candidate can
+/// Whether a goal may hold, where goals may be nested so deep. It is false only where an evaluation refuses the goal, as
+/// `evaluate_root_goal` says it. In coherence no solution of the table, with no alias as a value, has a proof of the goal then. A
+/// goal that a finite tree of goals decides, no higher than that depth, gets true for a yes and false for a no. A goal with a fact does not get false, and gets true where no other candidate can
 /// be met. The table is as before. A fault is want of memory, or `Full` where a universe above the greatest is asked for.
 pub fn root_goal_may_hold_with_depth<H: GoalHandler>(
     table: &mut InferCtxt,

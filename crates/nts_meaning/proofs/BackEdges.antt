@@ -240,9 +240,14 @@ module _ {a : Cx} {g : SearchGraph} (m n : ℕ) (search : IsSearch a g m) (below
       let one = same e in
       copied_head a.nodes (get_or g.stack.items n e) c.0 r (kinds_of input) head_there (ap (λ (f : Form). f.kinds) one.form) c.1 c.2)
 
+  read_from_it : (r : Canonical Response) → x ≡ Some r → IsReadAt g.stack.items n r
+  read_from_it r h d = (let c = provisional_there r h in let y = get_or_any g.stack.items n d e below in (c.0, ap (λ w. w.provisional) y ∙ c.1, c.2))
+
+  pub read_exactly : IfAnswered z (IsReadAt g.stack.items n)
+  read_exactly = by_answer x z some none read_from_it
+
   pub read_answers : IfAnswered z (λ r. IsReadAt g.stack.items n r ⊎ SaysNothing (kinds_of input) (response_at a.nodes r))
-  read_answers =
-      by_answer x z some none (λ r h. inl (λ d. let c = provisional_there r h in let y = get_or_any g.stack.items n d e below in (c.0, ap (λ w. w.provisional) y ∙ c.1, c.2)))
+  read_answers = by_answer x z some none (λ r h. inl (read_from_it r h))
 
   pub read_used : (h : SearchGraph) (k : PathKindData) (step : PathKindData) → entries_at a.nodes h ≡ marked (entries_at a.nodes g) (length g.stack.items - suc n) → k ≡ path.Coinductive → path_kind_of k ≡ path_kind (entries_at a.nodes g) (length g.stack.items - suc n) (path_kind_of step)
       → IfAnswered z (λ r. r.value.certainty ≡ certainty.Yes → IsUsable (passed (path_kind_of step) (assumed_in a.nodes h)) (answer_sequent (form_of a.nodes input) (response_at a.nodes r)))

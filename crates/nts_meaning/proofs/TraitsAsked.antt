@@ -1,5 +1,5 @@
 -- Goals of traits that are asked of a handler.
-use Rattle.std.proofs.Common.{◌≡◌, inl, inr, ℕ, suc, ◌<◌, ◌≤◌, ◌||◌, Bool, true, false, List, is_some, refl, sym, ap, ◌∙◌, subst, arith}
+use Rattle.std.proofs.Common.{◌≡◌, inl, inr, ℕ, suc, ◌<◌, ◌≤◌, ◌||◌, false, List, is_some, refl, sym, ap, ◌∙◌, subst, arith}
 use Rattle.nts_model.specs.Derivations.Rules.{statement_of, IsHandlers}
 use Rattle.nts_model.specs.declared.labels.ClauseHead.TheVariants as clause_head
 use Rattle.nts_model.specs.declared.labels.ListHead.TheVariants as list

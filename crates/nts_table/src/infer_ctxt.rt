@@ -63,12 +63,14 @@ impl InferCtxt {
         &self.mode
     }
 
+    /// How many variables there are. They are numbered from 0, in the order in which they came. It takes no memory.
     pub fn variable_count(&self) -> usize
         ensures { result ≡ length self.now.entries.variables }
     {
         self.inner.variable_count()
     }
 
+    /// What is known of the variable of that number.
     pub fn variable(&self, n: usize) -> Variable
         requires { n < length self.now.entries.variables }
         ensures { slice_get self.now.entries.variables n ≡ Some result }
@@ -76,12 +78,14 @@ impl InferCtxt {
         self.inner.variable(n)
     }
 
+    /// How many region constraints there are. It takes no memory.
     pub fn constraint_count(&self) -> usize
         ensures { result ≡ length self.now.entries.constraints }
     {
         self.inner.constraint_count()
     }
 
+    /// The region constraint at a position: the first one came first.
     pub fn constraint(&self, n: usize) -> Constraint
         requires { n < length self.now.entries.constraints }
         ensures { slice_get self.now.entries.constraints n ≡ Some result }

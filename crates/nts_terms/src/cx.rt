@@ -72,6 +72,7 @@ impl Cx {
         self.recursion_limit
     }
 
+    /// How deep evaluations may nest goals from now on: 128 at first. A goal that is nested deeper is answered overflow.
     pub fn set_recursion_limit(&mut self, limit: usize)
         ensures { self.new ≡ record self.old { recursion_limit = limit } }
     {
@@ -133,6 +134,7 @@ impl Cx {
         self.disable_fast_paths
     }
 
+    /// Whether evaluations skip the short cuts from now on. With and without them an answer is held to the same promises.
     pub fn set_disable_fast_paths(&mut self, disable: bool)
         ensures { self.new ≡ record self.old { disable_fast_paths = disable } }
     {

@@ -19,6 +19,7 @@ use crate::refusals::{Refusal, TextError};
 use crate::resolver::{Resolved, Site};
 use nts_model::Sort;
 
+/// A line that is refused, and why.
 pub fn refused<T>(refusal: Refusal) -> Result<T, TextError>
     ensures { result ≡ Err (Refused refusal) }
 {

@@ -8,7 +8,6 @@ use Rattle.nts_model.specs.Terms.Substitutions.{filled}
 use Rattle.nts_model.specs.Tables.Passing.{BringsOnly}
 use Rattle.nts_model.specs.Tables.Contents.{Content}
 use Rattle.nts_model.specs.Tables.Holding.{Continues}
-use Rattle.nts_model.specs.Derivations.Sequents.{Premise}
 use Rattle.nts_theory.specs.RelatingCandidates.{relates_aliases, goals_with, IsBegunByRelating, AreEqualities}
 use Rattle.nts_store.specs.declared.nodes.NodeId.{NodeId}
 use Rattle.nts_store.specs.Growth.{tree_at, trees_at}

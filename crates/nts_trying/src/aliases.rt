@@ -127,7 +127,8 @@ pub fn is_open_to_normalizing(
 ) -> bool
     requires opened { HoldsGoal cx.now.nodes opened }
     requires equated { IsEquatedGoal cx.now.nodes opened equated }
-    ensures open { result ≡ true → IsCutIn (mode_of mode.now) ⊎ (goal.predicate ≡ opened.predicate) ×
+    ensures open { result ≡ true → IsCutIn (mode_of mode.now) ⊎
+        (goal.predicate ≡ opened.predicate) ×
         SaysEqual (tree_at cx.now.nodes opened.predicate.node) }
     ensures outside { IsCutIn (mode_of mode.now) → result ≡ true }
 {

@@ -90,6 +90,7 @@ impl Model for Contents {
 }
 
 impl Contents {
+    /// No variables, in the root universe. It takes no memory.
     pub fn new(alloc: Global) -> Self
         ensures { result ≡ record {
           variables = [];
@@ -109,18 +110,21 @@ impl Contents {
         }
     }
 
+    /// How many variables there are.
     pub fn len(&self) -> usize
         ensures { result ≡ length self.now.variables }
     {
         self.variables.len()
     }
 
+    /// The current universe.
     pub fn universe(&self) -> UniverseIndex
         ensures { result ≡ self.now.universe }
     {
         self.universe
     }
 
+    /// What is known of the variable of that number.
     pub fn variable(&self, n: usize) -> Variable
         requires { n < length self.now.variables }
         ensures { slice_get self.now.variables n ≡ Some result }
@@ -128,6 +132,7 @@ impl Contents {
         self.variables[n]
     }
 
+    /// The region constraint at a position.
     pub fn constraint(&self, n: usize) -> Constraint
         requires { n < length self.now.constraints }
         ensures { slice_get self.now.constraints n ≡ Some result }
@@ -135,12 +140,14 @@ impl Contents {
         self.constraints[n]
     }
 
+    /// How many region constraints there are.
     pub fn constraint_count(&self) -> usize
         ensures { result ≡ length self.now.constraints }
     {
         self.constraints.len()
     }
 
+    /// The hidden type at a position.
     pub fn hidden_type(&self, n: usize) -> HiddenType
         requires { n < length self.now.hidden.lookup }
         ensures { slice_get self.now.hidden.lookup n ≡ Some result }
@@ -148,6 +155,7 @@ impl Contents {
         self.hidden[n]
     }
 
+    /// How many hidden types are registered.
     pub fn hidden_count(&self) -> usize
         ensures { result ≡ length self.now.hidden.lookup }
     {
@@ -161,6 +169,7 @@ impl Contents {
         &self.hidden
     }
 
+    /// The duplicates of hidden types.
     pub fn duplicates(&self) -> &[HiddenType]
         ensures { result.now ≡ self.now.hidden.duplicates }
     {
@@ -172,6 +181,7 @@ impl Contents {
         *self.hidden.allocator()
     }
 
+    /// Adds a variable behind the others, and answers its number. After an error nothing has changed.
     pub fn add(&mut self, variable: Variable) -> Result<usize, AllocError>
         ensures number { IfOk result (λ v. v ≡ length self.old.variables) }
         ensures entries { OnOk result (self.new ≡ added self.old variable) }
@@ -182,6 +192,7 @@ impl Contents {
         Ok(number)
     }
 
+    /// Puts what is known of a variable in the place of what was known.
     pub fn set(&mut self, n: usize, variable: Variable)
         requires { n < length self.old.variables }
         ensures { self.new ≡ with_variable self.old n variable }
@@ -189,6 +200,7 @@ impl Contents {
         self.variables[n] = variable;
     }
 
+    /// Likewise, and notes that this variable was bound last. After an error nothing has changed.
     pub fn bind(&mut self, n: usize, variable: Variable) -> Result<(), AllocError>
         requires { n < length self.old.variables }
         ensures entries { OnOk result (self.new ≡ bound self.old n variable) }
@@ -199,12 +211,14 @@ impl Contents {
         Ok(())
     }
 
+    /// Makes a universe the current one.
     pub fn move_to(&mut self, universe: UniverseIndex)
         ensures { self.new ≡ moved self.old universe }
     {
         self.universe = universe;
     }
 
+    /// Adds a region constraint behind the others. After an error nothing has changed.
     pub fn constrain(&mut self, constraint: Constraint) -> Result<(), AllocError>
         ensures entries { OnOk result (self.new ≡ constrained self.old constraint) }
         ensures err { OnErr result (self.new ≡ self.old) }
@@ -213,6 +227,7 @@ impl Contents {
         Ok(())
     }
 
+    /// Adds a hidden type behind the others. After an error nothing has changed.
     pub fn register(&mut self, hidden: HiddenType) -> Result<(), AllocError>
         ensures entries { OnOk result (self.new ≡ registered self.old hidden) }
         ensures err { OnErr result (self.new ≡ self.old) }
@@ -221,6 +236,7 @@ impl Contents {
         Ok(())
     }
 
+    /// Puts a hidden type in the place of the one at a position.
     pub fn replace(&mut self, n: usize, hidden: HiddenType)
         requires { n < length self.old.hidden.lookup }
         ensures { self.new ≡ with_hidden self.old n hidden }
@@ -228,6 +244,7 @@ impl Contents {
         self.hidden[n] = hidden;
     }
 
+    /// Adds a duplicate of a hidden type behind the others. After an error nothing has changed.
     pub fn add_duplicate(&mut self, hidden: HiddenType) -> Result<(), AllocError>
         ensures entries { OnOk result (self.new ≡ duplicated self.old hidden) }
         ensures err { OnErr result (self.new ≡ self.old) }

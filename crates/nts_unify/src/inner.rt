@@ -54,12 +54,14 @@ impl InferCtxtInner {
         }
     }
 
+    /// How many variables there are. It takes no memory.
     pub fn variable_count(&self) -> usize
         ensures { result ≡ length self.now.entries.variables }
     {
         self.contents.len()
     }
 
+    /// What is known of the variable of that number.
     pub fn variable(&self, n: usize) -> Variable
         requires { n < length self.now.entries.variables }
         ensures { slice_get self.now.entries.variables n ≡ Some result }
@@ -67,12 +69,14 @@ impl InferCtxtInner {
         self.contents.variable(n)
     }
 
+    /// How many region constraints there are. It takes no memory.
     pub fn constraint_count(&self) -> usize
         ensures { result ≡ length self.now.entries.constraints }
     {
         self.contents.constraint_count()
     }
 
+    /// The region constraint at a position.
     pub fn constraint(&self, n: usize) -> Constraint
         requires { n < length self.now.entries.constraints }
         ensures { slice_get self.now.entries.constraints n ≡ Some result }
@@ -121,6 +125,8 @@ impl InferCtxtInner {
         self.contents.universe()
     }
 
+    /// Adds a variable behind the others, and answers its number. A snapshot that is open takes it back. After an error nothing has
+    /// changed; so it is with each change of the table.
     pub fn add(&mut self, variable: Variable) -> Result<usize, AllocError>
         ensures number { IfOk result (λ v. v ≡ length self.old.entries.variables) }
         ensures entries { OnOk result (self.new.entries ≡ added self.old.entries variable) }
@@ -137,6 +143,7 @@ impl InferCtxtInner {
         }
     }
 
+    /// Puts what is known of a variable in the place of what was known.
     pub fn set(&mut self, n: usize, variable: Variable) -> Result<(), AllocError>
         requires { n < length self.old.entries.variables }
         ensures entries { OnOk result (self.new.entries ≡ with_variable self.old.entries n
@@ -150,6 +157,7 @@ impl InferCtxtInner {
         Ok(())
     }
 
+    /// Likewise, and notes that this variable was bound last.
     pub fn bind(&mut self, n: usize, variable: Variable) -> Result<(), AllocError>
         requires { n < length self.old.entries.variables }
         ensures entries { OnOk result (self.new.entries ≡ bound self.old.entries n variable) }
@@ -167,6 +175,7 @@ impl InferCtxtInner {
         }
     }
 
+    /// Makes a universe the current one.
     pub fn move_to(&mut self, universe: UniverseIndex) -> Result<(), AllocError>
         ensures entries { OnOk result (self.new.entries ≡ moved self.old.entries universe) }
         ensures saved { self.new.saved ≡ self.old.saved }
@@ -178,6 +187,7 @@ impl InferCtxtInner {
         Ok(())
     }
 
+    /// Adds a region constraint behind the others.
     pub fn constrain(&mut self, constraint: Constraint) -> Result<(), AllocError>
         ensures entries { OnOk result (self.new.entries ≡ constrained self.old.entries constraint) }
         ensures saved { self.new.saved ≡ self.old.saved }
@@ -193,6 +203,7 @@ impl InferCtxtInner {
         }
     }
 
+    /// Adds a hidden type behind the others.
     pub fn register(&mut self, hidden: HiddenType) -> Result<(), AllocError>
         ensures entries { OnOk result (self.new.entries ≡ registered self.old.entries hidden) }
         ensures saved { self.new.saved ≡ self.old.saved }
@@ -208,6 +219,7 @@ impl InferCtxtInner {
         }
     }
 
+    /// Puts a hidden type in the place of the one at a position.
     pub fn replace(&mut self, n: usize, hidden: HiddenType) -> Result<(), AllocError>
         requires { n < length self.old.entries.hidden.lookup }
         ensures entries { OnOk result (self.new.entries ≡ with_hidden self.old.entries n hidden) }
@@ -220,6 +232,7 @@ impl InferCtxtInner {
         Ok(())
     }
 
+    /// Adds a duplicate of a hidden type behind the others.
     pub fn add_duplicate(&mut self, hidden: HiddenType) -> Result<(), AllocError>
         ensures entries { OnOk result (self.new.entries ≡ duplicated self.old.entries hidden) }
         ensures saved { self.new.saved ≡ self.old.saved }

@@ -58,6 +58,7 @@ pub fn spelling(names: &IndexSet<Vec<u8>>, number: usize) -> Option<&[u8]>
     }
 }
 
+/// Whether a leaf is a region: one without a value, or a variable for one.
 pub fn is_region_leaf(leaf: Leaf) -> bool
     ensures { result ≡ is_region_leaf leaf }
 {

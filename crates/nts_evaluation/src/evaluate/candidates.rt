@@ -21,8 +21,8 @@ use nts_store::EvalError;
 use nts_table::InferCtxt;
 use nts_terms::{Cx, GenericArg, Goal};
 use nts_trying::{
-    AvailableDepth, Trial, begin_relating, check_leaks, equate, goal_kind, keep_response, may_ask, merge_responses,
-    needs_relating, record_constraints,
+    AvailableDepth, Trial, begin_relating, check_leaks, equate, goal_kind, keep_response, may_ask,
+    merge_responses, needs_relating, record_constraints,
 };
 
 /// Asks each candidate to its end. Those that fail are dropped, and one response stands for those of the others; where none does,

@@ -16,6 +16,8 @@ use Rattle.nts_nested_goals.specs.declared.state.EvalState.{EvalState}
 use Rattle.nts_model.specs.Tables.Contents.{Content}
 use Rattle.nts_model.specs.Answers.Responses.{Response as Form}
 use Rattle.nts_certainty.specs.declared.certainty.Certainty.{Certainty}
+use Rattle.nts_certainty.specs.Certainties.{both}
+use Rattle.nts_contexts.specs.Promises.{IsOfBoth}
 use Rattle.nts_response.specs.Forms.{response_at}
 use Rattle.nts_theory.specs.Telling.{IsResponseOf}
 use Rattle.nts_evaluation.specs.nts_meaning.specs.Answering.{told_in}
@@ -36,6 +38,11 @@ says_after : {X : Type 0} (form : X → Form) (sure : X → Certainty) {c d : Co
     → IfOk q (λ z. IsResponseOf (told_in x c) [] (form z)) → IfOk r (λ z. IsResponseOf (told_in (sure z) d) [] (form z))
 says_after form sure x r (Ok z) e k p s = rw (e, k, p) s
 says_after form sure x r (Err z) e k p s = rw e tt
+
+-- it is as sure as both are
+rests_on : {X : Type 0} (sure : X → Certainty) (shallow y : Certainty) {c : Certainty} (r q : Result X EvalError) → r ≡ q → c ≡ both shallow y → IfOk q (λ z. sure z ≡ c) → IfOk r (λ z. IsOfBoth shallow (let answered : Result Certainty EvalError = Ok y in answered) (sure z))
+rests_on sure shallow y r (Ok z) e k p = rw e (record { goals = y; answered = refl; is = p ∙ k })
+rests_on sure shallow y r (Err z) e k p = rw e tt
 
 pub returns-in_err-check-clause-keeps : goal.returns-in_err-check-clause-keeps
 returns-in_err-check-clause-keeps g c = keeps_refl c.requires.ready
@@ -111,14 +118,16 @@ returns-clause-told g c = λ s.
 pub returns-in_err-goals_certainty-clause-counts : goal.returns-in_err-goals_certainty-clause-counts
 returns-in_err-goals_certainty-clause-counts g c = λ s none clear.
     let e = c.try_evaluate_added_goals.ensures in
-    record { between = c.try_evaluate_added_goals.new.self; answer = c.try_evaluate_added_goals.result; counts = e.counts s none; steps = refl; left = refl; table = refl }
+    record { between = c.try_evaluate_added_goals.new.self; answer = c.try_evaluate_added_goals.result; rests = IfOk-from_err c.from_residual-in_err-goals_certainty.result _ (search rules); counts = e.counts s none; steps = refl; left = refl; table = refl }
 
 pub returns-clause-counts : goal.returns-clause-counts
 returns-clause-counts g c = λ s none clear.
     let e = c.in_ok-goals_certainty.ensures in
+    let m = c.checked_response-response.ensures in
     record {
       between = c.try_evaluate_added_goals.new.self;
       answer = Ok c.in_ok-goals_certainty.goals_certainty;
+      rests = rests_on (λ z. z.value.certainty) c.args.shallow_certainty c.in_ok-goals_certainty.goals_certainty c.end_answer.result c.checked_response-response.result c.end_answer.ensures.same c.and-certainty.ensures m.certainty;
       counts = e.counts s none;
       steps = ap (λ (z : EvalState). z.last_steps) c.end_answer.ensures.state;
       left = ap (λ (z : EvalState). z.nested_goals.items) c.end_answer.ensures.state;

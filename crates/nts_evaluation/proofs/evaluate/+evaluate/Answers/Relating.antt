@@ -25,14 +25,8 @@ use Rattle.nts_store.proofs.Growing.{Extends-trans}
 use Rattle.nts_model.specs.Lists.{Among}
 use Rattle.nts_trying.proofs.HeldRelating.{relating_holds}
 use Rattle.nts_trying.proofs.Ran.{ok_inside}
-use Rattle.std.specs.Prelude.{Result, IfOk}
 use Rattle.nts_model.specs.Derivations.Rules.{coherence, goal_kind}
 use Rattle.nts_theory.specs.Telling.Reaches.{asks_nothing}
-use Rattle.nts_candidates.proofs.Results.{OnOk-map}
-use Rattle.nts_certainty.specs.Certainties.{ambiguous}
-use Rattle.nts_certainty.specs.declared.certainty.Certainty.{Certainty}
-use Rattle.nts_certainty.specs.declared.certainty.Certainty.TheVariants as certainty
-use Rattle.nts_store.specs.declared.fault.EvalError.{EvalError as EvalFault}
 use Rattle.nts_trying.proofs.BegunInMode.{begins_in, doubted_in, may_be_asked}
 use Rattle.nts_model.proofs.Tables.Bringing.{only-refl}
 use Rattle.nts_evaluation.proofs.evaluate.+evaluate.Goals as goal
