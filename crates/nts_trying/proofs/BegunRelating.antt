@@ -1,6 +1,6 @@
 -- A candidate that was begun by relating: what its parts left, put together; and that it holds where all goals that are left are proved.
-use Rattle.std.proofs.Common.{◌≡◌, ◌⊎◌, inl, inr, ⊎_elim, zero, suc, Bool, List, [], ◌∷◌, ◌++◌, map, refl, sym, ap, ◌∙◌, subst, arith}
-use Rattle.std.proofs.lemmas.List.Elements.{All-append, All-weaker}
+use Rattle.std.proofs.Common.{◌≡◌, ◌⊎◌, inl, inr, ⊎_elim, zero, suc, Bool, false, List, [], ◌∷◌, ◌++◌, map, refl, sym, ap, ◌∙◌, subst, arith}
+use Rattle.std.proofs.lemmas.List.Elements.{All-nil, All-cons, All-append, All-weaker}
 use Rattle.std.proofs.lemmas.List.{map-append}
 use Rattle.nts_model.specs.declared.labels.Label.{Label}
 use Rattle.nts_model.specs.declared.labels.Variance.TheVariants as variance
@@ -52,6 +52,7 @@ use Rattle.nts_trying.specs.Stepping.{ArePosed, terms_of}
 use Rattle.nts_trying.specs.Subtyping.{with_source}
 use Rattle.nts_trying.proofs.Stepping.{all_among}
 use Rattle.nts_theory.specs.Aliasing.{SaysEqual}
+use Rattle.nts_trying.specs.Outliving.{IsClosedEnv}
 use Rattle.nts_trying.specs.Relating.{aliased_data, plain_data, right_node, left_list, right_list, IsPlainPart, RelatesEquations, RunsByRelating, BeginsByRelating}
 use Rattle.nts_trying.proofs.Adding.{posed_kept, goals_kept}
 use Rattle.nts_trying.proofs.Ran.{added_is}
@@ -94,6 +95,16 @@ equality_among : (ts : List Tree) (gs : List Goal) → All (λ (z : GoalSource �
 equality_among ts gs h p i =
     let of = goal_among ts gs p i in
     subst SaysEqual (sym of.2) (all_among (λ (z : GoalSource × Goal). SaysEqual (tree_at ts z.1.predicate.node)) (with_source gs) (source.TypeRelating, of.0) h (sourced_among gs of.0 of.1))
+
+said_each : (ts : List Tree) (gs : List Goal) → ((p : Tree) → Among (map (λ (h : Goal). tree_at ts h.predicate.node) gs) p → SaysEqual p) → All (λ (z : GoalSource × Goal). SaysEqual (tree_at ts z.1.predicate.node)) (with_source gs)
+said_each ts [] h = All-nil (λ (z : GoalSource × Goal). SaysEqual (tree_at ts z.1.predicate.node))
+said_each ts (g ∷ gs) h = All-cons (λ (z : GoalSource × Goal). SaysEqual (tree_at ts z.1.predicate.node)) (source.TypeRelating, g) (with_source gs) (h (tree_at ts g.predicate.node) (inl refl)) (said_each ts gs (λ p i. h p (inr i)))
+
+closed_each : (ts : List Tree) (c : Content) (env : ParamEnv) → IsClosedEnv (tree_at ts env.node) → (ps : List RelatingNodes) (gs : List Goal) → AreGoalsOfPairs ts c env ps gs → All (λ (z : GoalSource × Goal). IsClosedEnv (tree_at ts z.1.param_env.node)) (with_source gs)
+closed_each ts c env k [] [] h = All-nil (λ (z : GoalSource × Goal). IsClosedEnv (tree_at ts z.1.param_env.node))
+closed_each ts c env k [] (g ∷ gs) h = absurd h
+closed_each ts c env k (p ∷ ps) [] h = absurd h
+closed_each ts c env k (p ∷ ps) (g ∷ gs) h = All-cons (λ (z : GoalSource × Goal). IsClosedEnv (tree_at ts z.1.param_env.node)) (source.TypeRelating, g) (with_source gs) (subst (λ (z : ParamEnv). IsClosedEnv (tree_at ts z.node)) (sym h.0.param_env) k) (closed_each ts c env k ps gs h.1)
 
 known_among : (ts : List Tree) (c : Content) (env : ParamEnv) (ps : List RelatingNodes) (gs : List Goal) → AreGoalsOfPairs ts c env ps gs → (p : Tree) → Among (map (λ (h : Goal). tree_at ts h.predicate.node) gs) p → Knows c p
 known_among ts c env [] [] h p i = absurd i
@@ -187,7 +198,8 @@ module _ {a e at : Cx} {t v held : Table} (g : Goal) (x y : CandidateData) (valu
       (records : BringsOnly (asked_terms e.nodes g) (content_of e.nodes v.entries) (content_of at.nodes held.entries))
       (relates : RelatesEquations at f held u g values (aliased_data a.nodes x.equations.items) related)
       (added : AreAdded f.nodes b.nodes u g values x.goals.items own)
-      (flag : Bool) (says : flag ≡ true → All (λ (z : GoalSource × Goal). SaysEqual (tree_at f.nodes z.1.predicate.node)) related) where
+      (flag : Bool) (says : flag ≡ true → All (λ (z : GoalSource × Goal). SaysEqual (tree_at f.nodes z.1.predicate.node)) related)
+      (never : flag ≡ false → All (λ (z : GoalSource × Goal). IsClosedEnv (tree_at f.nodes z.1.param_env.node)) related → All (λ (z : GoalSource × Goal). SaysEqual (tree_at f.nodes z.1.predicate.node)) related → ⊥) where
     abbrev env : Tree
     env = tree_at a.nodes g.param_env.node
 
@@ -262,6 +274,13 @@ module _ {a e at : Cx} {t v held : Table} (g : Goal) (x y : CandidateData) (valu
           knows = λ p i. subst (λ z. Knows z p) (sym met_is) (known_among f.nodes met g.param_env r.pairs relates.goals r.goals p i);
         }
 
+    they_are_others : flag ≡ false → IsClosedEnv env → AreEqualities (content_of b.nodes u.entries) goals → ⊥
+    they_are_others e closed they =
+        let r = relates.related in
+        never e
+        (subst (All (λ (z : GoalSource × Goal). IsClosedEnv (tree_at f.nodes z.1.param_env.node))) (sym relates.are) (closed_each f.nodes met g.param_env (subst IsClosedEnv (sym env_kept) closed) r.pairs relates.goals r.goals))
+        (subst (All (λ (z : GoalSource × Goal). SaysEqual (tree_at f.nodes z.1.predicate.node))) (sym relates.are) (said_each f.nodes relates.goals they.equal))
+
     left_labels : {d : Content} → BringsOnly (terms_of b.nodes (related ++ own)) (content_of b.nodes u.entries) d → BringsOnly (asked_terms a.nodes g) (content_of a.nodes t.entries) d
     left_labels h =
         record {
@@ -314,4 +333,5 @@ module _ {a e at : Cx} {t v held : Table} (g : Goal) (x y : CandidateData) (valu
           runs = ran_by;
           continues = subst (Continues before) (sym met_is) third.goes.continues;
           equalities = they_are_equalities;
+          others = they_are_others;
         }

@@ -21,7 +21,9 @@ pub mod Outliving
 pub mod SubtypeGoals
 pub mod AliasGoals
 pub mod SaidEqual
+pub mod UnsaidEqual
 pub mod NormalGoals
+pub mod Unequated
 pub mod BegunInMode
 pub mod LesserGoals
 pub mod NormalizedGoals

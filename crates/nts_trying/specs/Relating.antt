@@ -1,5 +1,5 @@
 -- Candidates of the store whose equations relate aliases: what is made equal of them, and what is related.
-use Rattle.std.specs.Prelude.{◌≡◌, Bool, true, List, [], ◌∷◌, ◌++◌, if◌then◌else◌, map}
+use Rattle.std.specs.Prelude.{◌≡◌, Bool, true, false, List, [], ◌∷◌, ◌++◌, if◌then◌else◌, map}
 use Rattle.nts_model.specs.declared.labels.Label.TheVariants as label
 use Rattle.nts_model.specs.declared.labels.ListHead.TheVariants as list
 use Rattle.nts_model.specs.declared.labels.Variance.TheVariants as variance
@@ -25,6 +25,7 @@ use Rattle.nts_delegate.specs.Candidates.{IsCandidate}
 use Rattle.nts_solver_relating.specs.Sides.{IsRelatedBy}
 use Rattle.nts_meaning.specs.Evaluation.{Runs, AreValues, asked_terms, goals_at}
 use Rattle.nts_meaning.specs.Running.{EquatesEach, Constrains}
+use Rattle.nts_trying.specs.Outliving.{IsClosedEnv}
 use Rattle.nts_trying.specs.Stepping.{ArePosed, terms_of}
 use Rattle.nts_trying.specs.Subtyping.{with_source}
 
@@ -87,8 +88,8 @@ pub record RunsByRelating (a b : Cx) (t u : Table) (g : Goal) (x : CandidateData
   pub own_posed : ArePosed b.nodes u own
   pub are : left ≡ related ++ own
 
--- .. and begun so. The goals that are left have no labels but those of the goal; where `equal`, those that relating left say each that
--- an alias is equal to a term in which no alias stands, or to another alias
+-- .. and begun so. The goals that are left have no labels but those of the goal; `equal` is whether those that relating left say each
+-- that an alias is equal to a term in which no alias stands, or to another alias
 pub record BeginsByRelating (a b : Cx) (t u : Table) (g : Goal) (x : CandidateData) (left : List (GoalSource × Goal)) (equal : Bool) : Type 0 where
   pub posed : ArePosed b.nodes u left
   pub begun : IsBegunByRelating (variances_in a.declarations) (content_of a.nodes t.entries) (tree_at a.nodes g.param_env.node) (candidate_of a.nodes x) (content_of b.nodes u.entries) (goals_at b.nodes left)
@@ -96,3 +97,4 @@ pub record BeginsByRelating (a b : Cx) (t u : Table) (g : Goal) (x : CandidateDa
   pub runs : RunsByRelating a b t u g x left
   pub continues : Continues begun.before (content_of b.nodes u.entries)
   pub equalities : equal ≡ true → AreEqualities (content_of b.nodes u.entries) begun.goals
+  pub others : equal ≡ false → IsClosedEnv (tree_at a.nodes g.param_env.node) → AreEqualities (content_of b.nodes u.entries) begun.goals → ⊥

@@ -77,7 +77,9 @@ fn is_outside(mode: &TypingMode) -> bool
 
 /// Whether a statement says that two terms are equal, of which one may be an alias.
 fn says_equal(statement: PredicateKind) -> bool
-    ensures { result ≡ true → (ts : List Tree) → IsEquality (tree_of_statement ts statement) }
+    ensures yes { result ≡ true → (ts : List Tree) → IsEquality (tree_of_statement ts statement) }
+    ensures no { result ≡ false → (ts : List Tree) → IsEquality
+        (tree_of_statement ts statement) → ⊥ }
 {
     match statement {
         PredicateKind::AliasRelate(_, _, direction) => match direction {
@@ -91,8 +93,10 @@ fn says_equal(statement: PredicateKind) -> bool
 /// Whether a term is an alias, or no alias stands in it.
 fn is_alias_or_plain(cx: &Cx, t: Term) -> bool
     requires { IsIn cx.now.nodes t.node }
-    ensures { result ≡ true → (is_alias_node (tree_at cx.now.nodes t.node) ≡ true) ⊎
+    ensures yes { result ≡ true → (is_alias_node (tree_at cx.now.nodes t.node) ≡ true) ⊎
         (any_label is_alias (tree_at cx.now.nodes t.node) ≡ false) }
+    ensures no { result ≡ false → (is_alias_node (tree_at cx.now.nodes t.node) ≡ false) ×
+        (any_label is_alias (tree_at cx.now.nodes t.node) ≡ true) }
 {
     if is_alias_term(cx, t) {
         return true;
@@ -105,7 +109,8 @@ fn is_alias_or_plain(cx: &Cx, t: Term) -> bool
 pub(crate) fn is_equality(cx: &Cx, goal: Goal, equated: EquatedAlias) -> bool
     requires holds { HoldsGoal cx.now.nodes goal }
     requires equated { IsEquatedGoal cx.now.nodes goal equated }
-    ensures { result ≡ true → SaysEqual (tree_at cx.now.nodes goal.predicate.node) }
+    ensures yes { result ≡ true → SaysEqual (tree_at cx.now.nodes goal.predicate.node) }
+    ensures no { result ≡ false → SaysEqual (tree_at cx.now.nodes goal.predicate.node) → ⊥ }
 {
     cx.terms_are_formed();
     if !is_alias_or_plain(cx, equated.term) {
@@ -131,6 +136,8 @@ pub fn is_open_to_normalizing(
         (goal.predicate ≡ opened.predicate) ×
         SaysEqual (tree_at cx.now.nodes opened.predicate.node) }
     ensures outside { IsCutIn (mode_of mode.now) → result ≡ true }
+    ensures equal { goal.predicate ≡ opened.predicate →
+        SaysEqual (tree_at cx.now.nodes opened.predicate.node) → result ≡ true }
 {
     if is_outside(mode) {
         return true;

@@ -6,6 +6,7 @@ ghost use Rattle.nts_terms.specs.Handles.{HoldsGoal};
 ghost use Rattle.nts_terms.specs.Modes.{mode_of};
 ghost use Rattle.nts_theory.specs.Aliasing.{SaysEqual};
 ghost use Rattle.nts_theory.specs.RelatingCandidates.{IsCutIn};
+ghost use Rattle.nts_trying.specs.Outliving.{IsClosedEnv};
 
 use crate::aliases::is_equality;
 use crate::normal::equated_in;
@@ -32,7 +33,9 @@ pub fn may_ask(mode: &TypingMode, equalities: bool) -> bool
 /// Whether a goal says that an alias is equal to a term in which no alias stands, or to another alias.
 fn says_equality(cx: &Cx, goal: Goal) -> bool
     requires { HoldsGoal cx.now.nodes goal }
-    ensures { result ≡ true → SaysEqual (tree_at cx.now.nodes goal.predicate.node) }
+    ensures yes { result ≡ true → SaysEqual (tree_at cx.now.nodes goal.predicate.node) }
+    ensures no { result ≡ false → IsClosedEnv (tree_at cx.now.nodes goal.param_env.node) →
+        SaysEqual (tree_at cx.now.nodes goal.predicate.node) → ⊥ }
 {
     let Some(equated) = equated_in(cx, goal) else {
         return false;
@@ -44,8 +47,11 @@ fn says_equality(cx: &Cx, goal: Goal) -> bool
 #[inline(never)]
 pub(crate) fn are_equalities(cx: &Cx, goals: &[(GoalSource, Goal)]) -> bool
     requires { All (λ z. HoldsGoal cx.now.nodes z.1) goals.now }
-    ensures { result ≡ true → All (λ z. SaysEqual (tree_at cx.now.nodes z.1.predicate.node))
+    ensures yes { result ≡ true → All (λ z. SaysEqual (tree_at cx.now.nodes z.1.predicate.node))
         goals.now }
+    ensures no { result ≡ false →
+        All (λ z. IsClosedEnv (tree_at cx.now.nodes z.1.param_env.node)) goals.now →
+        All (λ z. SaysEqual (tree_at cx.now.nodes z.1.predicate.node)) goals.now → ⊥ }
 {
     for added in goals {
         if !says_equality(cx, added.1) {

@@ -1,6 +1,6 @@
 //! Goals that an alias is equal to a term, or that the one is a subtype of the other.
 ghost use Rattle.std.specs.Prelude.{◌≡◌, true, false, None, IfOk, IfSome, IsNone, IsOkUnless};
-ghost use Rattle.nts_model.specs.Terms.Trees.{is_alias, kind_of};
+ghost use Rattle.nts_model.specs.Terms.Trees.{Tree, is_alias, kind_of};
 ghost use Rattle.nts_model.specs.Derivations.Related.{alias_label, IsAlias};
 ghost use Rattle.nts_model.specs.Derivations.Rules.{normalization_goal};
 ghost use Rattle.nts_model.specs.declared.labels.AliasRelationDirection.{AliasRelationDirection};
@@ -11,7 +11,7 @@ ghost use Rattle.nts_terms.specs.Handles.{HoldsGoal, HoldsPredicate, HoldsTerm};
 ghost use Rattle.nts_terms.specs.Rest.{Grows};
 ghost use Rattle.nts_meaning.specs.Evaluation.{Runs, IsPosed};
 ghost use Rattle.nts_variance.specs.Goals.{is_alias_node};
-ghost use Rattle.nts_trying.specs.Aliasing.{AreLesserTypes, IsEquatedGoal, BeginsNormalizing};
+ghost use Rattle.nts_trying.specs.Aliasing.{AreLesserTypes, EquatedIn, IsEquatedGoal, BeginsNormalizing};
 
 use crate::candidate::fresh_value;
 use crate::outlives::is_closed_env;
@@ -86,8 +86,10 @@ pub(crate) fn is_alias_term(cx: &Cx, t: Term) -> bool
 fn are_of_one_sort(cx: &Cx, left: Term, right: Term) -> bool
     requires left { HoldsTerm cx.now.nodes left }
     requires right { HoldsTerm cx.now.nodes right }
-    ensures { result ≡ true → kind_of (tree_at cx.now.nodes left.node) ≡
+    ensures one { result ≡ true → kind_of (tree_at cx.now.nodes left.node) ≡
         kind_of (tree_at cx.now.nodes right.node) }
+    ensures two { result ≡ false → kind_of (tree_at cx.now.nodes left.node) ≡
+        kind_of (tree_at cx.now.nodes right.node) → ⊥ }
 {
     match (left.kind(cx), right.kind(cx)) {
         (TermKind::Ty(_), TermKind::Ty(_)) => true,
@@ -101,7 +103,8 @@ fn are_of_one_sort(cx: &Cx, left: Term, right: Term) -> bool
 #[inline(never)]
 pub fn equated_in(cx: &Cx, goal: Goal) -> Option<EquatedAlias>
     requires { HoldsGoal cx.now.nodes goal }
-    ensures { IfSome result (IsEquatedGoal cx.now.nodes goal) }
+    ensures found { IfSome result (IsEquatedGoal cx.now.nodes goal) }
+    ensures none { IsNone result → (a t : Tree) → EquatedIn cx.now.nodes goal a t → ⊥ }
 {
     let predicate = goal.predicate.kind(cx);
     let (left, right, direction) = related_sides(predicate.value)?;

@@ -5,4 +5,4 @@ pub returns-then-is_outside-clause-open : goal.returns-then-is_outside-clause-op
 returns-then-is_outside-clause-open c = λ z. inl (c.is_outside.ensures.0 c.if-is_outside.true)
 
 pub returns-clause-open : goal.returns-clause-open
-returns-clause-open c = λ yes. inr (search rules, c.is_equality.ensures yes)
+returns-clause-open c = λ yes. inr (search rules, c.is_equality.ensures.yes yes)

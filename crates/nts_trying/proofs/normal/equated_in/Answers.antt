@@ -5,8 +5,8 @@ use Rattle.nts_variance.specs.Goals.{is_alias_node}
 use Rattle.nts_trying.proofs.NormalGoals.{both_equated, left_equated, right_equated}
 use Rattle.nts_trying.proofs.normal.equated_in.Goals as goal
 
-pub returns-in-true-false : goal.returns-in-true-false
-returns-in-true-false c =
+pub returns-in-true-false-clause-found : goal.returns-in-true-false-clause-found
+returns-in-true-false-clause-found c =
     let ts = c.args.cx.now.nodes in
     let none : row_length (children (tree_at ts c.kind-predicate.result.vars.node)) ≡ 0 = first_of (cc, search rules) in
     let kinds : kind_of (tree_at ts c.in_ok-left.left.node) ≡ kind_of (tree_at ts c.in_ok-left.right.node) = search rules in
@@ -15,8 +15,8 @@ returns-in-true-false c =
     left_equated ts c.args.goal c.kind-predicate.result c.kind-predicate.ensures.tree c.terms_are_formed.ensures c.kind-predicate.ensures.fits c.len.ensures.row none c.in_ok-left.left c.in_ok-left.right c.in_ok-left.direction c.in_ok-left.ensures.found c.lesser_types-types.result c.lesser_types-types.ensures (c.has_closed_statement.ensures.0 c.if-not-has_closed_statement.false)
     (c.is_closed_env.ensures.0 c.if-not-is_closed_env.false) kinds left right
 
-pub returns-in-false-true : goal.returns-in-false-true
-returns-in-false-true c =
+pub returns-in-false-true-clause-found : goal.returns-in-false-true-clause-found
+returns-in-false-true-clause-found c =
     let ts = c.args.cx.now.nodes in
     let none : row_length (children (tree_at ts c.kind-predicate.result.vars.node)) ≡ 0 = first_of (cc, search rules) in
     let kinds : kind_of (tree_at ts c.in_ok-left.left.node) ≡ kind_of (tree_at ts c.in_ok-left.right.node) = search rules in
@@ -25,8 +25,8 @@ returns-in-false-true c =
     right_equated ts c.args.goal c.kind-predicate.result c.kind-predicate.ensures.tree c.terms_are_formed.ensures c.kind-predicate.ensures.fits c.len.ensures.row none c.in_ok-left.left c.in_ok-left.right c.in_ok-left.direction c.in_ok-left.ensures.found c.lesser_types-types.result c.lesser_types-types.ensures (c.has_closed_statement.ensures.0 c.if-not-has_closed_statement.false)
     (c.is_closed_env.ensures.0 c.if-not-is_closed_env.false) kinds left right
 
-pub returns-in-true-true : goal.returns-in-true-true
-returns-in-true-true c =
+pub returns-in-true-true-clause-found : goal.returns-in-true-true-clause-found
+returns-in-true-true-clause-found c =
     let ts = c.args.cx.now.nodes in
     let none : row_length (children (tree_at ts c.kind-predicate.result.vars.node)) ≡ 0 = first_of (cc, search rules) in
     let kinds : kind_of (tree_at ts c.in_ok-left.left.node) ≡ kind_of (tree_at ts c.in_ok-left.right.node) = search rules in

@@ -120,4 +120,4 @@ returns-clause-begins c =
     (begun_by c.args.goal x c.in_ok-plain.plain c.in_ok-values.values.items c.requires.posed c.requires.candidate c.in_ok-plain.ensures v.runs k.runs v.values v.equated (rw (c.deref-2.ensures.value, c.deref-3.ensures.value) at k.added)
     c.in_ok-goals.goals.items c.in_ok-own.own.items c.requires.some r.runs c.in_ok-own.ensures.grows v.equal v.labels (rw (c.deref-2.ensures.value, c.deref-3.ensures.value, constraints) at k.held) k.labels
     (rw (c.deref-2.ensures.value, c.deref-4.ensures.value, c.in_ok-aliased.ensures) at r.relates) (rw (c.deref-2.ensures.value, c.deref-6.ensures.value) at c.in_ok-own.ensures.added)
-    c.are_equalities-equalities.result (rw c.deref-5.ensures.value at c.are_equalities-equalities.ensures))
+    c.are_equalities-equalities.result (rw c.deref-5.ensures.value at c.are_equalities-equalities.ensures.yes) (rw c.deref-5.ensures.value at c.are_equalities-equalities.ensures.no))
