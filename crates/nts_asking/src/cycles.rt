@@ -1,4 +1,4 @@
-//! What a cycle is answered, and what a query is answered before its first round and after too many.
+//! What a cycle is answered, and answers that say nothing.
 ghost use Rattle.std.specs.Prelude.{ℕ, suc, ◌≡◌, ◌<◌, ◌+◌, ◌-◌, ◌≢◌, ◌⊎◌, length, get_or, Option, Some, None, IfOk, IsOkUnless};
 ghost use Rattle.nts_model.specs.Derivations.Proofs.{passed};
 ghost use Rattle.nts_model.specs.Derivations.Sequents.{coinductive};
@@ -25,26 +25,6 @@ use nts_meaning::nts_search::{SearchGraph, initial_provisional_result};
 use nts_store::{EvalError, Fault};
 use nts_terms::Cx;
 use std::alloc::Global;
-
-/// The answer to a query that finds nothing out of its variables.
-#[inline(never)]
-pub fn unchanged_answer(
-    cx: &mut Cx,
-    input: &CanonicalInput,
-    certainty: Certainty,
-) -> Result<Box<CanonicalResponse>, Fault>
-    requires { IsQueryInput cx.old.nodes input.now }
-    ensures fits { IfAnswered result (IsAnswerTo cx.new.nodes (kinds_of input.now)) }
-    ensures nothing { IfAnswered result (λ r. SaysNothing (kinds_of input.now)
-        (response_at cx.new.nodes r)) }
-    ensures certainty { IfAnswered result (λ r. r.value.certainty ≡ certainty) }
-    ensures grows { Grows cx.old cx.new }
-    ensures memory { IsOkUnless result Fault.Memory }
-{
-    let answer = identity_answer(cx, input, certainty)?;
-    let answer = Box::new(cx.alloc, answer)?;
-    Ok(answer)
-}
 
 /// The positions of an input, in order, as values.
 pub(crate) fn identity_answer(

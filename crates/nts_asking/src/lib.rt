@@ -13,8 +13,10 @@ mod stalling;
 
 pub use admission::{is_asked, is_root_term, is_settled_env};
 pub use applying::apply_answer;
-pub use cycles::{answer_cycle, unchanged_answer};
+pub use cycles::answer_cycle;
 pub use query::{boxed_query, keeps_constraints, query_of, query_table};
-pub use round::{end_round, first_round, last_answer, next_round, push_query};
+pub use round::{
+    Ended, Round, end_round, first_round, last_answer, next_round, overflow_answer, push_query,
+};
 pub use stalled::{GoalStalledOn, is_still_stalled, still_stalled};
 pub use stalling::{Asked, asked_goal, keep_stalled};

@@ -38,10 +38,10 @@ use Rattle.nts_response.specs.declared.types.Response.{Response}
 use Rattle.nts_response.specs.Forms.{response_at}
 use Rattle.nts_search.specs.declared.stack.StackEntry.{StackEntry}
 use Rattle.nts_search.specs.declared.stack.SearchGraph.{SearchGraph}
-use Rattle.nts_search.specs.Searching.{IsInputAt, KeepsRestOfGraph}
+use Rattle.nts_search.specs.Searching.{IsInputAt}
 use Rattle.nts_unify.proofs.SavedLemmas.{push_inj}
 use Rattle.nts_meaning.specs.Rounds.{IsTakenOff, EndsWith, IsBoxed}
-use Rattle.nts_meaning.specs.declared.round.Ended.{Ended}
+use Rattle.nts_asking.specs.declared.round.Ended.{Ended}
 use Rattle.nts_meaning.specs.declared.response.Evaluated.{Evaluated}
 use Rattle.nts_evaluation.specs.Deciding.{IsQueryDecided, IsAbove, IsBelow, IsAsBefore, IfNoFault, Decides, IsYes, IsYesUnchanged, IsOwnAnswer, IsOwnYes, IsRoundDecided, IsRoundYes}
 use Rattle.nts_evaluation.proofs.Deciding.{decides_no, decides_fault}
@@ -85,12 +85,12 @@ own_there c qs ks r roots values says =
 abbrev EndsDecided : Bool → List Tree → List PositionKind → SearchGraph → SearchGraph → Result (Box Ended) EvalError → Type 0
 EndsDecided k ts ks g j r = IfOk r (λ z. (z.value.entry.is_read ≡ false) × IsRoundDecided k ts ks z.value.answer × IsAsBefore g j)
 
-module _ (k : Bool) (ts : List Tree) (ks : List PositionKind) (g g2 g3 g4 : SearchGraph) (own x : StackEntry) (pushed : g2.stack.items ≡ g.stack.items ++ own ∷ []) (kept : KeepsRestOfGraph g g2) (unread : own.is_read ≡ false) (off : IsTakenOff g3 g4 x) where
+module _ (k : Bool) (ts : List Tree) (ks : List PositionKind) (g g2 g3 g4 : SearchGraph) (own x : StackEntry) (pushed : g2.stack.items ≡ g.stack.items ++ own ∷ []) (mark_kept : g2.has_overflowed ≡ g.has_overflowed) (unread : own.is_read ≡ false) (off : IsTakenOff g3 g4 x) where
   same_entry : IsAsBefore g2 g3 → (g4.stack.items ≡ g.stack.items) × (x ≡ own)
   same_entry s = push_inj g4.stack.items g.stack.items x own (sym off.popped ∙ s.stack ∙ pushed)
 
   back : IsAsBefore g2 g3 → IsAsBefore g g4
-  back s = (let e = same_entry s in let r = off.rest in record { stack = e.0; mark = r.has_overflowed ∙ s.mark ∙ kept.has_overflowed })
+  back s = (let e = same_entry s in let r = off.rest in record { stack = e.0; mark = r.has_overflowed ∙ s.mark ∙ mark_kept })
 
   pub ended_decided : (response : Result (Box (Canonical Response)) EvalError) (r : Result (Box Ended) EvalError) → IfOk r (λ z. z.value.entry ≡ x) → IfOk r (λ z. EndsWith response z.value.answer) → IfOk response (λ z. IsOwnAnswer ks (response_at ts z.value))
       → Decides k response (λ z. IsYes z.value.value.certainty) g2 g3 → EndsDecided k ts ks g g4 r
@@ -152,10 +152,6 @@ originals_long {a} {b} d {t} {os} g i q =
     let three : length (trees_of b os.items) ≡ length (originals x) = ap length q.originals ∙ length-map (originals x) leaf_tree in
     let four : length (kinds_of i) ≡ length (originals x) = ap (λ f. length f.kinds) q.form ∙ length-map (originals x) (position_kind x.sub_root (originals x)) in
     one ∙ sym two ∙ three ∙ sym four
-
--- rounds are counted, and nothing else
-pub only_counted : {g h : SearchGraph} {m : ℕ} → h ≡ record g { most_rounds = m } → IsAsBefore g h
-only_counted e = rw e (record { stack = refl; mark = refl })
 
 -- the same query in a later store
 pub round_query : {h : Handler} (a b : List Tree) (i j : CanonicalInput) (n : ℕ) (k : Bool) → j ≡ i → form_of b j ≡ form_of a i → IsBelow n (λ m. IsQueryDecided h (mode_of i.typing_mode) m (form_of a i) k) → IsBelow n (λ m. IsQueryDecided h (mode_of j.typing_mode) m (form_of b j) k)

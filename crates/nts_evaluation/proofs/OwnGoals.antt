@@ -37,6 +37,8 @@ use Rattle.nts_terms.specs.Modes.{mode_of}
 use Rattle.nts_candidates.specs.Offered.{candidate_of}
 use Rattle.nts_evaluation.specs.Deciding.{SaysJudged, IsWaySettled, IsOwnSettled, IsSettled}
 use Rattle.nts_trying.specs.declared.own.OwnGoal.{OwnGoal}
+use Rattle.nts_trying.proofs.Judging.{way_plain}
+use Rattle.nts_trying.proofs.Owning.{unbound_none}
 use Rattle.nts_trying.proofs.Opened.{affirmed_through, own_through, affirmed_told, own_told, nothing_through, denied_refuted, own_refuted}
 use Rattle.nts_evaluation.specs.Promises.{HoldsOwn, OwnTold, OwnRefuted}
 
@@ -94,7 +96,7 @@ module _ {h k : Handler} {a b : List Tree} {g : Goal} (same : MeansSame h k) (up
   -- .. and where the one way of such a goal fares somehow, the way is known
   module _ {mode : TypingMode} {n : ℕ} {t : Table} where
     known_way : (c : Bool) → IsWaySettled k mode n a t g c → IsWay x
-    known_way c y = all.way y.way (later (λ j e p. HasOwnWay j e p y.way) y.has_way) (ap (any_label is_alias) (up.kept g.predicate.node holds.predicate.within) ∙ y.no_alias)
+    known_way c y = (let w = y.has_way in all.way y.way (later (λ j e p. HasOwnWay j e p y.way) w) (way_plain k.judges (tree_at a g.param_env.node) w.statement y.way w.way (unbound_none w.statement (subst (λ z. any_label is_alias z ≡ false) w.binds_nothing y.no_alias))))
 
     pub settled_yes : (c : Bool) → x ≡ judged.Yes → IsOwnSettled k mode n a t g c → c ≡ true
     settled_yes c q (inl y) = judged_yes c q y

@@ -41,11 +41,12 @@ use Rattle.nts_table.specs.Tables.{Table}
 use Rattle.nts_candidates.specs.declared.data.CandidateData.{CandidateData}
 use Rattle.nts_search.specs.declared.kinds.CurrentGoalKind.{CurrentGoalKind}
 use Rattle.nts_search.specs.Kinds.{goal_kind_of}
-use Rattle.nts_search.specs.Searching.{entry_at, entries_at, HasNoInput}
+use Rattle.nts_search.specs.Searching.{entry_at, entries_at, HasNoInput, counted_inputs, counted_rounds}
 use Rattle.nts_meaning.specs.declared.response.Evaluated.{Evaluated}
 use Rattle.nts_trying.specs.declared.steps.Step.{Step}
-use Rattle.nts_meaning.specs.declared.round.Round.{Round}
-use Rattle.nts_meaning.specs.declared.round.Ended.{Ended}
+use Rattle.nts_asking.specs.declared.round.Round.{Round}
+use Rattle.nts_asking.specs.declared.round.Ended.{Ended}
+use Rattle.nts_asking.specs.Rounds.{rounds_before}
 use Rattle.nts_trying.specs.Found.{Found}
 use Rattle.nts_evaluation.specs.Counting.{AnsweredAtOnce, AsksOrSkips, AsksOnce, AsksEach, CountsSteps}
 use Rattle.nts_evaluation.specs.Deciding.{IsQueryDecided, IsOwnSettled, CanDecide, IsBelow, IsAsBefore, Decides, IsYes, IsYesUnchanged, IsOwnYes, IsRoundDecided, IsRootQuery, AreRootValues, CandidatesSettled, IsSettled, GoalsSettled, IsQueryAtFirst, IsFactHere, IsPlainCandidate, ArePlainCandidates, IsOverIfSilent, IsFactForm, IsRoundYes}
@@ -90,7 +91,7 @@ pub record AnswersQuery (R : Rules) (a b : Cx) (g h : SearchGraph) (input : Cano
   pub grows : Grows a b
   pub searches : Searches a b g h
   -- a round was counted, where the input did not stand on the stack; and that it stood there beside the others
-  pub counted : HasNoInput a.nodes g input → 0 < a.round_limit → IsAnswered r → (0 < h.most_rounds) × (length g.stack.items < h.most_inputs)
+  pub counted : HasNoInput a.nodes g input → 0 < a.round_limit → IsAnswered r → (0 < counted_rounds h) × (length g.stack.items < counted_inputs h)
   -- the answer can be applied wherever such an input is asked
   pub fits : IfAnswered r (IsAnswerTo b.nodes (kinds_of input))
   -- a certain one is derived from what is assumed
@@ -136,9 +137,9 @@ pub record AsksAdded (R : Rules) (a b : Cx) (g h : SearchGraph) (t u : Table) (g
 pub record EndsRound (R : Rules) (a b : Cx) (g h : SearchGraph) (asked : Round) (step : PathKind) (depth : ℕ) (r : Result (Box Ended) EvalError) : Type 0 where
   pub grows : Grows a b
   pub searches : Searches a b g h
-  pub entry : IfOk r (λ z. (z.value.entry.input ≡ asked.input) × (z.value.entry.step_kind ≡ step) × (z.value.entry.provisional ≡ asked.provisional))
+  pub entry : IfOk r (λ z. (z.value.entry.input ≡ asked.input) × (z.value.entry.step_kind ≡ step) × (z.value.entry.provisional ≡ asked.provisional) × (z.value.entry.round ≡ rounds_before asked + 1))
   pub fits : IfOk r (λ z. IsHeadAnswer b.nodes (kinds_of asked.input) z.value.answer)
-  pub entered : IfOk r (λ z. length g.stack.items < h.most_inputs)
+  pub counted : IfOk r (λ z. (rounds_before asked < counted_rounds h) × (length g.stack.items < counted_inputs h))
   pub proved : Always R a (λ s. IfOk r (λ z. IfSome z.value.answer (λ x. x.value.certainty ≡ certainty.Yes → IsDerivedFrom (meaning_since R.handler s) (mode_of asked.input.typing_mode)
       (assumptions (entry_at b.nodes z.value.entry ∷ entries_at b.nodes h)) (answer_sequent (form_of a.nodes asked.input) (response_at b.nodes x)))))
   pub told : WhereTold R a g (λ m. IsAnswerTold m (mode_of asked.input.typing_mode) a.nodes (form_of a.nodes asked.input) asked.provisional

@@ -11,6 +11,7 @@ ghost use Rattle.nts_meaning.specs.Searching.{IsSearch, Searches};
 ghost use Rattle.nts_meaning.specs.Meant.{ruling_in, IsInputProved, IsQueryTold, IsQueryRefuted};
 ghost use Rattle.nts_canonical.specs.Forms.{form_of};
 ghost use Rattle.nts_response.specs.Forms.{response_at};
+ghost use Rattle.nts_search.specs.Searching.{counted_inputs, counted_rounds};
 ghost use Rattle.nts_evaluation.specs.Solutions.{IsCoherence, ContainsEach, HasNoInputSolution};
 
 use crate::evaluate::search;
@@ -40,7 +41,7 @@ pub fn evaluate_input<H: GoalHandler>(
     requires ready { H.ready cx.old.nodes handler.now }
     ensures searches { Searches cx.old cx.new graph.old graph.new }
     ensures counted { IfOk result (λ _. 0 < cx.old.round_limit →
-        (0 < graph.new.most_rounds) × (0 < graph.new.most_inputs)) }
+        (0 < counted_rounds graph.new) × (0 < counted_inputs graph.new)) }
     ensures grows { Grows cx.old cx.new }
     ensures fits { IfOk result (λ o. IfSome o (IsAnswerTo cx.new.nodes (kinds_of input))) }
     ensures proved { (let h = H.handler cx.old.nodes handler.now in IfOk result (λ o. IfSome o (λ r.

@@ -171,8 +171,8 @@ heads_read ts (x ∷ xs) (suc n) h = All-cons (IsHead ts) x (read_at xs n) (All-
 
 later_read : (xs : List StackEntry) (n : ℕ) → AreLater xs (read_at xs n)
 later_read [] n = tt
-later_read (x ∷ xs) zero = (record { input = refl; kind = refl; provisional = refl; read = λ h. refl }, later_itself xs)
-later_read (x ∷ xs) (suc n) = (record { input = refl; kind = refl; provisional = refl; read = λ h. h }, later_read xs n)
+later_read (x ∷ xs) zero = (record { input = refl; kind = refl; provisional = refl; round = refl; read = λ h. refl }, later_itself xs)
+later_read (x ∷ xs) (suc n) = (record { input = refl; kind = refl; provisional = refl; round = refl; read = λ h. h }, later_read xs n)
 
 pub searched_read : {a : Cx} {g h : SearchGraph} (n k : ℕ) → IsSearch a g n → h.stack.items ≡ read_at g.stack.items k → ((ts : List Tree) → IsStack ts g → IsStack ts h) → KeepsRestOfGraph g h → Searches a a g h
 searched_read {a} {g} {h} n k s e kept rest =

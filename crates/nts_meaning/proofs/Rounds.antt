@@ -33,13 +33,11 @@ use Rattle.nts_response.specs.declared.types.Response.{Response}
 use Rattle.nts_response.specs.Forms.{response_at}
 use Rattle.nts_search.specs.declared.stack.StackEntry.{StackEntry}
 use Rattle.nts_search.specs.declared.stack.SearchGraph.{SearchGraph}
-use Rattle.nts_search.specs.Searching.{entry_at, entries_at, HoldsAnswer, HoldsEntry, IsStack, IsInputAt, KeepsRestOfGraph}
+use Rattle.nts_search.specs.Searching.{entry_at, entries_at, HoldsAnswer, HoldsEntry, IsStack, IsInputAt, KeepsRestOfGraph, counted_rounds, with_round}
 use Rattle.nts_search.specs.Ending.{AreOneAnswer, IsVague}
 use Rattle.nts_search.proofs.RoundEnds.{round_may_end}
 use Rattle.std.specs.Global.{Box}
-use Rattle.nts_meaning.specs.declared.round.Round.{Round}
-use Rattle.nts_meaning.specs.declared.round.Ended.{Ended}
-use Rattle.nts_meaning.specs.Rounds.{IsFirstRound, EndsWith, IsBoxed}
+use Rattle.nts_meaning.specs.Rounds.{EndsWith, IsBoxed}
 use Rattle.nts_meaning.specs.Answering.{IsQueryInput, IsAnswerTo, IfAnswered, verdict_at}
 use Rattle.nts_meaning.specs.Telling.{Ruling, QueryTells, QueryRefutes}
 use Rattle.nts_theory.specs.Telling.{SaysNothing}
@@ -61,7 +59,7 @@ pub search_then : {a b c : Cx} {g h : SearchGraph} (n : ℕ) → IsSearch a g n 
 search_then n s w x = Searches-trans (Searches-refl n s w) x
 
 -- a search begins
-pub search_begun : {a : Cx} {g : SearchGraph} (n : ℕ) → ((ts : List Tree) → IsStack ts g) → g.stack.items ≡ [] → g.root_depth ≡ n → g.most_rounds ≡ 0 → IsSearch a g (n + 1)
+pub search_begun : {a : Cx} {g : SearchGraph} (n : ℕ) → ((ts : List Tree) → IsStack ts g) → g.stack.items ≡ [] → g.root_depth ≡ n → counted_rounds g ≡ 0 → IsSearch a g (n + 1)
 search_begun {a} {g} n stack none depth most =
     let long : length g.stack.items ≡ 0 = ap length none in
     record {
@@ -96,21 +94,21 @@ not_cut g none (inl x) = x
 not_cut g none (inr (i, of, x)) = never_cut g none (inr x)
 
 -- an input as it is put on the stack
-abbrev pub entry_of : CanonicalInput → PathKind → Option (Canonical Response) → Option ℕ → StackEntry
-entry_of i k p e = record { input = i; step_kind = k; provisional = p; is_read = false; earlier = e }
+abbrev pub entry_of : CanonicalInput → PathKind → Option (Canonical Response) → ℕ → Option ℕ → StackEntry
+entry_of i k p n e = record { input = i; step_kind = k; provisional = p; round = n; is_read = false; earlier = e }
 
 pub holds_answer : (ts : List Tree) (ks : List PositionKind) (p : Option (Canonical Response)) → IsHeadAnswer ts ks p → HoldsAnswer ts p
 holds_answer ts ks None h = tt
 holds_answer ts ks (Some r) h = h.holds
 
-pub search_pushed : {a b : Cx} {g h : SearchGraph} (n : ℕ) (input : CanonicalInput) (step : PathKind) (p : Option (Canonical Response)) → IsSearch a g (n + 1) → Grows a b → IsQueryInput a.nodes input → IsHeadAnswer a.nodes (kinds_of input) p → (e : Option ℕ) × (h.stack.items ≡ g.stack.items ++ entry_of input step p e ∷ [])
-    → ((ts : List Tree) → IsStack ts g → HoldsQuery ts input.canonical.value → HoldsAnswer ts p → IsStack ts h) → KeepsRestOfGraph g h → IsSearch b h n
-search_pushed {a} {b} {g} {h} n input step p s w asked answer pushed kept rest =
+pub search_pushed : {a b : Cx} {g h : SearchGraph} (n m : ℕ) (input : CanonicalInput) (step : PathKind) (p : Option (Canonical Response)) → IsSearch a g (n + 1) → m ≤ a.round_limit → Grows a b → IsQueryInput a.nodes input → IsHeadAnswer a.nodes (kinds_of input) p → (e : Option ℕ) × (h.stack.items ≡ g.stack.items ++ entry_of input step p m e ∷ [])
+    → ((ts : List Tree) → IsStack ts g → HoldsQuery ts input.canonical.value → HoldsAnswer ts p → IsStack ts h) → KeepsRestOfGraph (with_round g m) h → IsSearch b h n
+search_pushed {a} {b} {g} {h} n m input step p s within w asked answer pushed kept rest =
     let now : IsSearch b g (n + 1) = search_grows (n + 1) (n + 1) (omega arith) s w in
     let q : IsQueryInput b.nodes input = input_later a.nodes b.nodes input w.extends asked in
     let z : IsHeadAnswer b.nodes (kinds_of input) p = head_answer_later a.nodes b.nodes (kinds_of input) p w.extends answer in
     let held = q.input in
-    let new = entry_of input step p pushed.0 in
+    let new = entry_of input step p m pushed.0 in
     let long : length h.stack.items ≡ length (g.stack.items ++ new ∷ []) = ap length pushed.1 in
     let grown = length-append g.stack.items (new ∷ []) in
     let room = now.room in
@@ -119,19 +117,19 @@ search_pushed {a} {b} {g} {h} n input step p s w asked answer pushed kept rest =
     record {
       stack = kept b.nodes now.stack held.holds (holds_answer b.nodes (kinds_of input) p z);
       heads = subst (All (IsHead b.nodes)) (sym pushed.1) (All-push (IsHead b.nodes) g.stack.items new now.heads (record { input = q; answer = z }));
-      rounds = rw most now.rounds;
+      rounds = (let r = now.rounds in let kept = w.rest.rounds in omega (arith, r, most, within, kept));
       room = omega (arith, long, grown, room, depth);
     }
 
 -- .. which tells what its provisional answer tells
-pub tell_pushed : {a b : Cx} {g : SearchGraph} (h : SearchGraph) (hd : Ruling) (n : ℕ) (input : CanonicalInput) (step : PathKind) (p : Option (Canonical Response)) → IsSearch a g n → Grows a b → IsQueryInput a.nodes input → IsHeadAnswer a.nodes (kinds_of input) p → (e : Option ℕ) × (h.stack.items ≡ g.stack.items ++ entry_of input step p e ∷ [])
+pub tell_pushed : {a b : Cx} {g : SearchGraph} (h : SearchGraph) (hd : Ruling) (n m : ℕ) (input : CanonicalInput) (step : PathKind) (p : Option (Canonical Response)) → IsSearch a g n → Grows a b → IsQueryInput a.nodes input → IsHeadAnswer a.nodes (kinds_of input) p → (e : Option ℕ) × (h.stack.items ≡ g.stack.items ++ entry_of input step p m e ∷ [])
     → HeadsTell hd a.nodes g → IsAnswerTold hd (mode_of input.typing_mode) a.nodes (form_of a.nodes input) p → HeadsTell hd b.nodes h
-tell_pushed {a} {b} {g} h hd n input step p s w asked answer pushed tells told =
+tell_pushed {a} {b} {g} h hd n m input step p s w asked answer pushed tells told =
     let mode = mode_of input.typing_mode in
     let there : IsAnswerTold hd mode b.nodes (form_of a.nodes input) p = answer_told_later hd mode a.nodes b.nodes (kinds_of input) (form_of a.nodes input) p w.extends answer told in
     let here : IsAnswerTold hd mode b.nodes (form_of b.nodes input) p = subst (λ f. IsAnswerTold hd mode b.nodes f p) (sym (form_later a.nodes b.nodes input w.extends asked)) there in
     subst (All (λ x. IsAnswerTold hd (mode_of x.input.typing_mode) b.nodes (form_of b.nodes x.input) x.provisional)) (sym pushed.1)
-    (All-push (λ x. IsAnswerTold hd (mode_of x.input.typing_mode) b.nodes (form_of b.nodes x.input) x.provisional) g.stack.items (entry_of input step p pushed.0) (tell_grown hd n s w tells) here)
+    (All-push (λ x. IsAnswerTold hd (mode_of x.input.typing_mode) b.nodes (form_of b.nodes x.input) x.provisional) g.stack.items (entry_of input step p m pushed.0) (tell_grown hd n s w tells) here)
 
 -- the stack is as before
 pub search_same : {a b : Cx} {g h : SearchGraph} (n : ℕ) → IsSearch a g n → Grows a b → h.stack.items ≡ g.stack.items → ((ts : List Tree) → IsStack ts g → IsStack ts h) → KeepsRestOfGraph g h → Searches a b g h
@@ -149,14 +147,15 @@ search_same {a} {b} {g} {h} n s w same kept rest =
       later = subst (AreLater g.stack.items) (sym same) (later_itself g.stack.items);
     }
 
--- the entry y was put on the stack of g, where the search went on, and is taken off as x
-pub record IsPopped (a c : Cx) (g j : SearchGraph) (y x : StackEntry) : Type 0 where
+-- the entry y was put on the stack of g, a round of which is counted, where the search went on, and is taken off as x
+pub record IsPopped (a c : Cx) (g j : SearchGraph) (m : ℕ) (y x : StackEntry) : Type 0 where
   pub searches : Searches a c g j
+  pub counted : m ≤ counted_rounds j
   pub entry : IsEntryLater y x
   pub head : IsHead c.nodes x
 
-pub search_popped : {a b c : Cx} {g h i j : SearchGraph} (y x : StackEntry) → h.stack.items ≡ g.stack.items ++ y ∷ [] → KeepsRestOfGraph g h → Searches b c h i → i.stack.items ≡ j.stack.items ++ x ∷ [] → ((ts : List Tree) → IsStack ts i → IsStack ts j × HoldsEntry ts x) → KeepsRestOfGraph i j → IsPopped a c g j y x
-search_popped {a} {b} {c} {g} {h} {i} {j} y x pushed up s popped kept down =
+pub search_popped : {a b c : Cx} {g h i j : SearchGraph} (m : ℕ) (y x : StackEntry) → h.stack.items ≡ g.stack.items ++ y ∷ [] → KeepsRestOfGraph (with_round g m) h → Searches b c h i → i.stack.items ≡ j.stack.items ++ x ∷ [] → ((ts : List Tree) → IsStack ts i → IsStack ts j × HoldsEntry ts x) → KeepsRestOfGraph i j → IsPopped a c g j m y x
+search_popped {a} {b} {c} {g} {h} {i} {j} m y x pushed up s popped kept down =
     let there : AreLater (g.stack.items ++ y ∷ []) (j.stack.items ++ x ∷ []) = subst (λ z. AreLater z (j.stack.items ++ x ∷ [])) pushed (subst (AreLater h.stack.items) popped s.later) in
     let later = later_pushed g.stack.items j.stack.items y x there in
     let heads = All-pop (IsHead c.nodes) i.stack.items j.stack.items (Some x) popped s.heads in
@@ -178,15 +177,10 @@ search_popped {a} {b} {c} {g} {h} {i} {j} y x pushed up s popped kept down =
         depth = down.root_depth ∙ s.depth ∙ up.root_depth;
         later = later.0;
       };
+      counted = omega (arith, most, raised, between);
       entry = later.1;
       head = heads.1;
     }
-
--- rounds are counted
-pub search_noted : {a b : Cx} {g h i : SearchGraph} (n m : ℕ) → IsSearch a g n → Searches a b g h → m ≤ b.round_limit → i ≡ record h { most_rounds = max h.most_rounds m } → Searches a b g i
-search_noted {a} {b} {g} {h} {i} n m s x l e =
-    let now : IsSearch b h n = search_later n n (omega arith) s x in
-    subst (Searches a b g) (sym e) (Searches-trans x (search_counted n m now l))
 
 -- the query's input, in a store that has grown
 pub own_asked : (a b : List Tree) (input own : CanonicalInput) → Extends a b → own ≡ input → IsQueryInput a input → IsQueryInput b own
@@ -238,24 +232,12 @@ module _ (x : Option (Canonical Response)) (z : Result (Box (Canonical Response)
   pub last_each : {P : Canonical Response → Type 0} → ((r : Canonical Response) → x ≡ Some r → P r) → IfAnswered z P
   last_each h = by_answer x z some none h
 
--- before the first round
-pub first_fits : (ts : List Tree) (i : CanonicalInput) (x : Round) → IsFirstRound ts i x → IsHeadAnswer ts (kinds_of i) x.provisional
-first_fits ts i x h = subst (IsHeadAnswer ts (kinds_of i)) (sym h.is) h.fits
-
-pub first_told : (hd : Ruling) (mode : Mode) (ts : List Tree) (f : Form) (i : CanonicalInput) (x : Round) → f.kinds ≡ kinds_of i → IsFirstRound ts i x → IsAnswerTold hd mode ts f x.provisional
-first_told hd mode ts f i x same h = subst (IsAnswerTold hd mode ts f) (sym h.is) (says_nothing (rw same h.nothing))
-
 -- what a round ends with, by what its table answered
 pub round_ends : (Q : Option (Canonical Response) → Type 0) (x : Result (Box (Canonical Response)) EvalError) (o : Option (Canonical Response)) → EndsWith x o → ((b : Box (Canonical Response)) → x ≡ Ok b → Q (Some b.value)) → (x ≡ Err error.NoSolution → Q None) → Q o
 round_ends Q (Ok b) o e some none = subst Q (sym e) (some b refl)
 round_ends Q (Err error.NoSolution) o e some none = subst Q (sym e) (none refl)
 round_ends Q (Err error.Memory) o e some none = absurd e
 round_ends Q (Err error.Full) o e some none = absurd e
-
--- the entry that was taken off is the one that was put on
-pub ended_entry : (own x : StackEntry) (r : Result (Box Ended) EvalError) → IsEntryLater own x → IfOk r (λ z. z.value.entry ≡ x) → IfOk r (λ z. (z.value.entry.input ≡ own.input) × (z.value.entry.step_kind ≡ own.step_kind) × (z.value.entry.provisional ≡ own.provisional))
-ended_entry own x (Ok z) l e = (ap (λ (y : StackEntry). y.input) e ∙ l.input, ap (λ (y : StackEntry). y.step_kind) e ∙ l.kind, ap (λ (y : StackEntry). y.provisional) e ∙ l.provisional)
-ended_entry own x (Err z) l e = tt
 
 -- what a cycle to the entry with this number is answered
 some_entry : {X : Type 0} (xs : List X) (n : ℕ) → n < length xs → X

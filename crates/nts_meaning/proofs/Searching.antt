@@ -43,7 +43,7 @@ use Rattle.nts_candidates.specs.Offered.{path_kind_of}
 use Rattle.nts_search.specs.declared.stack.StackEntry.{StackEntry}
 use Rattle.nts_search.specs.declared.stack.SearchGraph.{SearchGraph}
 use Rattle.nts_canonical.specs.Alike.{AreOneInput}
-use Rattle.nts_search.specs.Searching.{entry_at, entries_at, answer_at, certainty_in, IsStack, HasNoInput, IsInputAt}
+use Rattle.nts_search.specs.Searching.{entry_at, entries_at, answer_at, certainty_in, IsStack, HasNoInput, IsInputAt, counted_rounds, with_round}
 use Rattle.nts_search.proofs.StackLater.{IsStack-later, entries_kept, response_same}
 use Rattle.nts_terms.specs.Modes.{mode_of}
 use Rattle.nts_meaning.specs.Searching.{IsHeadAnswer, IsHead, IsSearch, IsEntryLater, AreLater, Searches, assumed_in, IsAnswerTold, HeadsTell, IsCut, IsGoalCut}
@@ -126,10 +126,10 @@ head_later a b x e h = record { input = input_later a b x.input e h.input; answe
 -- entries later on
 pub later_itself : (xs : List StackEntry) → AreLater xs xs
 later_itself [] = tt
-later_itself (x ∷ xs) = (record { input = refl; kind = refl; provisional = refl; read = λ h. h }, later_itself xs)
+later_itself (x ∷ xs) = (record { input = refl; kind = refl; provisional = refl; round = refl; read = λ h. h }, later_itself xs)
 
 one_then : (x y z : StackEntry) → IsEntryLater x y → IsEntryLater y z → IsEntryLater x z
-one_then x y z a b = record { input = b.input ∙ a.input; kind = b.kind ∙ a.kind; provisional = b.provisional ∙ a.provisional; read = λ h. b.read (a.read h) }
+one_then x y z a b = record { input = b.input ∙ a.input; kind = b.kind ∙ a.kind; provisional = b.provisional ∙ a.provisional; round = b.round ∙ a.round; read = λ h. b.read (a.read h) }
 
 pub later_then : (xs ys zs : List StackEntry) → AreLater xs ys → AreLater ys zs → AreLater xs zs
 later_then [] [] [] a b = tt
@@ -313,8 +313,8 @@ tell_grown hd n s w t = heads_tell_later hd n s w.extends (Searches-refl n s w) 
 pub covers_grown : {a b : Cx} {g : SearchGraph} (n : ℕ) → IsSearch a g n → Grows a b → Covers (assumed_in a.nodes g) (assumed_in b.nodes g)
 covers_grown n s w = search_covers n s w.extends (Searches-refl n s w)
 
--- rounds were counted
-pub search_counted : {a : Cx} {g : SearchGraph} (n m : ℕ) → IsSearch a g n → m ≤ a.round_limit → Searches a a g (record g { most_rounds = max g.most_rounds m })
+-- a round was counted
+pub search_counted : {a : Cx} {g : SearchGraph} (n m : ℕ) → IsSearch a g n → m ≤ a.round_limit → Searches a a g (with_round g m)
 search_counted {a} {g} n m s l =
     let k = s.stack in
     record {
@@ -328,12 +328,9 @@ search_counted {a} {g} n m s l =
       later = later_itself g.stack.items;
     }
 
--- a round that was noted is counted from then on
-pub round_counted : {a b : Cx} {h : SearchGraph} (g i : SearchGraph) (m : ℕ) → i ≡ record g { most_rounds = max g.most_rounds m } → 0 < m → Searches a b i h → 0 < h.most_rounds
-round_counted {a} {b} {h} g i m e some x =
-    let noted : i.most_rounds ≡ max g.most_rounds m = ap (λ (z : SearchGraph). z.most_rounds) e in
-    let more = x.more_rounds in
-    omega (arith, noted, some, more)
+-- .. and is from then on
+pub round_counted : {a b : Cx} {h : SearchGraph} (g : SearchGraph) (m : ℕ) → Searches a b (with_round g m) h → m ≤ counted_rounds h
+round_counted g m x = (let more = x.more_rounds in omega (arith, more))
 
 -- an input that stands on the stack is one of its entries'
 stands_in : (ts : List Tree) (i : CanonicalInput) (xs : List StackEntry) (n : ℕ) → All (λ x. AreOneInput ts x.input i → ⊥) xs → n < length xs → ((d : StackEntry) → AreOneInput ts (get_or xs n d).input i) → ⊥

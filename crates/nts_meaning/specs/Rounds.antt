@@ -20,7 +20,6 @@ use Rattle.nts_response.specs.Forms.{response_at}
 use Rattle.nts_search.specs.declared.stack.StackEntry.{StackEntry}
 use Rattle.nts_search.specs.declared.stack.SearchGraph.{SearchGraph}
 use Rattle.nts_search.specs.Searching.{HoldsEntry, IsStack, KeepsRestOfGraph}
-use Rattle.nts_meaning.specs.declared.round.Round.{Round}
 use Rattle.nts_meaning.specs.Asking.{first_table, first_values, asked_environment, asked_predicate}
 use Rattle.nts_meaning.specs.Evaluation.{IsPosed}
 use Rattle.nts_meaning.specs.Answering.{IsAnswerTo}
@@ -36,15 +35,6 @@ pub record BeginsQuery (a b : List Tree) (i : CanonicalInput) (t : Table) (g : G
   pub mode : mode_of t.mode ≡ mode_of i.typing_mode
   pub args : All (IsArgOf b t.entries) qs
   pub values : trees_of b qs ≡ first_values (kinds_of i)
-
--- a query before its first round: a cycle back to it is answered a yes that says nothing
-pub record IsFirstRound (ts : List Tree) (i : CanonicalInput) (x : Round) : Type 0 where
-  pub input : x.input ≡ i
-  pub answer : Canonical Response
-  pub is : x.provisional ≡ Some answer
-  pub fits : IsAnswerTo ts (kinds_of i) answer
-  pub nothing : SaysNothing (kinds_of i) (response_at ts answer)
-  pub certain : answer.value.certainty ≡ certainty.Yes
 
 -- the entry was the newest one, and is taken off the stack
 pub record IsTakenOff (g h : SearchGraph) (x : StackEntry) : Type 0 where

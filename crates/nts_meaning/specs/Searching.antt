@@ -16,7 +16,7 @@ use Rattle.nts_response.specs.declared.types.Response.{Response}
 use Rattle.nts_response.specs.Forms.{response_parts}
 use Rattle.nts_search.specs.declared.stack.StackEntry.{StackEntry}
 use Rattle.nts_search.specs.declared.stack.SearchGraph.{SearchGraph}
-use Rattle.nts_search.specs.Searching.{entries_at, IsStack}
+use Rattle.nts_search.specs.Searching.{entries_at, IsStack, counted_inputs, counted_rounds}
 use Rattle.nts_meaning.specs.Answering.{IsQueryInput, IsAnswerTo, verdict_at}
 use Rattle.nts_meaning.specs.Telling.{Ruling, QueryTells, QueryRefutes}
 use Rattle.nts_theory.specs.Telling.{IsInputFor}
@@ -39,7 +39,7 @@ pub record IsHead (ts : List Tree) (x : StackEntry) : Type 0 where
 pub record IsSearch (a : Cx) (g : SearchGraph) (n : ℕ) : Type 0 where
   pub stack : IsStack a.nodes g
   pub heads : All (IsHead a.nodes) g.stack.items
-  pub rounds : g.most_rounds ≤ a.round_limit
+  pub rounds : counted_rounds g ≤ a.round_limit
   pub room : length g.stack.items + n ≤ g.root_depth + 1
 
 -- an entry later on: it may have been read
@@ -47,6 +47,7 @@ pub record IsEntryLater (x y : StackEntry) : Type 0 where
   pub input : y.input ≡ x.input
   pub kind : y.step_kind ≡ x.step_kind
   pub provisional : y.provisional ≡ x.provisional
+  pub round : y.round ≡ x.round
   pub read : IsTrue x.is_read → IsTrue y.is_read
 
 abbrev pub AreLater : List StackEntry → List StackEntry → Type 0
@@ -59,9 +60,9 @@ AreLater xs ys = ⊥
 pub record Searches (a b : Cx) (g h : SearchGraph) : Type 0 where
   pub stack : IsStack b.nodes h
   pub heads : All (IsHead b.nodes) h.stack.items
-  pub rounds : h.most_rounds ≤ b.round_limit
-  pub more_rounds : g.most_rounds ≤ h.most_rounds
-  pub more_inputs : g.most_inputs ≤ h.most_inputs
+  pub rounds : counted_rounds h ≤ b.round_limit
+  pub more_rounds : counted_rounds g ≤ counted_rounds h
+  pub more_inputs : counted_inputs g ≤ counted_inputs h
   pub marks : IsTrue g.has_overflowed → IsTrue h.has_overflowed
   pub depth : h.root_depth ≡ g.root_depth
   pub later : AreLater g.stack.items h.stack.items

@@ -3,7 +3,6 @@
 #![tactic(auto)]
 
 mod response;
-mod round;
 mod terms;
 
 pub use nts_answering;
@@ -13,5 +12,4 @@ pub use nts_applying::nts_equating;
 pub use nts_response;
 pub use nts_search;
 pub use response::{Evaluated, boxed_response, make_response};
-pub use round::{Ended, Round};
 pub use terms::{resolve_goal, resolve_term};

@@ -1,5 +1,5 @@
 -- The stack of a search: the entries that it stands for, and what stays true of it.
-use Rattle.std.specs.Prelude.{◌≡◌, ℕ, zero, suc, ◌<◌, ◌≤◌, true, List, [], ◌∷◌, map, reverse, length, get_or, All, Option, Some, None}
+use Rattle.std.specs.Prelude.{◌≡◌, ℕ, zero, suc, ◌<◌, ◌≤◌, true, List, [], ◌∷◌, map, max, reverse, length, get_or, All, Option, Some, None}
 use Rattle.nts_model.specs.Terms.Trees.{Tree}
 use Rattle.nts_model.specs.Derivations.Handlers.{Certainty}
 use Rattle.nts_model.specs.Answers.Responses.{Response as Form}
@@ -50,13 +50,24 @@ pub record HoldsEntry (ts : List Tree) (x : StackEntry) : Type 0 where
   pub input : HoldsQuery ts x.input.canonical.value
   pub provisional : HoldsAnswer ts x.provisional
 
+-- how many inputs stood on the stack at most, and how many rounds an input took at most, of those that were counted
+abbrev pub counted_inputs : SearchGraph → ℕ
+counted_inputs g = g.most_inputs
+
+abbrev pub counted_rounds : SearchGraph → ℕ
+counted_rounds g = g.most_rounds
+
+-- a round of an input is counted, so many of which there were
+abbrev pub with_round : SearchGraph → ℕ → SearchGraph
+with_round g n = record g { most_rounds = max g.most_rounds n }
+
 -- the entries are of the store, the index leads to each of them, and there never were more than were counted, nor more than may
 -- be nested
 pub record IsStack (ts : List Tree) (g : SearchGraph) : Type 0 where
   pub held : All (HoldsEntry ts) g.stack.items
   pub index : IsEntryIndex g.newest (reverse g.stack.items)
-  pub counted : length g.stack.items ≤ g.most_inputs
-  pub nested : g.most_inputs ≤ suc g.root_depth
+  pub counted : length g.stack.items ≤ counted_inputs g
+  pub nested : counted_inputs g ≤ suc g.root_depth
 
 -- no entry's input is this one
 abbrev pub HasNoInput : List Tree → SearchGraph → CanonicalInput → Type 0
@@ -75,7 +86,7 @@ read_at (x ∷ xs) (suc n) = x ∷ read_at xs n
 
 -- all of a search stays but the entries; it may count more inputs
 pub record KeepsRestOfGraph (old new : SearchGraph) : Type 0 where
-  pub most_inputs : old.most_inputs ≤ new.most_inputs
+  pub most_inputs : counted_inputs old ≤ counted_inputs new
   pub root_depth : new.root_depth ≡ old.root_depth
   pub has_overflowed : new.has_overflowed ≡ old.has_overflowed
-  pub most_rounds : new.most_rounds ≡ old.most_rounds
+  pub most_rounds : counted_rounds new ≡ counted_rounds old

@@ -7,7 +7,7 @@ ghost use Rattle.nts_response.specs.nts_candidates.specs.Offered.{path_kind_of};
 ghost use Rattle.nts_response.specs.nts_canonical.specs.Forms.{HoldsQuery};
 ghost use Rattle.nts_search.specs.declared.terms.GoalTerms.{GoalTerms};
 ghost use Rattle.nts_search.specs.Indexed.{led_to, same_terms};
-ghost use Rattle.nts_search.specs.Searching.{entries_at, HoldsAnswer, HoldsEntry, IsStack, HasNoInput, IsInputAt, read_at, KeepsRestOfGraph};
+ghost use Rattle.nts_search.specs.Searching.{entries_at, HoldsAnswer, HoldsEntry, IsStack, HasNoInput, IsInputAt, read_at, KeepsRestOfGraph, counted_inputs, counted_rounds, with_round};
 
 use crate::kinds::extend;
 use crate::terms::GoalTerms;
@@ -26,6 +26,8 @@ pub struct StackEntry {
     pub step_kind: PathKind,
     /// What a cycle back to it is answered in this round. `None` is no solution.
     pub provisional: Option<CanonicalResponse>,
+    /// Which round of the input this is, from one on.
+    pub round: usize,
     /// Whether a cycle read that in this round.
     pub is_read: bool,
     /// The next older entry whose goal has the same terms.
@@ -42,10 +44,10 @@ pub struct SearchGraph {
     pub newest: HashMap<GoalTerms, usize>,
     /// Whether a goal below the newest entry was nested too deep.
     pub has_overflowed: bool,
-    /// How many inputs stood on the stack at most.
-    pub most_inputs: usize,
-    /// How many rounds a head took at most.
-    pub most_rounds: usize,
+    /// How many inputs stood on the stack at most. Only `push` counts.
+    most_inputs: usize,
+    /// How many rounds a head took at most. Only `push` counts.
+    most_rounds: usize,
 }
 
 // Written out, it is a call where a graph is let go.
@@ -69,8 +71,8 @@ impl SearchGraph {
         ensures empty { result.stack.items ≡ [] }
         ensures root_depth { result.root_depth ≡ root_depth }
         ensures overflowed { result.has_overflowed ≡ false }
-        ensures inputs { result.most_inputs ≡ 0 }
-        ensures rounds { result.most_rounds ≡ 0 }
+        ensures inputs { counted_inputs result ≡ 0 }
+        ensures rounds { counted_rounds result ≡ 0 }
     {
         SearchGraph {
             root_depth,
@@ -128,18 +130,20 @@ impl SearchGraph {
             (length self.old.stack.items - suc head) }
         ensures long { length self.new.stack.items ≡ length self.old.stack.items }
         ensures kept { (ts : List Tree) → IsStack ts self.old → IsStack ts self.new }
-        ensures inputs { self.new.most_inputs ≡ self.old.most_inputs }
+        ensures inputs { counted_inputs self.new ≡ counted_inputs self.old }
         ensures rest { KeepsRestOfGraph self.old self.new }
     {
         self.stack[head].is_read = true;
     }
 
-    /// A new newest entry, which was not read. After an error the stack is as before.
+    /// A new newest entry, which was not read, in that round of its input. The round and the inputs are counted. After an
+    /// error the stack is as before.
     pub fn push(
         &mut self,
         input: CanonicalInput,
         step_kind: PathKind,
         provisional: Option<CanonicalResponse>,
+        round: usize,
     ) -> Result<(), AllocError>
         requires room { length self.old.stack.items ≤ self.old.root_depth }
         ensures pushed { OnOk result ((e : Option ℕ) ×
@@ -148,21 +152,22 @@ impl SearchGraph {
               step_kind =
                   step_kind;
               provisional = provisional;
+              round = round;
               is_read = false;
               earlier = e;
             } ∷ [])) }
         ensures kept { OnOk result ((ts : List Tree) → IsStack ts self.old →
             HoldsQuery ts input.canonical.value → HoldsAnswer ts provisional →
             IsStack ts self.new) }
-        ensures inputs { OnOk result (self.new.most_inputs ≡ max self.old.most_inputs
+        ensures inputs { OnOk result (counted_inputs self.new ≡ max (counted_inputs self.old)
             (length self.new.stack.items)) }
-
         ensures err { OnErr result (self.new.stack.items ≡ self.old.stack.items) }
         ensures err_kept { OnErr result ((ts : List Tree) → IsStack ts self.old →
             IsStack ts self.new) }
-        ensures err_inputs { OnErr result (self.new.most_inputs ≡ self.old.most_inputs) }
-        ensures rest { KeepsRestOfGraph self.old self.new }
+        ensures err_inputs { OnErr result (counted_inputs self.new ≡ counted_inputs self.old) }
+        ensures rest { KeepsRestOfGraph (with_round self.old round) self.new }
     {
+        self.most_rounds = self.most_rounds.max(round);
         let terms = GoalTerms::of(&input);
         let at = self.stack.len();
         let earlier = self.newest.get(&terms).copied();
@@ -172,6 +177,7 @@ impl SearchGraph {
             input,
             step_kind,
             provisional,
+            round,
             is_read: false,
             earlier,
         })?;
@@ -186,7 +192,7 @@ impl SearchGraph {
         ensures popped { self.old.stack.items ≡ self.new.stack.items ++ result ∷ [] }
         ensures kept { (ts : List Tree) → IsStack ts self.old → IsStack ts self.new ×
             HoldsEntry ts result }
-        ensures inputs { self.new.most_inputs ≡ self.old.most_inputs }
+        ensures inputs { counted_inputs self.new ≡ counted_inputs self.old }
         ensures rest { KeepsRestOfGraph self.old self.new }
     {
         let Some(entry) = self.stack.pop() else {
@@ -197,23 +203,16 @@ impl SearchGraph {
         entry
     }
 
-    /// Counts the rounds of a head.
-    pub fn note_round(&mut self, round: usize)
-        ensures { self.new ≡ record self.old { most_rounds = max self.old.most_rounds round } }
-    {
-        self.most_rounds = self.most_rounds.max(round);
-    }
-
     /// How many inputs stood on the stack at most.
     pub fn most_inputs(&self) -> usize
-        ensures { result ≡ self.now.most_inputs }
+        ensures { result ≡ counted_inputs self.now }
     {
         self.most_inputs
     }
 
     /// How many rounds a head took at most.
     pub fn most_rounds(&self) -> usize
-        ensures { result ≡ self.now.most_rounds }
+        ensures { result ≡ counted_rounds self.now }
     {
         self.most_rounds
     }

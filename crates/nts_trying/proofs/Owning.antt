@@ -226,7 +226,7 @@ type_candidate ts g b of ty c ho ht plain states way =
     }
 
 -- .. which relates no aliases where none stands in the goal; nor does one without equations
-unbound_none : (s : Tree) → any_label is_alias (unbound s) ≡ false → any_label is_alias s ≡ false
+pub unbound_none : (s : Tree) → any_label is_alias (unbound s) ≡ false → any_label is_alias s ≡ false
 unbound_none s h = (both_false (any_label is_alias s) false h).0
 
 never : (b : Bool) → b && false ≡ false

@@ -105,11 +105,11 @@ abbrev pub IsWay : Judged → Type 0
 IsWay (judged.Way b) = Unit {0}
 IsWay x = ⊥
 
--- .. and where the handler affirms or denies the goal, that is known; so is it that the goal has one way, where no alias stands in it
+-- .. and where the handler affirms or denies the goal, that is known; so is it that the goal has one way, if that relates no aliases
 pub record IsAllJudged (j : Judgements) (ts : List Tree) (g : Goal) (x : Judged) : Type 0 where
   pub affirmed : SaysAffirmed j (tree_at ts g.param_env.node) (tree_at ts g.predicate.node) → x ≡ judged.Yes
   pub denied : IsDenied j (statement_of (tree_at ts g.predicate.node)) → x ≡ judged.No
-  pub way : (y : Candidate) → HasOwnWay j (tree_at ts g.param_env.node) (tree_at ts g.predicate.node) y → any_label is_alias (tree_at ts g.predicate.node) ≡ false → IsWay x
+  pub way : (y : Candidate) → HasOwnWay j (tree_at ts g.param_env.node) (tree_at ts g.predicate.node) y → HasPlainEquations y → IsWay x
 
 abbrev pub IsAllJudgedSo : Handler → List Tree → Goal → Judged → Type 0
 IsAllJudgedSo h ts g x = IsAllJudged h.judges ts g x

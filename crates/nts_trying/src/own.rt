@@ -100,7 +100,7 @@ pub fn own_goal_in(cx: &Cx, goal: Goal) -> Option<OwnGoal>
 
 /// What is known of a goal of the engine's own kinds. The handler is asked of which traits objects can be made, what the
 /// environment allows, how a const is evaluated, and by which goals a term is well formed. Where it affirms or denies the goal, that
-/// is known; so is the one way of a goal that has one, where no alias stands in it.
+/// is known; so is the one way of a goal that has one, where that relates no aliases.
 #[inline(never)]
 pub fn judge<H: GoalHandler>(
     cx: &mut Cx,

@@ -1,7 +1,8 @@
 //! A goal in a query of its own, and a query in rounds.
-ghost use Rattle.std.specs.Prelude.{◌+◌};
+ghost use Rattle.std.specs.Prelude.{◌+◌, ◌<◌};
 ghost use Rattle.nts_canonical.specs.Building.{kinds_of};
 ghost use Rattle.nts_meaning.specs.Searching.{IsSearch, IsHeadAnswer};
+ghost use Rattle.nts_asking.specs.Rounds.{rounds_before};
 ghost use Rattle.nts_meaning.specs.Answering.{IsQueryInput};
 ghost use Rattle.nts_meaning.specs.Evaluation.{IsPosed};
 ghost use Rattle.nts_meaning.specs.Meant.{rules_of};
@@ -9,13 +10,13 @@ ghost use Rattle.nts_evaluation.specs.Promises.{AnswersQuery, AsksGoal, EndsRoun
 
 use super::rows::compute_goal;
 use nts_asking::{
-    answer_cycle, apply_answer, boxed_query, end_round, first_round, last_answer, next_round,
-    push_query, query_table, unchanged_answer,
+    Ended, Round, answer_cycle, apply_answer, boxed_query, end_round, first_round, last_answer,
+    next_round, overflow_answer, push_query, query_table,
 };
 use nts_canonical::CanonicalInput;
-use nts_certainty::{Certainty, PathKind};
+use nts_certainty::PathKind;
 use nts_delegate::GoalHandler;
-use nts_meaning::{Ended, Evaluated, Round};
+use nts_meaning::Evaluated;
 use nts_response::CanonicalResponse;
 use nts_search::{SearchGraph, round_is_last};
 use nts_store::EvalError;
@@ -92,14 +93,13 @@ fn evaluate_rounds<H: GoalHandler>(
 {
     let mut asked = first_round(cx, input)?;
     for round in 0..cx.round_limit() {
-        graph.note_round(round + 1);
         let ended = evaluate_round(cx, handler, graph, asked, step, depth)?;
         if round_is_last(cx, &ended.entry, &ended.answer) {
             return last_answer(cx.alloc, ended);
         }
         asked = next_round(cx.alloc, ended)?;
     }
-    let answer = unchanged_answer(cx, &asked.input, Certainty::overflow(false))?;
+    let answer = overflow_answer(cx, &asked)?;
     Ok(answer)
 }
 
@@ -117,13 +117,14 @@ fn evaluate_round<H: GoalHandler>(
     requires input { IsQueryInput cx.old.nodes asked.value.input }
     requires provisional { IsHeadAnswer cx.old.nodes (kinds_of asked.value.input)
         asked.value.provisional }
+    requires limit { rounds_before asked.value < cx.old.round_limit }
     requires ready { H.ready cx.old.nodes handler.now }
     requires search { IsSearch cx.old graph.old (depth + 1) }
     ensures { EndsRound (rules_of H.ready H.handler handler.now) cx.old cx.new graph.old graph.new
         asked.value step depth result }
 {
     let (mut table, goal, values) = query_table(cx, &asked.input)?;
-    push_query(graph, asked, step)?;
+    push_query(cx, graph, asked, step)?;
     let response = compute_goal(&mut table, cx, handler, graph, goal, &values, depth);
     cx.terms_are_formed();
     end_round(cx.alloc, graph, response)

@@ -115,6 +115,7 @@ impl Fixture {
         mode: TypingMode,
         kind: PathKind,
         provisional: Answer,
+        round: usize,
     )
         requires { IsStack self.old.cx.nodes self.old.graph }
         ensures { IsStack self.new.cx.nodes self.new.graph }
@@ -122,7 +123,7 @@ impl Fixture {
         assert!(rt; self.graph.stack.len() <= self.graph.root_depth);
         let provisional = answer_of(&mut self.cx, rt, provisional);
         let input = input_of(&mut self.cx, rt, sorts, mode);
-        let pushed = self.graph.push(input, kind, provisional);
+        let pushed = self.graph.push(input, kind, provisional, round);
         pushed.expect(rt, "memory");
     }
 

@@ -1,7 +1,9 @@
 //! Inputs on a stack, paths between them and rounds of them.
 use crate::search::fixture::{Answer, Fixture};
 use crate::search::steps::Mode::{Coherence, Erased, PostAnalysis};
-use crate::search::steps::Step::{Ends, Finds, MostInputs, Path, Pop, Push, Read};
+use crate::search::steps::Step::{
+    Ends, Finds, MostInputs, MostRounds, Path, Pop, Push, PushIn, Read,
+};
 use crate::search::steps::{Step, plays};
 use nts_certainty::Certainty;
 use nts_certainty::PathKind::{Coinductive, ForcedAmbiguity, Inductive, Unknown};
@@ -86,8 +88,15 @@ fn no_solution_twice_ends_the_rounds(rt: HostRuntime) {
 
 #[test]
 fn the_most_rounds_are_kept(rt: HostRuntime) {
-    let mut f = Fixture::new(rt.alloc());
-    f.graph.note_round(3);
-    f.graph.note_round(2);
-    assert_eq!(rt; f.graph.most_rounds(), 3);
+    const STEPS: &[Step] = &[
+        Push(&[], PostAnalysis, Unknown, YES),
+        MostRounds(1),
+        Pop,
+        PushIn(3, &[], PostAnalysis, Unknown, YES),
+        Pop,
+        PushIn(2, &[Sort::Ty], PostAnalysis, Unknown, YES),
+        MostRounds(3),
+        MostInputs(1),
+    ];
+    plays(&rt, rt.alloc(), STEPS);
 }

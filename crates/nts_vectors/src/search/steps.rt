@@ -12,6 +12,8 @@ use std::process::Abort;
 pub enum Step {
     /// Puts an input on the stack, which is reached by such a step and answered so at first.
     Push(&'static [Sort], Mode, PathKind, Answer),
+    /// .. in that round.
+    PushIn(usize, &'static [Sort], Mode, PathKind, Answer),
     /// Takes the newest input off.
     Pop,
     /// Reads the answer of an entry.
@@ -24,6 +26,8 @@ pub enum Step {
     Ends(Answer, bool),
     /// So many inputs were on the stack at most.
     MostInputs(usize),
+    /// An input took so many rounds at most.
+    MostRounds(usize),
 }
 
 /// A mode without hidden types.
@@ -64,7 +68,11 @@ fn play(rt: &impl Abort, fixture: &mut Fixture, step: &Step) -> bool
 {
     match step {
         Step::Push(sorts, mode, kind, answer) => {
-            fixture.push(rt, sorts, mode.typing_mode(), *kind, *answer);
+            fixture.push(rt, sorts, mode.typing_mode(), *kind, *answer, 1);
+            true
+        }
+        Step::PushIn(round, sorts, mode, kind, answer) => {
+            fixture.push(rt, sorts, mode.typing_mode(), *kind, *answer, *round);
             true
         }
         Step::Pop => {
@@ -79,5 +87,6 @@ fn play(rt: &impl Abort, fixture: &mut Fixture, step: &Step) -> bool
         Step::Path(head, step, kind) => fixture.path(rt, *head, *step) == *kind,
         Step::Ends(answer, ends) => fixture.ends(rt, *answer) == *ends,
         Step::MostInputs(count) => fixture.graph.most_inputs() == *count,
+        Step::MostRounds(count) => fixture.graph.most_rounds() == *count,
     }
 }

@@ -1,5 +1,5 @@
 use Rattle.std.proofs.Common.{rules, ap}
-use Rattle.nts_meaning.specs.declared.round.Ended.{Ended}
+use Rattle.nts_asking.specs.declared.round.Ended.{Ended}
 use Rattle.nts_asking.proofs.round.end_round.Goals as goal
 
 pub returns-in-Err-clause-off : goal.returns-in-Err-clause-off

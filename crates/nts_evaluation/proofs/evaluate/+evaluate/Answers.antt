@@ -33,7 +33,9 @@ use Rattle.nts_meaning.proofs.Searching.{Searches-refl, Searches-trans, search_l
 use Rattle.nts_search.specs.declared.stack.StackEntry.{StackEntry}
 use Rattle.nts_canonical.specs.declared.types.CanonicalInput.{CanonicalInput}
 use Rattle.nts_meaning.specs.Answering.{IsAnswerTo, is_yes}
-use Rattle.nts_meaning.proofs.Rounds.{search_noted, entry_held, grown, ran, search_then, entry_of, search_same, cycle_told, cycle_refuted, cycle_derived}
+use Rattle.nts_asking.specs.Rounds.{rounds_before}
+use Rattle.nts_evaluation.proofs.Entered.{not_entered}
+use Rattle.nts_meaning.proofs.Rounds.{entry_held, grown, ran, search_then, entry_of, cycle_told, cycle_refuted, cycle_derived}
 use Rattle.nts_store.specs.declared.fault.EvalError.TheVariants as EvalError
 use Rattle.std.specs.Result.{is_err}
 use Rattle.std.proofs.lemmas.Result.{IfOk-from_err}
@@ -490,7 +492,7 @@ queries::evaluate_round-end_round-requires g t c =
     let m = c.compute_goal-response.ensures in
     let long = later_long c.push_query.new.graph.stack.items c.compute_goal-response.new.graph.stack.items m.searches.later in
     let new = ap (length {A = StackEntry}) c.in_ok-push_query.ensures.pushed.1 in
-    let more = length-append c.args.graph.now.stack.items (entry_of c.args.asked.value.input c.args.step c.args.asked.value.provisional c.in_ok-push_query.ensures.pushed.0 ∷ []) in
+    let more = length-append c.args.graph.now.stack.items (entry_of c.args.asked.value.input c.args.step c.args.asked.value.provisional (rounds_before c.args.asked.value + 1) c.in_ok-push_query.ensures.pushed.0 ∷ []) in
     omega (arith, long, new, more)
 
 pub queries::evaluate_round-returns : goal.queries::evaluate_round-returns
@@ -501,9 +503,9 @@ queries::evaluate_round-returns-in_err-push_query g t c =
     let fails : is_err c.from_residual-in_err-push_query.result ≡ true = search rules in
     record {
       grows = search rules;
-      searches = search_same (c.args.depth + 1) c.requires.search c.in_ok-table.ensures.grows c.in_err-push_query.ensures.err c.in_err-push_query.ensures.err_kept c.push_query.ensures.rest;
+      searches = not_entered (c.args.depth + 1) (rounds_before c.args.asked.value + 1) c.requires.search (let limit = c.requires.limit in omega (arith, limit)) c.in_ok-table.ensures.grows c.in_err-push_query.ensures.err c.in_err-push_query.ensures.err_kept c.push_query.ensures.rest;
       entry = IfOk-from_err c.from_residual-in_err-push_query.result _ fails;
-      entered = IfOk-from_err c.from_residual-in_err-push_query.result _ fails;
+      counted = IfOk-from_err c.from_residual-in_err-push_query.result _ fails;
       fits = IfOk-from_err c.from_residual-in_err-push_query.result _ fails;
       proved = λ s. IfOk-from_err c.from_residual-in_err-push_query.result _ fails;
       told = λ s tells told. IfOk-from_err c.from_residual-in_err-push_query.result _ fails;
@@ -519,7 +521,7 @@ queries::evaluate_round-returns-in_err-table g t c =
       grows = search rules;
       searches = Searches-refl (c.args.depth + 1) c.requires.search c.query_table.ensures.grows;
       entry = IfOk-from_err c.from_residual.result _ fails;
-      entered = IfOk-from_err c.from_residual.result _ fails;
+      counted = IfOk-from_err c.from_residual.result _ fails;
       fits = IfOk-from_err c.from_residual.result _ fails;
       proved = λ s. IfOk-from_err c.from_residual.result _ fails;
       told = λ s tells told. IfOk-from_err c.from_residual.result _ fails;
@@ -541,14 +543,14 @@ pub queries::evaluate_rounds-returns : goal.queries::evaluate_rounds-returns
 queries::evaluate_rounds-returns g t c =
     record {
       grows = search rules;
-      searches = let i = c.loop-round.invariant in search_grown (c.args.depth + 1) c.requires.search i.searches c.unchanged_answer.ensures.grows;
+      searches = let i = c.loop-round.invariant in search_grown (c.args.depth + 1) c.requires.search i.searches c.overflow_answer.ensures.grows;
       counted = λ none limit answered.
           let i = c.loop-round.invariant in
           let first = c.in_ok-asked.ensures.grows.rest.rounds in
           i.counted (omega (arith, limit, first, c.loop-round-test.false, c.round_limit-round-end.ensures));
-      fits = let i = c.loop-round.invariant in subst (λ (w : CanonicalInput). IsAnswerTo c.unchanged_answer.new.cx.nodes (kinds_of w) c.in_ok-answer.answer.value) i.input (rw c.deref-2.ensures at c.in_ok-answer.ensures.fits);
+      fits = let i = c.loop-round.invariant in subst (λ (w : CanonicalInput). IsAnswerTo c.overflow_answer.new.cx.nodes (kinds_of w) c.in_ok-answer.answer.value) i.input (rw c.deref-2.ensures at c.in_ok-answer.ensures.fits);
       proved = search rules;
-      told = λ s tells. says_nothing (let i = c.loop-round.invariant in subst (λ (w : CanonicalInput). SaysNothing (kinds_of w) (response_at c.unchanged_answer.new.cx.nodes c.in_ok-answer.answer.value)) i.input (rw c.deref-2.ensures at c.in_ok-answer.ensures.nothing));
+      told = λ s tells. says_nothing (let i = c.loop-round.invariant in subst (λ (w : CanonicalInput). SaysNothing (kinds_of w) (response_at c.overflow_answer.new.cx.nodes c.in_ok-answer.answer.value)) i.input (rw c.deref-2.ensures at c.in_ok-answer.ensures.nothing));
       refuted = search rules;
       decided = λ s n b d can.
           let i = c.loop-round.invariant in
@@ -564,21 +566,17 @@ queries::evaluate_rounds-returns g t c =
 
 pub queries::evaluate_rounds-returns-in_err-answer : goal.queries::evaluate_rounds-returns-in_err-answer
 queries::evaluate_rounds-returns-in_err-answer g t c =
-    query_failed c.from_residual-in_err-answer.result (search rules) (search rules) (search rules) (search_grown (c.args.depth + 1) c.requires.search c.loop-round.invariant.searches c.unchanged_answer.ensures.grows)
+    query_failed c.from_residual-in_err-answer.result (search rules) (search rules) (search rules) (search_grown (c.args.depth + 1) c.requires.search c.loop-round.invariant.searches c.overflow_answer.ensures.grows)
 
 pub queries::evaluate_rounds-returns-in_err-ended : goal.queries::evaluate_rounds-returns-in_err-ended
 queries::evaluate_rounds-returns-in_err-ended g t c =
     let i = c.loop-round.invariant in
-    let limit : c.loop-round.round + 1 ≤ c.loop-round.cx.round_limit = rw i.grows.rest.rounds (omega (arith, c.loop-round-test.true, c.round_limit-round-end.ensures)) in
-    let noted = search_noted {a = c.args.cx.now} {b = c.loop-round.cx} {g = c.args.graph.now} {h = c.loop-round.graph} {i = c.note_round.new.self} (c.args.depth + 1) (c.loop-round.round + 1) c.requires.search i.searches limit c.note_round.ensures in
-    query_failed c.from_residual-in_err-ended.result (search rules) (search rules) (grown c.loop-round.invariant.grows c.evaluate_round.ensures.grows) (Searches-trans noted c.evaluate_round.ensures.searches)
+    query_failed c.from_residual-in_err-ended.result (search rules) (search rules) (grown c.loop-round.invariant.grows c.evaluate_round.ensures.grows) (Searches-trans i.searches c.evaluate_round.ensures.searches)
 
 pub queries::evaluate_rounds-returns-in_err-asked-2 : goal.queries::evaluate_rounds-returns-in_err-asked-2
 queries::evaluate_rounds-returns-in_err-asked-2 g t c =
     let i = c.loop-round.invariant in
-    let limit : c.loop-round.round + 1 ≤ c.loop-round.cx.round_limit = rw i.grows.rest.rounds (omega (arith, c.loop-round-test.true, c.round_limit-round-end.ensures)) in
-    let noted = search_noted {a = c.args.cx.now} {b = c.loop-round.cx} {g = c.args.graph.now} {h = c.loop-round.graph} {i = c.note_round.new.self} (c.args.depth + 1) (c.loop-round.round + 1) c.requires.search i.searches limit c.note_round.ensures in
-    query_failed c.from_residual-in_err-asked-2.result (search rules) (search rules) (search rules) (Searches-trans noted c.in_ok-ended.ensures.searches)
+    query_failed c.from_residual-in_err-asked-2.result (search rules) (search rules) (search rules) (Searches-trans i.searches c.in_ok-ended.ensures.searches)
 
 pub queries::evaluate_rounds-returns-then-round_is_last : goal.queries::evaluate_rounds-returns-then-round_is_last
 queries::evaluate_rounds-returns-then-round_is_last = queries.queries::evaluate_rounds-returns-then-round_is_last
@@ -589,8 +587,6 @@ queries::evaluate_rounds-round_is_last-requires-clause-answer = queries.queries:
 pub queries::evaluate_rounds-round_is_last-requires-clause-entry : goal.queries::evaluate_rounds-round_is_last-requires-clause-entry
 queries::evaluate_rounds-round_is_last-requires-clause-entry g t c =
     let i = c.loop-round.invariant in
-    let limit : c.loop-round.round + 1 ≤ c.loop-round.cx.round_limit = rw i.grows.rest.rounds (omega (arith, c.loop-round-test.true, c.round_limit-round-end.ensures)) in
-    let noted = search_noted {a = c.args.cx.now} {b = c.loop-round.cx} {g = c.args.graph.now} {h = c.loop-round.graph} {i = c.note_round.new.self} (c.args.depth + 1) (c.loop-round.round + 1) c.requires.search i.searches limit c.note_round.ensures in
     let e = c.in_ok-ended.ensures in
     rw c.deref.ensures (entry_held c.args.cx.now.nodes c.loop-round.cx.nodes c.evaluate_round.new.cx.nodes c.args.input.value c.loop-round.asked.value.input c.loop-round.asked.value.provisional c.in_ok-ended.ended.value.entry (Extends-trans i.grows.extends e.grows.extends) e.grows.extends i.input c.requires.input i.fits e.entry.0 e.entry.2)
 

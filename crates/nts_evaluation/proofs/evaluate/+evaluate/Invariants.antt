@@ -6,6 +6,8 @@ use Rattle.nts_terms.specs.Rest.{Grows}
 use Rattle.nts_certainty.specs.declared.certainty.Certainty.TheVariants as certainty
 use Rattle.nts_meaning.specs.Meant.{AreOffered, IsServedSince, IsNestedSince, HaveOutcomes, ReachesBy}
 use Rattle.nts_meaning.specs.Searching.{Searches, IsHeadAnswer, IsAnswerTold, assumed_in}
+use Rattle.nts_asking.specs.Rounds.{rounds_before}
+use Rattle.nts_search.specs.Searching.{counted_inputs, counted_rounds}
 use Rattle.nts_search.specs.Kinds.{goal_kind_of}
 use Rattle.nts_canonical.specs.Building.{kinds_of}
 use Rattle.nts_canonical.specs.Forms.{form_of, trees_of}
@@ -84,7 +86,8 @@ abbrev pub invariant-queries::evaluate_rounds-loop-round : goal.invariant-querie
 invariant-queries::evaluate_rounds-loop-round g l = record {
   grows : Grows l.fn.cx l.cx;
   searches : Searches l.fn.cx l.cx l.fn.graph l.graph;
-  counted : 0 < l.round → (0 < l.graph.most_rounds) × (length l.fn.graph.stack.items < l.graph.most_inputs);
+  before : rounds_before l.asked.value ≡ l.round;
+  counted : 0 < l.round → (0 < counted_rounds l.graph) × (length l.fn.graph.stack.items < counted_inputs l.graph);
   input : l.asked.value.input ≡ l.fn.input.value;
   fits : IsHeadAnswer l.cx.nodes (kinds_of l.fn.input.value) l.asked.value.provisional;
   told : WhereTold (rules_of g.H.GoalHandler.ready g.H.GoalHandler.handler l.handler) l.fn.cx l.fn.graph (λ m. IsAnswerTold m (mode_of l.fn.input.value.typing_mode) l.cx.nodes (form_of l.fn.cx.nodes l.fn.input.value) l.asked.value.provisional);

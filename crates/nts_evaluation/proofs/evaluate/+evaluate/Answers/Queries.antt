@@ -21,13 +21,14 @@ use Rattle.nts_theory.proofs.Derivations.Assuming.{covers_passed}
 use Rattle.nts_search.specs.Searching.{entry_at, entries_at}
 use Rattle.nts_search.proofs.Stacked.{entries_popped}
 use Rattle.nts_meaning.specs.Searching.{IsAnswerTold, IsHeadAnswer, assumed_in}
-use Rattle.nts_meaning.proofs.Searching.{Searches-refl, Searches-trans, search_later, search_grown, search_grows, covers_grown, stays_more, tell_grown, heads_tell_later, search_unmarked, round_counted, form_later}
+use Rattle.nts_meaning.proofs.Searching.{Searches-refl, Searches-trans, search_later, search_grown, search_grows, covers_grown, stays_more, tell_grown, heads_tell_later, search_unmarked, form_later}
 use Rattle.nts_search.specs.declared.stack.StackEntry.{StackEntry}
 use Rattle.nts_model.specs.Searching.Stacks.{IsDerivedFrom, IsProvedFrom, assumptions}
 use Rattle.nts_trying.specs.Found.{Found}
 use Rattle.nts_model.specs.Answers.Responses.{answer_sequent}
-use Rattle.nts_meaning.proofs.Rounds.{search_noted, own_asked, own_form, round_proved, round_told, grown, ran, search_then, entry_of, holds_answer, search_pushed, tell_pushed, search_popped, round_closes, last_fits, last_told, last_refuted, last_each, first_fits, first_told, round_ends, ended_entry}
-use Rattle.nts_meaning.specs.declared.round.Round.{Round}
+use Rattle.nts_meaning.proofs.Rounds.{own_asked, own_form, round_proved, round_told, grown, ran, search_then, entry_of, holds_answer, search_pushed, tell_pushed, search_popped, round_closes, last_fits, last_told, last_refuted, last_each, round_ends}
+use Rattle.nts_asking.specs.Rounds.{rounds_before}
+use Rattle.nts_asking.proofs.Rounds.{first_fits, first_told, ended_entry}
 use Rattle.nts_certainty.specs.declared.certainty.Certainty.TheVariants as certainty
 use Rattle.nts_table.specs.TableLaws.{IsTable-extended}
 use Rattle.nts_decisions.proofs.UnchangedAnswers.{own_granted}
@@ -36,7 +37,7 @@ use Rattle.nts_evaluation.proofs.Entered.{is_entered, entered_before}
 use Rattle.nts_evaluation.proofs.Deciding.{decides_grown, decides_later, same_search, then_same}
 use Rattle.nts_evaluation.proofs.DecidedTrials.{formed_before}
 use Rattle.nts_evaluation.proofs.DecidedQueries.{its_kinds, decided_there}
-use Rattle.nts_evaluation.proofs.DecidedRounds.{pushed_above, own_there, ended_decided, ended_fact, last_decided, applied_decided, as_query, originals_long, only_counted, round_query}
+use Rattle.nts_evaluation.proofs.DecidedRounds.{pushed_above, own_there, ended_decided, ended_fact, last_decided, applied_decided, as_query, originals_long, round_query}
 use Rattle.nts_meaning.proofs.Searching.{nothing_stands}
 use Rattle.nts_evaluation.proofs.FactQueries.{fact_begun, nothing_above, round_fact, fact_query, last_fact, applied_fact}
 use Rattle.nts_evaluation.proofs.evaluate.+evaluate.Goals as goal
@@ -119,7 +120,7 @@ queries::evaluate_round-compute_goal-response-requires g t c =
             g.met.H.GoalHandler.ready_kept _ _ _ c.requires.ready k.grows.extends,
             (
               rw (c.deref_mut.ensures.value, c.deref-2.ensures.value) x.args,
-              search_pushed c.args.depth c.args.asked.value.input c.args.step c.args.asked.value.provisional c.requires.search k.grows c.requires.input c.requires.provisional c.in_ok-push_query.ensures.pushed c.in_ok-push_query.ensures.kept c.push_query.ensures.rest,
+              search_pushed c.args.depth (rounds_before c.args.asked.value + 1) c.args.asked.value.input c.args.step c.args.asked.value.provisional c.requires.search (let limit = c.requires.limit in omega (arith, limit)) k.grows c.requires.input c.requires.provisional c.in_ok-push_query.ensures.pushed c.in_ok-push_query.ensures.kept c.push_query.ensures.rest,
             ),
           ),
         ),
@@ -129,7 +130,7 @@ queries::evaluate_round-compute_goal-response-requires g t c =
 pub queries::evaluate_round-returns : goal.queries::evaluate_round-returns
 queries::evaluate_round-returns g t c =
     let k = c.in_ok-table.ensures in
-    let own = entry_of c.args.asked.value.input c.args.step c.args.asked.value.provisional c.in_ok-push_query.ensures.pushed.0 in
+    let own = entry_of c.args.asked.value.input c.args.step c.args.asked.value.provisional (rounds_before c.args.asked.value + 1) c.in_ok-push_query.ensures.pushed.0 in
     let off = c.end_round.ensures.off in
     let taken = off.1 in
     let x = rw c.deref.ensures at k.begins in
@@ -147,13 +148,16 @@ queries::evaluate_round-returns g t c =
     record {
       grows = grown c.in_ok-table.ensures.grows c.compute_goal-response.ensures.grows;
       searches =
-          let popped = search_popped {a = c.args.cx.now} {b = c.query_table.new.cx} {c = c.compute_goal-response.new.cx} {g = c.args.graph.now} {h = c.push_query.new.graph} {i = c.compute_goal-response.new.graph} {j = c.end_round.new.graph} own off.0 c.in_ok-push_query.ensures.pushed.1 c.push_query.ensures.rest c.compute_goal-response.ensures.searches taken.popped taken.kept taken.rest in
+          let popped = search_popped {a = c.args.cx.now} {b = c.query_table.new.cx} {c = c.compute_goal-response.new.cx} {g = c.args.graph.now} {h = c.push_query.new.graph} {i = c.compute_goal-response.new.graph} {j = c.end_round.new.graph} (rounds_before c.args.asked.value + 1) own off.0 c.in_ok-push_query.ensures.pushed.1 c.push_query.ensures.rest c.compute_goal-response.ensures.searches taken.popped taken.kept taken.rest in
           popped.searches;
-      entered =
-          let pushed = search_pushed c.args.depth c.args.asked.value.input c.args.step c.args.asked.value.provisional c.requires.search k.grows c.requires.input c.requires.provisional c.in_ok-push_query.ensures.pushed c.in_ok-push_query.ensures.kept c.push_query.ensures.rest in
-          IfOk-map c.end_round.result (λ w ends. is_entered c.args.depth c.args.graph.now c.end_round.new.graph own pushed c.in_ok-push_query.ensures.pushed.1 c.compute_goal-response.ensures.searches taken.rest) c.end_round.ensures.answer;
+      counted =
+          let limit = c.requires.limit in
+          let pushed = search_pushed c.args.depth (rounds_before c.args.asked.value + 1) c.args.asked.value.input c.args.step c.args.asked.value.provisional c.requires.search (omega (arith, limit)) k.grows c.requires.input c.requires.provisional c.in_ok-push_query.ensures.pushed c.in_ok-push_query.ensures.kept c.push_query.ensures.rest in
+          let popped = search_popped {a = c.args.cx.now} {b = c.query_table.new.cx} {c = c.compute_goal-response.new.cx} {g = c.args.graph.now} {h = c.push_query.new.graph} {i = c.compute_goal-response.new.graph} {j = c.end_round.new.graph} (rounds_before c.args.asked.value + 1) own off.0 c.in_ok-push_query.ensures.pushed.1 c.push_query.ensures.rest c.compute_goal-response.ensures.searches taken.popped taken.kept taken.rest in
+          let counted = popped.counted in
+          IfOk-map c.end_round.result (λ w ends. (omega (arith, counted), is_entered c.args.depth c.args.graph.now c.end_round.new.graph own pushed c.in_ok-push_query.ensures.pushed.1 c.compute_goal-response.ensures.searches taken.rest)) c.end_round.ensures.answer;
       entry =
-          let popped = search_popped {a = c.args.cx.now} {b = c.query_table.new.cx} {c = c.compute_goal-response.new.cx} {g = c.args.graph.now} {h = c.push_query.new.graph} {i = c.compute_goal-response.new.graph} {j = c.end_round.new.graph} own off.0 c.in_ok-push_query.ensures.pushed.1 c.push_query.ensures.rest c.compute_goal-response.ensures.searches taken.popped taken.kept taken.rest in
+          let popped = search_popped {a = c.args.cx.now} {b = c.query_table.new.cx} {c = c.compute_goal-response.new.cx} {g = c.args.graph.now} {h = c.push_query.new.graph} {i = c.compute_goal-response.new.graph} {j = c.end_round.new.graph} (rounds_before c.args.asked.value + 1) own off.0 c.in_ok-push_query.ensures.pushed.1 c.push_query.ensures.rest c.compute_goal-response.ensures.searches taken.popped taken.kept taken.rest in
           ended_entry own off.0 c.end_round.result popped.entry off.2;
       fits =
           IfOk-map c.end_round.result
@@ -178,7 +182,7 @@ queries::evaluate_round-returns g t c =
           (λ no. tt)) off.2 c.end_round.ensures.answer;
       told = λ s tells told.
           let h = ruling_since (λ ts. g.H.GoalHandler.handler ts c.args.handler.now) s in
-          let before = (tell_pushed c.push_query.new.graph (ruling_since (λ ts. g.H.GoalHandler.handler ts c.args.handler.now) s) (c.args.depth + 1) c.args.asked.value.input c.args.step c.args.asked.value.provisional c.requires.search k.grows c.requires.input c.requires.provisional c.in_ok-push_query.ensures.pushed tells told) in
+          let before = (tell_pushed c.push_query.new.graph (ruling_since (λ ts. g.H.GoalHandler.handler ts c.args.handler.now) s) (c.args.depth + 1) (rounds_before c.args.asked.value + 1) c.args.asked.value.input c.args.step c.args.asked.value.provisional c.requires.search k.grows c.requires.input c.requires.provisional c.in_ok-push_query.ensures.pushed tells told) in
           IfOk-map c.end_round.result
           (λ w ends. round_ends (IsAnswerTold h mode c.compute_goal-response.new.cx.nodes f) c.compute_goal-response.result w.value.answer ends
           (λ r is. rw (x.first, x.environment, x.predicate, x.values, x.mode) at ((rw (c.deref_mut.ensures.value, c.deref-2.ensures.value, is) at (c.compute_goal-response.ensures.told (Since-later k.grows s) before)) (kinds_of c.args.asked.value.input)))
@@ -196,27 +200,25 @@ queries::evaluate_round-returns g t c =
           let rest = c.push_query.ensures.rest in
           let ready : CanDecide h c.query_table.new.cx c.push_query.new.graph d.0 c.args.depth = record { deep = up.deep; above = above; unmarked = rest.has_overflowed ∙ up.unmarked; steps = up.steps; rounds = up.rounds; tight = up.tight; fair = up.fair } in
           let y = c.compute_goal-response.ensures.decided (Since-later k.grows s) d.0 j (rw (c.deref_mut.ensures.value, c.deref-2.ensures.value) (there.query, rw x.mode there.decided)) ready in
-          ended_decided j z ks c.args.graph.now c.push_query.new.graph c.compute_goal-response.new.graph c.end_round.new.graph own off.0 c.in_ok-push_query.ensures.pushed.1 c.push_query.ensures.rest refl off.1 c.compute_goal-response.result c.end_round.result off.2 c.end_round.ensures.answer
+          ended_decided j z ks c.args.graph.now c.push_query.new.graph c.compute_goal-response.new.graph c.end_round.new.graph own off.0 c.in_ok-push_query.ensures.pushed.1 rest.has_overflowed refl off.1 c.compute_goal-response.result c.end_round.result off.2 c.end_round.ensures.answer
           (IfOk-map c.compute_goal-response.result (λ r f. own_there _ _ ks (response_at z r.value) (its_kinds h law mode d.0 j a b input table asked c.in_ok-table.values.items over x formed d.2) (x.values) (f.says)) (rw (c.deref_mut.ensures.value, c.deref-2.ensures.value) at c.compute_goal-response.ensures.found)) y;
       facts = λ s tells told f can.
           let h = g.H.GoalHandler.handler s.base c.args.handler.now in
           let ruled = ruling_since (λ ts. g.H.GoalHandler.handler ts c.args.handler.now) s in
-          let before = (tell_pushed c.push_query.new.graph ruled (c.args.depth + 1) c.args.asked.value.input c.args.step c.args.asked.value.provisional c.requires.search k.grows c.requires.input c.requires.provisional c.in_ok-push_query.ensures.pushed tells told) in
+          let before = (tell_pushed c.push_query.new.graph ruled (c.args.depth + 1) (rounds_before c.args.asked.value + 1) c.args.asked.value.input c.args.step c.args.asked.value.provisional c.requires.search k.grows c.requires.input c.requires.provisional c.in_ok-push_query.ensures.pushed tells told) in
           let rest = c.push_query.ensures.rest in
           let up = decides_grown c.requires.search k.grows can in
           let ready : CanDecide h c.query_table.new.cx c.push_query.new.graph 0 c.args.depth = record { deep = omega arith; above = nothing_above h b c.push_query.new.graph; unmarked = rest.has_overflowed ∙ up.unmarked; steps = up.steps; rounds = up.rounds; tight = up.tight; fair = up.fair } in
           let formed = formed_before b z c.compute_goal-response.ensures.grows.extends c.terms_are_formed.ensures in
           let fact = fact_begun h a b input table asked c.in_ok-table.values.items over x formed f in
           let y = c.compute_goal-response.ensures.facts (Since-later k.grows s) before (rw (c.deref_mut.ensures.value, c.deref-2.ensures.value) fact) ready in
-          ended_fact true z ks c.args.graph.now c.push_query.new.graph c.compute_goal-response.new.graph c.end_round.new.graph own off.0 c.in_ok-push_query.ensures.pushed.1 c.push_query.ensures.rest refl off.1 c.compute_goal-response.result c.end_round.result off.2 c.end_round.ensures.answer y;
+          ended_fact true z ks c.args.graph.now c.push_query.new.graph c.compute_goal-response.new.graph c.end_round.new.graph own off.0 c.in_ok-push_query.ensures.pushed.1 rest.has_overflowed refl off.1 c.compute_goal-response.result c.end_round.result off.2 c.end_round.ensures.answer y;
     }
 
 pub queries::evaluate_rounds-evaluate_round-requires : goal.queries::evaluate_rounds-evaluate_round-requires
 queries::evaluate_rounds-evaluate_round-requires g t c =
     λ κs k.
-    let i = c.loop-round.invariant in
-    let limit : c.loop-round.round + 1 ≤ c.loop-round.cx.round_limit = rw i.grows.rest.rounds (omega (arith, c.loop-round-test.true, c.round_limit-round-end.ensures)) in
-    let noted = search_noted {a = c.args.cx.now} {b = c.loop-round.cx} {g = c.args.graph.now} {h = c.loop-round.graph} {i = c.note_round.new.self} (c.args.depth + 1) (c.loop-round.round + 1) c.requires.search i.searches limit c.note_round.ensures in (
+    let i = c.loop-round.invariant in (
       omega (arith, c.decreases),
       (
         k,
@@ -225,8 +227,11 @@ queries::evaluate_rounds-evaluate_round-requires g t c =
           (
             rw i.input i.fits,
             (
-              g.met.H.GoalHandler.ready_kept _ _ _ c.requires.ready i.grows.extends,
-              search_later (c.args.depth + 1) (c.args.depth + 1) (omega arith) c.requires.search noted,
+              (let before = i.before in rw i.grows.rest.rounds (omega (arith, before, c.loop-round-test.true, c.round_limit-round-end.ensures))),
+              (
+                g.met.H.GoalHandler.ready_kept _ _ _ c.requires.ready i.grows.extends,
+                search_later (c.args.depth + 1) (c.args.depth + 1) (omega arith) c.requires.search i.searches,
+              ),
             ),
           ),
         ),
@@ -241,6 +246,7 @@ queries::evaluate_rounds-loop-round-init g t c =
       grows = u.grows;
       searches = Searches-refl (c.args.depth + 1) c.requires.search u.grows;
       counted = λ some. absurd (omega (arith, some));
+      before = first.before;
       input = first.input;
       fits = first_fits c.first_round.new.cx.nodes c.args.input.value c.in_ok-asked.asked.value first;
       told = λ s tells. first_told (ruling_since (λ ts. g.H.GoalHandler.handler ts c.args.handler.now) s) (mode_of c.args.input.value.typing_mode) c.first_round.new.cx.nodes (form_of c.args.cx.now.nodes c.args.input.value) c.args.input.value c.in_ok-asked.asked.value refl first;
@@ -252,8 +258,6 @@ queries::evaluate_rounds-loop-round-init g t c =
 pub queries::evaluate_rounds-loop-round-preserved : goal.queries::evaluate_rounds-loop-round-preserved
 queries::evaluate_rounds-loop-round-preserved g t c =
     let i = c.loop-round.invariant in
-    let limit : c.loop-round.round + 1 ≤ c.loop-round.cx.round_limit = rw i.grows.rest.rounds (omega (arith, c.loop-round-test.true, c.round_limit-round-end.ensures)) in
-    let noted = search_noted {a = c.args.cx.now} {b = c.loop-round.cx} {g = c.args.graph.now} {h = c.loop-round.graph} {i = c.note_round.new.self} (c.args.depth + 1) (c.loop-round.round + 1) c.requires.search i.searches limit c.note_round.ensures in
     let e = c.in_ok-ended.ensures in
     let z = c.evaluate_round.new.cx.nodes in
     let x = c.in_ok-ended.ended.value.entry in
@@ -262,39 +266,36 @@ queries::evaluate_rounds-loop-round-preserved g t c =
     let next = c.in_ok-asked-2.ensures in
     record {
       grows = grown i.grows e.grows;
-      searches = Searches-trans noted e.searches;
-      counted = λ some. (round_counted c.loop-round.graph c.note_round.new.self (c.loop-round.round + 1) c.note_round.ensures (omega arith) e.searches, entered_before c.args.graph.now noted e.entered);
-      input = ap (λ (y : Round). y.input) next ∙ e.entry.0 ∙ i.input;
-      fits = subst (λ (y : Round). IsHeadAnswer c.evaluate_round.new.cx.nodes (kinds_of c.args.input.value) y.provisional) (sym next) fits;
+      searches = Searches-trans i.searches e.searches;
+      before = (let before = i.before in let was = e.entry.3 in next.before ∙ omega (arith, was, before));
+      counted = λ some. (let counted = e.counted.0 in omega (arith, counted), entered_before c.args.graph.now i.searches e.counted.1);
+      input = next.input ∙ e.entry.0 ∙ i.input;
+      fits = subst (IsHeadAnswer c.evaluate_round.new.cx.nodes (kinds_of c.args.input.value)) (sym next.answer) fits;
       told = λ s tells.
           let h = ruling_since (λ ts. g.H.GoalHandler.handler ts c.args.handler.now) s in
           let mode = mode_of c.args.input.value.typing_mode in
-          let later = heads_tell_later h (c.args.depth + 1) c.requires.search i.grows.extends noted tells in
+          let later = heads_tell_later h (c.args.depth + 1) c.requires.search i.grows.extends i.searches tells in
           let before = round_told h c.loop-round.cx.nodes c.args.input.value c.loop-round.asked.value.input (form_of c.args.cx.now.nodes c.args.input.value) (form_of c.loop-round.cx.nodes c.loop-round.asked.value.input) c.loop-round.asked.value.provisional (sym i.input) (sym form) (i.told s tells) in
           let told = round_told h z c.loop-round.asked.value.input c.args.input.value (form_of c.loop-round.cx.nodes c.loop-round.asked.value.input) (form_of c.args.cx.now.nodes c.args.input.value) c.in_ok-ended.ended.value.answer i.input form (e.told (Since-later i.grows s) later before) in
-          subst (λ (y : Round). IsAnswerTold h mode z (form_of c.args.cx.now.nodes c.args.input.value) y.provisional) (sym next) told;
+          subst (IsAnswerTold h mode z (form_of c.args.cx.now.nodes c.args.input.value)) (sym next.answer) told;
       first = λ none. absurd (omega (arith, none));
       decided = λ s n b d can.
           let first = i.first (i.decided s n b d can) in
-          let same = then_same first (only_counted c.note_round.ensures) in
-          let ended = e.decided (Since-later i.grows s) n b (round_query c.args.cx.now.nodes c.loop-round.cx.nodes c.args.input.value c.loop-round.asked.value.input n b i.input form d) (decides_later n (c.args.depth + 1) c.requires.search i.grows same (omega arith) can.deep can) in
+          let ended = e.decided (Since-later i.grows s) n b (round_query c.args.cx.now.nodes c.loop-round.cx.nodes c.args.input.value c.loop-round.asked.value.input n b i.input form d) (decides_later n (c.args.depth + 1) c.requires.search i.grows first (omega arith) can.deep can) in
           absurd (let last = c.round_is_last.ensures.1 (inl (rw c.deref.ensures ended.0)) in let more = c.if-round_is_last.false in cc (last, more));
       facts = λ s tells f can.
           let h = g.H.GoalHandler.handler s.base c.args.handler.now in
           let ruled = ruling_since (λ ts. g.H.GoalHandler.handler ts c.args.handler.now) s in
           let first = i.first (i.facts s tells f can) in
-          let same = then_same first (only_counted c.note_round.ensures) in
-          let later = heads_tell_later ruled (c.args.depth + 1) c.requires.search i.grows.extends noted tells in
+          let later = heads_tell_later ruled (c.args.depth + 1) c.requires.search i.grows.extends i.searches tells in
           let before = round_told ruled c.loop-round.cx.nodes c.args.input.value c.loop-round.asked.value.input (form_of c.args.cx.now.nodes c.args.input.value) (form_of c.loop-round.cx.nodes c.loop-round.asked.value.input) c.loop-round.asked.value.provisional (sym i.input) (sym form) (i.told s tells) in
-          let ended = e.facts (Since-later i.grows s) later before (round_fact h c.args.cx.now.nodes c.loop-round.cx.nodes c.args.input.value c.loop-round.asked.value.input i.input form f) (decides_later 0 (c.args.depth + 1) c.requires.search i.grows same (omega arith) can.deep can) in
+          let ended = e.facts (Since-later i.grows s) later before (round_fact h c.args.cx.now.nodes c.loop-round.cx.nodes c.args.input.value c.loop-round.asked.value.input i.input form f) (decides_later 0 (c.args.depth + 1) c.requires.search i.grows first (omega arith) can.deep can) in
           absurd (let last = c.round_is_last.ensures.1 (inl (rw c.deref.ensures ended.0)) in let more = c.if-round_is_last.false in cc (last, more));
     }
 
 pub queries::evaluate_rounds-returns-then-round_is_last : goal.queries::evaluate_rounds-returns-then-round_is_last
 queries::evaluate_rounds-returns-then-round_is_last g t c =
     let i = c.loop-round.invariant in
-    let limit : c.loop-round.round + 1 ≤ c.loop-round.cx.round_limit = rw i.grows.rest.rounds (omega (arith, c.loop-round-test.true, c.round_limit-round-end.ensures)) in
-    let noted = search_noted {a = c.args.cx.now} {b = c.loop-round.cx} {g = c.args.graph.now} {h = c.loop-round.graph} {i = c.note_round.new.self} (c.args.depth + 1) (c.loop-round.round + 1) c.requires.search i.searches limit c.note_round.ensures in
     let e = c.in_ok-ended.ensures in
     let z = c.evaluate_round.new.cx.nodes in
     let x = c.in_ok-ended.ended.value.entry in
@@ -303,8 +304,8 @@ queries::evaluate_rounds-returns-then-round_is_last g t c =
     let mode = mode_of c.args.input.value.typing_mode in
     record {
       grows = grown c.loop-round.invariant.grows c.in_ok-ended.ensures.grows;
-      searches = Searches-trans noted e.searches;
-      counted = λ none limit answered. (round_counted c.loop-round.graph c.note_round.new.self (c.loop-round.round + 1) c.note_round.ensures (omega arith) e.searches, entered_before c.args.graph.now noted e.entered);
+      searches = Searches-trans i.searches e.searches;
+      counted = λ none limit answered. (let counted = e.counted.0 in omega (arith, counted), entered_before c.args.graph.now i.searches e.counted.1);
       fits = last_fits c.in_ok-ended.ended.value.answer c.last_answer.result c.last_answer.ensures.some c.last_answer.ensures.none z (kinds_of c.args.input.value) fits;
       proved = λ s.
           let m = meaning_since (λ ts. g.H.GoalHandler.handler ts c.args.handler.now) s in
@@ -316,38 +317,34 @@ queries::evaluate_rounds-returns-then-round_is_last g t c =
           (form_later c.args.cx.now.nodes z c.args.input.value (Extends-trans i.grows.extends e.grows.extends) c.requires.input) last sure derived);
       told = λ s tells.
           let h = ruling_since (λ ts. g.H.GoalHandler.handler ts c.args.handler.now) s in
-          let later = heads_tell_later h (c.args.depth + 1) c.requires.search i.grows.extends noted tells in
+          let later = heads_tell_later h (c.args.depth + 1) c.requires.search i.grows.extends i.searches tells in
           let before = round_told h c.loop-round.cx.nodes c.args.input.value c.loop-round.asked.value.input (form_of c.args.cx.now.nodes c.args.input.value) (form_of c.loop-round.cx.nodes c.loop-round.asked.value.input) c.loop-round.asked.value.provisional (sym i.input) (sym form) (i.told s tells) in
           let told = round_told h z c.loop-round.asked.value.input c.args.input.value (form_of c.loop-round.cx.nodes c.loop-round.asked.value.input) (form_of c.args.cx.now.nodes c.args.input.value) c.in_ok-ended.ended.value.answer i.input form (e.told (Since-later i.grows s) later before) in
           last_told c.in_ok-ended.ended.value.answer c.last_answer.result c.last_answer.ensures.some c.last_answer.ensures.none h mode z (form_of c.args.cx.now.nodes c.args.input.value) told;
       refuted = λ s tells no.
           let h = ruling_since (λ ts. g.H.GoalHandler.handler ts c.args.handler.now) s in
-          let later = heads_tell_later h (c.args.depth + 1) c.requires.search i.grows.extends noted tells in
+          let later = heads_tell_later h (c.args.depth + 1) c.requires.search i.grows.extends i.searches tells in
           let before = round_told h c.loop-round.cx.nodes c.args.input.value c.loop-round.asked.value.input (form_of c.args.cx.now.nodes c.args.input.value) (form_of c.loop-round.cx.nodes c.loop-round.asked.value.input) c.loop-round.asked.value.provisional (sym i.input) (sym form) (i.told s tells) in
           let told = round_told h z c.loop-round.asked.value.input c.args.input.value (form_of c.loop-round.cx.nodes c.loop-round.asked.value.input) (form_of c.args.cx.now.nodes c.args.input.value) c.in_ok-ended.ended.value.answer i.input form (e.told (Since-later i.grows s) later before) in
           inl (last_refuted c.in_ok-ended.ended.value.answer c.last_answer.result c.last_answer.ensures.some c.last_answer.ensures.none h mode z (form_of c.args.cx.now.nodes c.args.input.value) told no);
       decided = λ s n b d can.
           let first = i.first (i.decided s n b d can) in
-          let same = then_same first (only_counted c.note_round.ensures) in
-          let ended = e.decided (Since-later i.grows s) n b (round_query c.args.cx.now.nodes c.loop-round.cx.nodes c.args.input.value c.loop-round.asked.value.input n b i.input form d) (decides_later n (c.args.depth + 1) c.requires.search i.grows same (omega arith) can.deep can) in
+          let ended = e.decided (Since-later i.grows s) n b (round_query c.args.cx.now.nodes c.loop-round.cx.nodes c.args.input.value c.loop-round.asked.value.input n b i.input form d) (decides_later n (c.args.depth + 1) c.requires.search i.grows first (omega arith) can.deep can) in
           last_decided b z (kinds_of c.args.input.value) c.in_ok-ended.ended.value.answer c.last_answer.result c.last_answer.ensures.some c.last_answer.ensures.none
-          (subst (λ w. IsRoundDecided b z (kinds_of w) c.in_ok-ended.ended.value.answer) i.input ended.1) (then_same same ended.2);
+          (subst (λ w. IsRoundDecided b z (kinds_of w) c.in_ok-ended.ended.value.answer) i.input ended.1) (then_same first ended.2);
       facts = λ s tells f none can.
           let h = g.H.GoalHandler.handler s.base c.args.handler.now in
           let ruled = ruling_since (λ ts. g.H.GoalHandler.handler ts c.args.handler.now) s in
           let first = i.first (i.facts s tells f can) in
-          let same = then_same first (only_counted c.note_round.ensures) in
-          let later = heads_tell_later ruled (c.args.depth + 1) c.requires.search i.grows.extends noted tells in
+          let later = heads_tell_later ruled (c.args.depth + 1) c.requires.search i.grows.extends i.searches tells in
           let before = round_told ruled c.loop-round.cx.nodes c.args.input.value c.loop-round.asked.value.input (form_of c.args.cx.now.nodes c.args.input.value) (form_of c.loop-round.cx.nodes c.loop-round.asked.value.input) c.loop-round.asked.value.provisional (sym i.input) (sym form) (i.told s tells) in
-          let ended = e.facts (Since-later i.grows s) later before (round_fact h c.args.cx.now.nodes c.loop-round.cx.nodes c.args.input.value c.loop-round.asked.value.input i.input form f) (decides_later 0 (c.args.depth + 1) c.requires.search i.grows same (omega arith) can.deep can) in
-          last_fact c.in_ok-ended.ended.value.answer c.last_answer.result c.last_answer.ensures.some ended.1 (then_same same ended.2);
+          let ended = e.facts (Since-later i.grows s) later before (round_fact h c.args.cx.now.nodes c.loop-round.cx.nodes c.args.input.value c.loop-round.asked.value.input i.input form f) (decides_later 0 (c.args.depth + 1) c.requires.search i.grows first (omega arith) can.deep can) in
+          last_fact c.in_ok-ended.ended.value.answer c.last_answer.result c.last_answer.ensures.some ended.1 (then_same first ended.2);
     }
 
 pub queries::evaluate_rounds-round_is_last-requires-clause-answer : goal.queries::evaluate_rounds-round_is_last-requires-clause-answer
 queries::evaluate_rounds-round_is_last-requires-clause-answer g t c =
     let i = c.loop-round.invariant in
-    let limit : c.loop-round.round + 1 ≤ c.loop-round.cx.round_limit = rw i.grows.rest.rounds (omega (arith, c.loop-round-test.true, c.round_limit-round-end.ensures)) in
-    let noted = search_noted {a = c.args.cx.now} {b = c.loop-round.cx} {g = c.args.graph.now} {h = c.loop-round.graph} {i = c.note_round.new.self} (c.args.depth + 1) (c.loop-round.round + 1) c.requires.search i.searches limit c.note_round.ensures in
     let e = c.in_ok-ended.ensures in
     let z = c.evaluate_round.new.cx.nodes in
     let x = c.in_ok-ended.ended.value.entry in
