@@ -5,12 +5,15 @@ use crate::asking::Answer::{Is, NotAdmitted, Refused};
 use crate::asking::Asked::{self, Constraints, Constructs, Goal, Resolves};
 use crate::asking::DOUBT;
 use crate::asking::Wanted::{Alias, Plain, Subtype};
+use crate::steps::Condition::{AliasIs, Holds};
 use crate::steps::Given::{self, Let, Trait};
 use crate::steps::{By, Of, Part, Rule, plays};
 use nts_certainty::{Certainty, HasChanged};
 use nts_fixtures::{BYTE, Make, Type, WORD};
 use nts_model::{Sort, VariableKind};
 use nts_terms::{RegionKind, TypingMode};
+use std::alloc::Global;
+use std::process::Abort;
 
 const YES: Certainty = Certainty::Yes;
 
@@ -93,12 +96,12 @@ fn an_alias_is_what_it_normalizes_to(rt: HostRuntime) {
 fn a_clause_of_an_alias_has_a_condition(rt: HostRuntime) {
     const HOLDS: &[Rule] = &[Rule(&[], Of(0, &["byte"]), None)];
     const ONE: &[Norm] = &[
-        Norm(&[], "byte", "word", Some(Of(0, &["byte"]))),
-        Norm(&[], "byte", "byte", Some(Of(0, &["word"]))),
+        Norm(&[], "byte", "word", Some(Holds(Of(0, &["byte"])))),
+        Norm(&[], "byte", "byte", Some(Holds(Of(0, &["word"])))),
     ];
     const BOTH: &[Norm] = &[
-        Norm(&[], "byte", "word", Some(Of(0, &["byte"]))),
-        Norm(&[], "byte", "byte", Some(Of(0, &["byte"]))),
+        Norm(&[], "byte", "word", Some(Holds(Of(0, &["byte"])))),
+        Norm(&[], "byte", "byte", Some(Holds(Of(0, &["byte"])))),
     ];
     const REFUSED: &[Asked] = &[Goal(Alias(Equal("alias", "word")), Refused)];
     const DOUBTED: &[Asked] = &[
@@ -116,6 +119,52 @@ fn a_clause_of_an_alias_has_a_condition(rt: HostRuntime) {
         Part(By::Aliases(ONE), HOLDS, FOUND),
     ];
     plays(&rt, rt.alloc(), TypingMode::PostAnalysis, GIVEN, PARTS);
+}
+
+/// .. which may say what another alias is. Where that is a position of the rule alone, it gets its value from there.
+#[test]
+fn a_condition_may_say_what_an_alias_is(rt: HostRuntime) {
+    conditions_on_aliases(&rt, rt.alloc(), TypingMode::PostAnalysis);
+}
+
+#[test]
+fn a_condition_may_say_so_in_coherence(rt: HostRuntime) {
+    conditions_on_aliases(&rt, rt.alloc(), TypingMode::Coherence);
+}
+
+fn conditions_on_aliases(rt: &impl Abort, alloc: Global, mode: TypingMode) {
+    const GIVEN: &[Given] = &[
+        Trait(&[Sort::Ty]),
+        Let("any", Make::Type(Type::Position(0))),
+        Let("result", Make::Type(Type::Position(1))),
+        Let("some", Make::Wrap("any")),
+        Let("byte", BYTE),
+        Let("word", WORD),
+        Let("wrapped", Make::Wrap("byte")),
+        Let("alias", Make::AliasOf("wrapped")),
+        Let("x", Make::Var(VariableKind::Ty)),
+    ];
+    const RULES: &[Rule] = &[Rule(&[Sort::Ty], Of(0, &["any"]), Some(AliasIs("any", "word")))];
+    const NORMS: &[Norm] = &[
+        Norm(&[], "byte", "word", None),
+        Norm(&[], "word", "byte", None),
+        Norm(
+            &[Sort::Ty, Sort::Ty],
+            "some",
+            "result",
+            Some(AliasIs("any", "result")),
+        ),
+    ];
+    const ASKED: &[Asked] = &[
+        Goal(Plain(Of(0, &["byte"])), Is(YES, HasChanged::No)),
+        Goal(Plain(Of(0, &["wrapped"])), Is(YES, HasChanged::No)),
+        Goal(Plain(Of(0, &["word"])), Refused),
+        Goal(Alias(Equal("alias", "byte")), Refused),
+        Goal(Alias(Equal("alias", "x")), Is(YES, HasChanged::Yes)),
+        Resolves("x", "word"),
+    ];
+    const PARTS: &[Part] = &[Part(By::Aliases(NORMS), RULES, ASKED)];
+    plays(rt, alloc, mode, GIVEN, PARTS);
 }
 
 /// What an alias normalizes to may be another alias, which is normalized in its turn. Two aliases are equal where both normalize to one
@@ -279,7 +328,7 @@ fn what_an_alias_is_equal_to_is_answered_in_coherence(rt: HostRuntime) {
         Goal(Alias(Projects("word", "word")), Is(YES, HasChanged::No)),
         Goal(Alias(Projects("word", "byte")), Refused),
     ];
-    const CONDITION: &[Norm] = &[Norm(&[], "byte", "word", Some(Of(0, &["byte"])))];
+    const CONDITION: &[Norm] = &[Norm(&[], "byte", "word", Some(Holds(Of(0, &["byte"]))))];
     const FAILED: &[Asked] = &[Goal(Alias(Projects("byte", "word")), Refused)];
     const PARTS: &[Part] = &[
         Part(By::Aliases(NORMS), &[], ASKED),

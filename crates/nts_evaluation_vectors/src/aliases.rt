@@ -8,7 +8,7 @@ ghost use Rattle.nts_terms.specs.Kinds.{StatementFits};
 ghost use Rattle.nts_terms.specs.Rest.{Grows};
 ghost use Rattle.nts_terms.specs.Signatures.{AreDeclared, StatementIsDeclared};
 
-use crate::steps::{Of, predicate_of};
+use crate::steps::{Condition, condition_of};
 use nts_delegate::{Clauses, NormClause};
 use nts_fixtures::{Name, Names};
 use nts_model::{AliasRelationDirection, Sort};
@@ -30,9 +30,14 @@ pub enum Aliased {
     Equal(Name, Name),
 }
 
-/// That the alias of the number 0 of the first type normalizes to the second one, for all that positions of these sorts stand for, if a
-/// trait holds.
-pub struct Norm(pub &'static [Sort], pub Name, pub Name, pub Option<Of>);
+/// That the alias of the number 0 of the first type normalizes to the second one, for all that positions of these sorts stand for, if
+/// that holds.
+pub struct Norm(
+    pub &'static [Sort],
+    pub Name,
+    pub Name,
+    pub Option<Condition>,
+);
 
 /// Tells what the alias of the number 0 normalizes to.
 #[tactic(auto, using(nts_asking::proofs::Asking::asking))]
@@ -69,7 +74,7 @@ fn normalize(
     let result = term_of(names, *result)?;
     let mut body = Vec::new(cx.alloc);
     if let Some(condition) = condition {
-        body.push(predicate_of(cx, names, &[], *condition)?)?;
+        body.push(condition_of(cx, names, *condition)?)?;
     }
     let clause = NormClause {
         fresh: fresh.to_vec(cx.alloc)?,

@@ -3,6 +3,7 @@ use crate::asking::Answer::{Is, MayHold, NotAdmitted, Refused};
 use crate::asking::Asked::{self, Constructs, Goal, Resolves, Variables};
 use crate::asking::DOUBT;
 use crate::asking::Wanted::{Assumed, EachRegion, Plain};
+use crate::steps::Condition::Holds;
 use crate::steps::Given::{Let, Universe};
 use crate::steps::{By, Given, Of, Part, Rule, plays};
 use nts_certainty::{Certainty, HasChanged, MaybeCause, MaybeInfo, OpaqueTypesJank};
@@ -87,7 +88,7 @@ fn what_holds_of_each_solution_is_left(rt: HostRuntime) {
     const RULES: &[Rule] = &[
         Rule(&[], Of(1, &["byte"]), None),
         Rule(&[], Of(1, &["word"]), None),
-        Rule(ONE, Of(0, &["over"]), Some(Of(1, &["any"]))),
+        Rule(ONE, Of(0, &["over"]), Some(Holds(Of(1, &["any"])))),
     ];
     const ASKED: &[Asked] = &[
         Goal(Plain(Of(0, &["x"])), Is(DOUBT, HasChanged::Yes)),

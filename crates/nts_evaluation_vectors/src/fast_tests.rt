@@ -3,6 +3,7 @@ use crate::asking::Answer::Is;
 use crate::asking::Asked::{self, Goal};
 use crate::asking::Wanted::Plain;
 use crate::asking::{DOUBT, TOO_DEEP};
+use crate::steps::Condition::Holds;
 use crate::steps::Given::{Depth, Let, NoFastPaths, Trait};
 use crate::steps::{By, Given, Of, Part, Rule, plays};
 use nts_certainty::{Certainty, HasChanged};
@@ -16,7 +17,7 @@ const YES: Certainty = Certainty::Yes;
 const RULES: &[Rule] = &[Rule(
     &[Sort::Ty],
     Of(1, &["position"]),
-    Some(Of(0, &["position"])),
+    Some(Holds(Of(0, &["position"]))),
 )];
 
 /// A goal that is answered at once is not asked, so it needs no depth. Where the store has no fast paths it is nested too deep.

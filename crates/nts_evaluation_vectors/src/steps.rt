@@ -5,7 +5,7 @@ ghost use Rattle.nts_table.specs.Tables.{IsTable};
 ghost use Rattle.nts_terms.specs.Handles.{HoldsPredicate};
 ghost use Rattle.nts_terms.specs.Rest.{Grows};
 
-use crate::aliases::{Norm, normalize_all};
+use crate::aliases::{Aliased, Norm, alias_statement, normalize_all};
 use crate::asking::{Asked, ask_all};
 use nts_asking::GoalStalledOn;
 use nts_assembly::Assembly;
@@ -44,8 +44,17 @@ pub enum Given {
 #[derive(Clone, Copy)]
 pub struct Of(pub usize, pub &'static [Name]);
 
-/// That a trait holds, for all that positions of these sorts stand for, if another one does.
-pub struct Rule(pub &'static [Sort], pub Of, pub Option<Of>);
+/// What is to hold where a rule does.
+#[derive(Clone, Copy)]
+pub enum Condition {
+    /// A trait holds.
+    Holds(Of),
+    /// The alias of the number 0 of the first type is the second one.
+    AliasIs(Name, Name),
+}
+
+/// That a trait holds, for all that positions of these sorts stand for, if that does.
+pub struct Rule(pub &'static [Sort], pub Of, pub Option<Condition>);
 
 /// By which handler goals are asked.
 pub enum By {
@@ -215,7 +224,7 @@ fn tell(cx: &mut Cx, names: &Names, clauses: &mut Clauses, rule: &Rule) -> Resul
     }
     let mut body = Vec::new(cx.alloc);
     if let Some(condition) = condition {
-        body.push(predicate_of(cx, names, &[], *condition)?)?;
+        body.push(condition_of(cx, names, *condition)?)?;
     }
     let clause = Clause {
         fresh: fresh.to_vec(cx.alloc)?,
@@ -227,6 +236,21 @@ fn tell(cx: &mut Cx, names: &Names, clauses: &mut Clauses, rule: &Rule) -> Resul
         return Err(EvalError::NoSolution);
     }
     Ok(clauses.add_clause(cx, clause)?)
+}
+
+/// That a condition holds.
+pub fn condition_of(
+    cx: &mut Cx,
+    names: &Names,
+    condition: Condition,
+) -> Result<Predicate, EvalError>
+    ensures holds { IfOk result (HoldsPredicate cx.new.nodes) }
+    ensures grows { Grows cx.old cx.new }
+{
+    match condition {
+        Condition::Holds(of) => predicate_of(cx, names, &[], of),
+        Condition::AliasIs(of, term) => alias_statement(cx, names, Aliased::Projects(of, term)),
+    }
 }
 
 /// That a trait holds, under a binder of variables of these sorts.
